@@ -1,0 +1,82 @@
+//! An opening's bytes, and the digest that a player commits to.
+
+ghost use Rattle.std.specs.Prelude.{◌≡◌, ◌↔◌, ◌⊎◌, ◌+◌, ◌≤◌, ℕ, ◌++◌, length, take, IsTrue};
+ghost use Rattle.definitions.specs.Openings as O;
+
+use arrayvec::ArrayVec;
+use definitions::{Cell, Digest, Move, Opening};
+use sha2::{Digest as _, Sha256};
+
+/// A cell's column and row, two bytes each.
+#[tactic(auto, unfolding(definitions::specs::Openings::cell_bytes))]
+fn spell_cell(cell: Cell) -> [u8; 4]
+    ensures { result ≡ O.cell_bytes cell }
+{
+    let [x_high, x_low] = cell.x.to_be_bytes();
+    let [y_high, y_low] = cell.y.to_be_bytes();
+    [x_high, x_low, y_high, y_low]
+}
+
+/// A move's five bytes, or nine where it strikes.
+#[tactic(auto, unfolding(definitions::specs::Openings::move_bytes))]
+pub(crate) fn spell_move(mv: &Move) -> ArrayVec<u8, 9>
+    ensures { result.items ≡ O.move_bytes mv.now }
+{
+    let mut bytes = ArrayVec::new();
+    bytes.try_extend_from_slice(&spell_cell(mv.to)).unwrap();
+    match mv.strike {
+        None => bytes.push(0),
+        Some(cell) => {
+            bytes.push(1);
+            bytes.try_extend_from_slice(&spell_cell(cell)).unwrap();
+        }
+    }
+    bytes
+}
+
+/// An opening's 74 bytes, or 78 where its move strikes.
+#[tactic(auto, unfolding(definitions::specs::Openings::opening))]
+fn spell(id: &[u8; 32], opening: &Opening) -> ArrayVec<u8, 78>
+    ensures { result.items ≡ O.opening id.now opening.now }
+{
+    let mut bytes = ArrayVec::new();
+    bytes.try_extend_from_slice(id).unwrap();
+    bytes.push(opening.player);
+    bytes
+        .try_extend_from_slice(&opening.turn.to_be_bytes())
+        .unwrap();
+    bytes
+        .try_extend_from_slice(spell_move(&opening.mv).as_slice())
+        .unwrap();
+    bytes.try_extend_from_slice(&opening.nonce.bytes).unwrap();
+    bytes
+}
+
+/// Writes the bytes of an opening in the session with this id to the front of `out`, and says how many there are: 74, or
+/// 78 where the move strikes. The bytes of `out` behind them are left open.
+pub fn opening_bytes(id: &[u8; 32], opening: &Opening, out: &mut [u8; 78]) -> usize
+    ensures bytes { take result out.new ≡ O.opening id.now opening.now }
+    ensures count { result ≡ length (O.opening id.now opening.now) }
+{
+    let bytes = spell(id, opening);
+    let count = bytes.len();
+    out[..count].copy_from_slice(bytes.as_slice());
+    count
+}
+
+/// The commitment to an opening in the session with this id: the SHA-256 digest of its bytes (FIPS 180-4).
+#[tactic(auto, unfolding(definitions::specs::Openings::commitment))]
+pub fn digest_of(id: &[u8; 32], opening: &Opening) -> Digest
+    ensures { result ≡ O.commitment id.now opening.now }
+{
+    Digest {
+        bytes: Sha256::digest(spell(id, opening).as_slice()),
+    }
+}
+
+/// Whether the opening, in the session with this id, is what the digest commits to.
+pub fn opens(id: &[u8; 32], opening: &Opening, digest: &Digest) -> bool
+    ensures { IsTrue result ↔ (digest.now ≡ O.commitment id.now opening.now) }
+{
+    digest_of(id, opening) == *digest
+}

@@ -1,0 +1,16 @@
+pub mod Members
+pub mod Spots
+pub mod Walks
+pub mod Distances
+pub mod Streams
+pub mod Openings
+pub mod Growth
+pub mod Own
+pub mod Advancing
+pub mod Waiting
+pub mod FairPlay
+pub mod Answering
+pub mod Stepping
+pub mod Accusing
+pub mod Groups
+pub mod Rows

@@ -1,0 +1,4 @@
+pub mod Cells
+pub mod Walks
+pub mod Codes
+pub mod Streams

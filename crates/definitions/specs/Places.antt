@@ -1,0 +1,35 @@
+-- Places: the order in which a player's frames stand in its stream.
+use Rattle.std.specs.Prelude.{ℕ, ◌+◌, ◌-◌, ◌*◌, ◌==◌, min, if◌then◌else◌, nat_lt, Option, Some, None, find}
+use Rattle.std.specs.List.{range_with_len}
+use Rattle.definitions.specs.declared.frames.What.{What}
+use Rattle.definitions.specs.declared.frames.What.TheVariants.{Commit, Reveal}
+use Rattle.definitions.specs.World.{Game}
+
+-- the place of the turn's commitment
+unfoldable pub commit_place : Game → ℕ → ℕ
+commit_place game t = if nat_lt t game.turns then t + (t + 1 - game.ahead) else 2 * t
+
+-- the place of the turn's reveal
+unfoldable pub reveal_place : Game → ℕ → ℕ
+reveal_place game t = if nat_lt t game.turns then t + min (t + game.ahead) game.turns else 2 * t + 1
+
+-- one of the two frames of a turn
+pub record Slot : Type 0 where
+  pub what : What
+  pub turn : ℕ
+
+-- the place of a frame
+abbrev pub slot_place : Game → What → ℕ → ℕ
+slot_place game Commit t = commit_place game t
+slot_place game Reveal t = reveal_place game t
+
+-- the frame of this place, or none past the last turn
+abbrev pub slot_or : Option ℕ → Option ℕ → Option Slot
+slot_or (Some t) o = Some (record { what = Commit; turn = t })
+slot_or None (Some t) = Some (record { what = Reveal; turn = t })
+slot_or None None = None
+
+unfoldable pub slot_at : Game → ℕ → Option Slot
+slot_at game place =
+    slot_or (find (λ t. commit_place game t == place) (range_with_len 0 game.turns))
+    (find (λ t. reveal_place game t == place) (range_with_len 0 game.turns))

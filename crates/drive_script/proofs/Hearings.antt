@@ -1,0 +1,92 @@
+-- Hearings: the answer from a line on, by what the line says.
+use Rattle.std.proofs.Common.{Bool, List, [], ap, append-nil, append_assoc, false, length, nat_lt, refl, subst, sym, true, ℕ, ◌+◌, ◌++◌, ◌<◌, ◌∙◌, ◌∷◌, ◌≡◌}
+use Rattle.std.specs.Prelude.{nat_le, ◌||◌, if◌then◌else◌}
+use Rattle.std.proofs.lemmas.Bool.{lt-ltb}
+use Rattle.definitions.specs.declared.world.Move.{Move}
+use Rattle.definitions.specs.declared.openings.Nonce.{Nonce}
+use Rattle.definitions.specs.declared.logs.Entry.{Entry}
+use Rattle.definitions.specs.World.{Game}
+use Rattle.definitions.specs.Logs.{chosen}
+use Rattle.definitions.specs.Needs.{choice_fault}
+use Rattle.definitions.specs.Steps.{after_choice}
+use Rattle.text_io.specs.Frame.{Answer, Ended, Onward, after_text, bare_answer}
+use Rattle.text_io.specs.Lines.{StartsLonger, lines_of}
+use Rattle.text_io.specs.Texts.{Between}
+use Rattle.text_io.specs.declared.statuses.Status.TheVariants.{BadLine, Done}
+use Rattle.text_io.specs.declared.statuses.TextName.TheVariants.{Script}
+use Rattle.text_io.proofs.Frames.{onward_start}
+use Rattle.text_io.proofs.Writing.{grew}
+use Rattle.drive_script.specs.declared.grammar.DriveLine.{DriveLine}
+use Rattle.drive_script.specs.declared.grammar.DriveLine.TheVariants.{Bad, Nothing, Choose}
+use Rattle.drive_script.specs.Drive.{answer_by, drive_from, log_behind, said_behind, text_behind}
+use Rattle.drive_script.specs.Lines.{added_text, choice_text, end_text}
+use Rattle.drive_script.specs.Grammar.{line_of}
+use Rattle.drive_script.proofs.Pieces.{wrote_first}
+
+-- the answer from a line on that says this
+from_said : (game : Game) (me : ℕ) (h : List Entry) (n : ℕ) (line : List ℕ) (lines : List (List ℕ)) (s : DriveLine) → s ≡ said_behind n line →
+    drive_from game me h n (line ∷ lines) ≡ answer_by s (n + 1) (text_behind game me h s) (drive_from game me (log_behind game me h s) (n + 1) lines)
+from_said game me h n line lines s e =
+    ap (λ (s : DriveLine). answer_by s (n + 1) (text_behind game me h s) (drive_from game me (log_behind game me h s) (n + 1) lines)) (sym e)
+
+-- a line that is passed over
+pub passed_over : (game : Game) (me : ℕ) (h : List Entry) (n : ℕ) (line : List ℕ) (lines : List (List ℕ)) → Nothing ≡ said_behind n line →
+    drive_from game me h n (line ∷ lines) ≡ drive_from game me h (n + 1) lines
+unfolding text_behind log_behind
+passed_over game me h n line lines e = from_said game me h n line lines Nothing e
+
+-- a line that chooses
+pub answered : (game : Game) (me : ℕ) (h : List Entry) (n : ℕ) (line : List ℕ) (lines : List (List ℕ)) (mv : Move) (nonce : Nonce) → Choose mv nonce ≡ said_behind n line →
+    drive_from game me h n (line ∷ lines) ≡
+    after_text (choice_text (length (chosen me h)) (choice_fault game me h mv) ++ added_text (length h) (after_choice game me h mv nonce)) (drive_from game me (after_choice game me h mv nonce) (n + 1) lines)
+unfolding text_behind log_behind
+answered game me h n line lines mv nonce e = from_said game me h n line lines (Choose mv nonce) e
+
+-- a line of more than 1,024 bytes
+overlong : (n : ℕ) (line : List ℕ) → 1024 < length line → said_behind n line ≡ Bad
+unfolding said_behind
+overlong n line l = go (nat_lt 1024 (length line)) (lt-ltb 1024 (length line) l)
+  where
+    go : (b : Bool) → b ≡ true → (if b || nat_le 1048576 n then Bad else line_of line) ≡ Bad
+    go true e = refl
+    go false e = cc
+
+pub too_long : (game : Game) (me : ℕ) (h : List Entry) (n : ℕ) (lines : List (List ℕ)) → StartsLonger 1024 lines → drive_from game me h n lines ≡ bare_answer (BadLine Script (n + 1))
+unfolding text_behind log_behind
+too_long game me h n [] l = absurd l
+too_long game me h n (line ∷ lines) l = from_said game me h n line lines Bad (sym (overlong n line l))
+
+-- no line is left
+pub ended : (game : Game) (me : ℕ) (h : List Entry) (n : ℕ) (text : List ℕ) → text ≡ [] → drive_from game me h n (lines_of text) ≡ record { body = end_text game me h; status = Done }
+ended game me h n text e = ap (λ (t : List ℕ). drive_from game me h n (lines_of t)) e
+
+-- the line and those behind it
+pub next : (game : Game) (me : ℕ) (h : List Entry) (n : ℕ) (line : List ℕ) (lines all : List (List ℕ)) → all ≡ line ∷ lines → drive_from game me h n all ≡ drive_from game me h n (line ∷ lines)
+next game me h n line lines all e = ap (drive_from game me h n) e
+
+-- nothing was written, and the whole answer is the rest
+pub onward_same : (a : List ℕ) (p q : Answer) → p ≡ q → Onward a p a q
+onward_same a p q e = let F : Answer → Type 0 = λ r. Onward a p a r in subst F e (onward_start a p)
+
+-- the text before the rest was written
+pub onward_text : (a b t : List ℕ) (p q : Answer) → p ≡ after_text t q → b ≡ a ++ t → Onward a p b q
+onward_text a b t p q e w =
+    let k = grew a b (t, w) in record {
+      longer = k.longer;
+      kept = k.kept;
+      text = ap (λ x. x ++ q.body) w ∙ append_assoc a t q.body ∙ ap (λ (r : Answer). a ++ r.body) (sym e);
+      status = ap (λ (r : Answer). r.status) (sym e);
+    }
+
+-- the sink failed in the text before the rest
+pub between_text : (a b t : List ℕ) (p q : Answer) → p ≡ after_text t q → Between a t b → Between a p.body b
+between_text a b t p q e w = let F : Answer → Type 0 = λ r. Between a r.body b in subst F (sym e) (wrote_first a b t q.body w)
+
+-- a line of no grammar ends the run, and nothing was written
+pub bad_ends : (a : List ℕ) (p : Answer) (n : ℕ) → p ≡ bare_answer (BadLine Script n) → Ended a a p (BadLine Script n)
+bad_ends a p n e = (sym (append-nil a) ∙ ap (λ (r : Answer). a ++ r.body) (sym e), ap (λ (r : Answer). r.status) (sym e))
+
+-- where nothing is pending or left, nothing is left
+pub none_left : (a b : List ℕ) → a ++ b ≡ [] → b ≡ []
+none_left [] b e = e
+none_left (x ∷ a) b e = cc

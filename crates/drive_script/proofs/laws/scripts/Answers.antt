@@ -1,0 +1,13 @@
+use Rattle.drive_script.proofs.Ends.{drive_status}
+use Rattle.drive_script.proofs.Fair.{drive_fair}
+use Rattle.drive_script.proofs.Tellings.{drive_tells}
+use Rattle.drive_script.proofs.laws.scripts.Goals as goal
+
+pub returns-clause-decide : goal.returns-clause-decide
+returns-clause-decide c = drive_status
+
+pub returns-clause-fair : goal.returns-clause-fair
+returns-clause-fair c = drive_fair
+
+pub returns-clause-tell : goal.returns-clause-tell
+returns-clause-tell c = drive_tells

@@ -1,0 +1,10 @@
+use Rattle.drive_script.specs.Drive.{drive}
+use Rattle.drive_script.proofs.Choices.{advance_longer}
+use Rattle.drive_script.proofs.playing.play.Goals as goal
+
+pub follow-requires : goal.follow-requires
+follow-requires g c = rw (c.new-driver.ensures, c.entries-entries.ensures) (advance_longer _ _ _)
+
+pub returns-clause-text : goal.returns-clause-text
+unfolding drive
+returns-clause-text g c = λ t u. rw (c.new-driver.ensures, c.entries-entries.ensures) at (c.follow.ensures.text t u)

@@ -1,0 +1,11 @@
+pub mod Numbers
+pub mod Hexes
+pub mod Grammar
+pub mod Lines
+pub mod Driven
+pub mod Drive
+pub mod Hearing
+pub mod Ends
+pub mod Telling
+pub mod FairPlay
+pub mod Laws

@@ -1,0 +1,168 @@
+//! The printed lines, each in a buffer of its own.
+
+ghost use Rattle.std.specs.Prelude.{◌≡◌};
+ghost use Rattle.definitions.specs.declared.frames.What.{What};
+ghost use Rattle.hex.specs.Hex.{encode_lower};
+ghost use Rattle.commitment.specs.Spelling.{frame_bytes};
+ghost use Rattle.drive_script.specs.Lines as L;
+
+use arrayvec::ArrayVec;
+use commitment::put_turn;
+use definitions::{Entry, MoveFault, Need, OwnFault, PlayerId, Turn, TurnFrame, What};
+use hex::encode_to_slice;
+use itoa::Buffer;
+use peer_core::PlayerView;
+
+/// A printed line.
+pub(crate) type Line = ArrayVec<u8, 320>;
+
+/// The name of what is wrong with a move.
+fn name_of_fault(fault: MoveFault) -> &'static [u8]
+    ensures { result.now ≡ L.fault_name fault }
+{
+    match fault {
+        MoveFault::Outside => b"M1",
+        MoveFault::Wall => b"M2",
+        MoveFault::TooFar => b"M3",
+        MoveFault::StrikeOutside => b"M4",
+        MoveFault::StrikeFar => b"M5",
+        MoveFault::NoCharge => b"M6",
+    }
+}
+
+/// The word for one of a turn's two frames.
+fn name_of_what(what: What) -> &'static [u8]
+    ensures { result.now ≡ L.what_name what }
+{
+    match what {
+        What::Commit => b"commit ",
+        What::Reveal => b"reveal ",
+    }
+}
+
+/// What is written about a choice of the turn.
+#[tactic(auto, unfolding(crate::specs::Lines::choice_text))]
+pub(crate) fn choice_line(turn: Turn, fault: Option<OwnFault>) -> Line
+    ensures { result.items ≡ L.choice_text turn fault }
+{
+    let mut line = ArrayVec::new();
+    match fault {
+        None => {
+            line.try_extend_from_slice(b"chosen ").unwrap();
+            line.try_extend_from_slice(Buffer::new().format(turn).as_bytes())
+                .unwrap();
+        }
+        Some(OwnFault::NotNow) => line.try_extend_from_slice(b"not now").unwrap(),
+        Some(OwnFault::Illegal(fault)) => {
+            line.try_extend_from_slice(b"illegal ").unwrap();
+            line.try_extend_from_slice(name_of_fault(fault)).unwrap();
+        }
+    }
+    line.push(b'\n');
+    line
+}
+
+/// The hexadecimal text of a frame's bytes.
+fn digits_of(frame: &TurnFrame) -> ArrayVec<u8, 128>
+    ensures { result.items ≡ encode_lower (frame_bytes frame.now) }
+{
+    let mut bytes = [0; 64];
+    let count = put_turn(frame, &mut bytes);
+    let mut digits = [0; 128];
+    encode_to_slice(&bytes[..count], &mut digits[..2 * count]).unwrap();
+    let mut text = ArrayVec::new();
+    text.try_extend_from_slice(&digits[..2 * count]).unwrap();
+    text
+}
+
+/// What is written about a frame that is made.
+#[tactic(auto, unfolding(crate::specs::Lines::frame_text))]
+fn frame_line(what: What, turn: Turn, frame: &TurnFrame) -> Line
+    ensures { result.items ≡ L.frame_text what turn frame.now }
+{
+    let mut line = ArrayVec::new();
+    line.try_extend_from_slice(b"made ").unwrap();
+    line.try_extend_from_slice(name_of_what(what)).unwrap();
+    line.try_extend_from_slice(Buffer::new().format(turn).as_bytes())
+        .unwrap();
+    line.push(b' ');
+    line.try_extend_from_slice(digits_of(frame).as_slice())
+        .unwrap();
+    line.push(b'\n');
+    line
+}
+
+/// What is written about an entry that comes into the log.
+pub(crate) fn entry_line(entry: &Entry) -> Line
+    ensures { result.items ≡ L.entry_text entry.now }
+{
+    match entry {
+        Entry::Made(frame) => match frame {
+            TurnFrame::Commit { turn, .. } => frame_line(What::Commit, *turn, frame),
+            TurnFrame::Reveal { turn, .. } => frame_line(What::Reveal, *turn, frame),
+        },
+        Entry::Chose { .. } | Entry::Got(..) => ArrayVec::new(),
+    }
+}
+
+/// What is written about a need.
+#[tactic(auto, unfolding(crate::specs::Lines::need_text))]
+pub(crate) fn need_line(need: &Need) -> Line
+    ensures { result.items ≡ L.need_text need.now }
+{
+    let mut line = ArrayVec::new();
+    line.try_extend_from_slice(b"need ").unwrap();
+    line.try_extend_from_slice(Buffer::new().format(need.player).as_bytes())
+        .unwrap();
+    line.push(b' ');
+    line.try_extend_from_slice(Buffer::new().format(need.turn).as_bytes())
+        .unwrap();
+    line.push(b' ');
+    line.try_extend_from_slice(name_of_what(need.what)).unwrap();
+    line.try_extend_from_slice(Buffer::new().format(need.next).as_bytes())
+        .unwrap();
+    line.push(b'\n');
+    line
+}
+
+/// What is written about a choice that is due.
+#[tactic(auto, unfolding(crate::specs::Lines::due_text))]
+pub(crate) fn due_line(turn: Turn) -> Line
+    ensures { result.items ≡ L.due_text turn }
+{
+    let mut line = ArrayVec::new();
+    line.try_extend_from_slice(b"choose ").unwrap();
+    line.try_extend_from_slice(Buffer::new().format(turn).as_bytes())
+        .unwrap();
+    line.push(b'\n');
+    line
+}
+
+/// What is written about a player.
+#[tactic(auto, unfolding(crate::specs::Lines::player_text))]
+pub(crate) fn player_line(player: PlayerId, view: PlayerView) -> Line
+    ensures { result.items ≡ L.player_text player view }
+{
+    let at = view.track.at;
+    let mut line = ArrayVec::new();
+    line.try_extend_from_slice(b"player ").unwrap();
+    line.try_extend_from_slice(Buffer::new().format(player).as_bytes())
+        .unwrap();
+    line.try_extend_from_slice(b" turns ").unwrap();
+    line.try_extend_from_slice(Buffer::new().format(view.turns).as_bytes())
+        .unwrap();
+    line.try_extend_from_slice(b" at ").unwrap();
+    line.try_extend_from_slice(Buffer::new().format(at.x).as_bytes())
+        .unwrap();
+    line.push(b' ');
+    line.try_extend_from_slice(Buffer::new().format(at.y).as_bytes())
+        .unwrap();
+    line.try_extend_from_slice(b" charge ").unwrap();
+    line.try_extend_from_slice(Buffer::new().format(view.track.charge).as_bytes())
+        .unwrap();
+    line.try_extend_from_slice(b" next ").unwrap();
+    line.try_extend_from_slice(Buffer::new().format(view.next).as_bytes())
+        .unwrap();
+    line.push(b'\n');
+    line
+}

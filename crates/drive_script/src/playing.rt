@@ -1,0 +1,163 @@
+//! A script that is answered line by line.
+
+ghost use Rattle.std.specs.Prelude.{◌≡◌, ◌≤◌, ◌+◌, ◌++◌, ◌∷◌, [], List, ℕ, length, IsSome};
+ghost use Rattle.station.specs.Outside.{known, Rose};
+ghost use Rattle.text_io.specs.Lines.{lines_of};
+ghost use Rattle.text_io.specs.Frame.{Ended, EndCause, after_text, OnDone, UnlessInputFault, UnlessOutputFault};
+ghost use Rattle.text_io.specs.Turns.{Turned, TurnCause, MatchTurn, OnOver, OnOn};
+ghost use Rattle.drive_script.specs.Drive.{drive};
+ghost use Rattle.drive_script.specs.Lines.{added_text};
+ghost use Rattle.drive_script.specs.Hearing.{driven_from};
+ghost use Rattle.drive_script.specs.Ends.{ScriptEnds};
+
+use crate::driver::{Driver, Heard};
+use crate::printing::{put_added, put_choice, put_end};
+use peer_core::Peer;
+use station::{Sink, Source};
+use text_io::{LineReader, LoopTurn, NextLine, Status, TextName, Written};
+
+/// The status of the line that comes next, if it is in no grammar.
+fn bad_line(driver: &Driver) -> Status
+    ensures { result ≡ Status.BadLine TextName.Script (driver.now.lines + 1) }
+{
+    Status::BadLine {
+        text: TextName::Script,
+        line: driver.next_line(),
+    }
+}
+
+/// Takes the line that was read, and answers it.
+fn answer<O: Sink>(driver: &mut Driver, line: &[u8], out: &mut O) -> LoopTurn
+    requires { length line.now ≤ 1024 }
+    ensures told { IsSome (O.held out.old) → IsSome (O.held out.new) }
+    ensures text { IsSome (O.held out.old) → (lines : List (List ℕ)) → Turned
+        (known (O.held out.old)) (driven_from driver.old (line.now ∷ lines))
+        (known (O.held out.new)) (driven_from driver.new lines) result }
+    ensures later { O.faults out.old ≤ O.faults out.new }
+    ensures cause { TurnCause ScriptEnds ⊥ (Rose (O.faults out.old) (O.faults out.new)) result }
+    ensures steady { MatchTurn result (O.faults out.new ≡ O.faults out.old) (λ s. UnlessOutputFault s (O.faults out.new ≡ O.faults out.old)) }
+    ensures counted { OnOn result ((driver.new.lines ≡ driver.old.lines + 1) × (driver.new.lines ≤ 1048576)) }
+    ensures read { MatchTurn result (Unit {0}) (λ s. OnDone s ⊥) }
+{
+    match driver.hear(line) {
+        Heard::Bad => LoopTurn::Over(bad_line(driver)),
+        Heard::Frame => LoopTurn::Over(Status::Unbuilt),
+        Heard::Nothing => LoopTurn::On,
+        Heard::Choice {
+            turn,
+            fault,
+            entries,
+        } => match put_choice(driver.peer(), turn, fault, entries, out) {
+            Written::All => LoopTurn::On,
+            Written::Failed => LoopTurn::Over(Status::OutputFault),
+        },
+    }
+}
+
+/// Reads the next line and answers it.
+#[tactic(auto, using(crate::proofs::Hearings::none_left))]
+fn answer_line<I: Source, O: Sink>(
+    driver: &mut Driver,
+    reader: &mut LineReader,
+    input: &mut I,
+    out: &mut O,
+) -> LoopTurn
+    ensures told_in { IsSome (I.left input.old) → IsSome (I.left input.new) }
+    ensures told_out { IsSome (O.held out.old) → IsSome (O.held out.new) }
+    ensures text { IsSome (I.left input.old) → IsSome (O.held out.old) → Turned
+        (known (O.held out.old)) (driven_from driver.old (lines_of (reader.old.pending ++ known (I.left input.old))))
+        (known (O.held out.new)) (driven_from driver.new (lines_of (reader.new.pending ++ known (I.left input.new)))) result }
+    ensures later_in { I.faults input.old ≤ I.faults input.new }
+    ensures later_out { O.faults out.old ≤ O.faults out.new }
+    ensures cause { TurnCause ScriptEnds (Rose (I.faults input.old) (I.faults input.new)) (Rose (O.faults out.old) (O.faults out.new)) result }
+    ensures steady_in { MatchTurn result (I.faults input.new ≡ I.faults input.old) (λ s. UnlessInputFault s (I.faults input.new ≡ I.faults input.old)) }
+    ensures steady_out { MatchTurn result (O.faults out.new ≡ O.faults out.old) (λ s. UnlessOutputFault s (O.faults out.new ≡ O.faults out.old)) }
+    ensures counted { OnOn result ((driver.new.lines ≡ driver.old.lines + 1) × (driver.new.lines ≤ 1048576)) }
+    ensures read { IsSome (I.left input.old) → OnOver result (known (I.left input.new) ≡ []) }
+{
+    match reader.next(input) {
+        NextLine::Failed => LoopTurn::Over(Status::InputFault),
+        NextLine::TooLong => LoopTurn::Over(bad_line(driver)),
+        NextLine::End => match put_end(driver.peer(), out) {
+            Written::All => LoopTurn::Over(Status::Done),
+            Written::Failed => LoopTurn::Over(Status::OutputFault),
+        },
+        NextLine::Line => answer(driver, reader.line(), out),
+    }
+}
+
+/// Reads and answers the lines to their end, or to the first that ends the run.
+fn answer_lines<I: Source, O: Sink>(
+    driver: &mut Driver,
+    reader: &mut LineReader,
+    input: &mut I,
+    out: &mut O,
+) -> Status
+    ensures told_in { IsSome (I.left input.old) → IsSome (I.left input.new) }
+    ensures told_out { IsSome (O.held out.old) → IsSome (O.held out.new) }
+    ensures text { IsSome (I.left input.old) → IsSome (O.held out.old) → Ended (known (O.held out.old)) (known (O.held out.new))
+        (driven_from driver.old (lines_of (reader.old.pending ++ known (I.left input.old)))) result }
+    ensures later_in { I.faults input.old ≤ I.faults input.new }
+    ensures later_out { O.faults out.old ≤ O.faults out.new }
+    ensures cause { EndCause ScriptEnds (Rose (I.faults input.old) (I.faults input.new)) (Rose (O.faults out.old) (O.faults out.new)) result }
+    ensures steady_in { UnlessInputFault result (I.faults input.new ≡ I.faults input.old) }
+    ensures steady_out { UnlessOutputFault result (O.faults out.new ≡ O.faults out.old) }
+    ensures read { IsSome (I.left input.old) → OnDone result (known (I.left input.new) ≡ []) }
+{
+    'lines: loop {
+        match answer_line(driver, reader, input, out) {
+            LoopTurn::On => {}
+            LoopTurn::Over(status) => return status,
+        }
+    }
+}
+
+/// Tells what was made since the log had so many entries, and then answers the lines of the input.
+fn follow<I: Source, O: Sink>(
+    driver: &mut Driver,
+    entries: usize,
+    input: &mut I,
+    out: &mut O,
+) -> Status
+    requires { entries ≤ length driver.old.entries }
+    ensures told_in { IsSome (I.left input.old) → IsSome (I.left input.new) }
+    ensures told_out { IsSome (O.held out.old) → IsSome (O.held out.new) }
+    ensures text { IsSome (I.left input.old) → IsSome (O.held out.old) → Ended (known (O.held out.old)) (known (O.held out.new))
+        (after_text (added_text entries driver.old.entries) (driven_from driver.old (lines_of (known (I.left input.old))))) result }
+    ensures later_in { I.faults input.old ≤ I.faults input.new }
+    ensures later_out { O.faults out.old ≤ O.faults out.new }
+    ensures cause { EndCause ScriptEnds (Rose (I.faults input.old) (I.faults input.new)) (Rose (O.faults out.old) (O.faults out.new)) result }
+    ensures steady_in { UnlessInputFault result (I.faults input.new ≡ I.faults input.old) }
+    ensures steady_out { UnlessOutputFault result (O.faults out.new ≡ O.faults out.old) }
+    ensures read { IsSome (I.left input.old) → OnDone result (known (I.left input.new) ≡ []) }
+{
+    let mut reader = LineReader::new();
+    match put_added(driver.peer(), entries, out) {
+        Written::All => answer_lines(driver, &mut reader, input, out),
+        Written::Failed => Status::OutputFault,
+    }
+}
+
+/// Lets the peer advance, and then answers the lines of the input as its script. Nothing is written behind a fault.
+pub fn play<I: Source, O: Sink>(peer: Peer, input: &mut I, out: &mut O) -> Status
+    ensures told_in { IsSome (I.left input.old) → IsSome (I.left input.new) }
+    ensures told_out { IsSome (O.held out.old) → IsSome (O.held out.new) }
+
+    // What is written, and how the run ends.
+    ensures text { IsSome (I.left input.old) → IsSome (O.held out.old) →
+        Ended (known (O.held out.old)) (known (O.held out.new)) (drive peer.game peer.me peer.entries (known (I.left input.old))) result }
+
+    // A fault is answered exactly where its count rose, and no other status than these comes.
+    ensures later_in { I.faults input.old ≤ I.faults input.new }
+    ensures later_out { O.faults out.old ≤ O.faults out.new }
+    ensures cause { EndCause ScriptEnds (Rose (I.faults input.old) (I.faults input.new)) (Rose (O.faults out.old) (O.faults out.new)) result }
+    ensures steady_in { UnlessInputFault result (I.faults input.new ≡ I.faults input.old) }
+    ensures steady_out { UnlessOutputFault result (O.faults out.new ≡ O.faults out.old) }
+
+    // At the end the input was read to its end.
+    ensures read { IsSome (I.left input.old) → OnDone result (known (I.left input.new) ≡ []) }
+{
+    let entries = peer.entries().len();
+    let mut driver = Driver::new(peer);
+    follow(&mut driver, entries, input, out)
+}

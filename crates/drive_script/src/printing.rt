@@ -1,0 +1,156 @@
+//! What is written about a peer.
+
+ghost use Rattle.std.specs.Prelude.{◌≡◌, ◌≤◌, ◌++◌, flat_map, length, IsSome};
+ghost use Rattle.definitions.specs.World.{players_of};
+ghost use Rattle.station.specs.Outside.{known, Rose};
+ghost use Rattle.text_io.specs.Texts.{Wrote, OnUnwritten, OnWritten};
+ghost use Rattle.drive_script.specs.Lines.{entry_text, need_text, needs_text, stand_text, players_text, last_text, end_text, choice_text, added_text};
+
+use crate::lines::{choice_line, due_line, entry_line, need_line, player_line};
+use definitions::{Entry, Need, OwnFault, Turn};
+use peer_core::Peer;
+use station::Sink;
+use text_io::{Written, put};
+
+/// Writes what these entries, which came into the log, are told by.
+fn put_entries<O: Sink>(entries: &[Entry], out: &mut O) -> Written
+    ensures told { IsSome (O.held out.old) → IsSome (O.held out.new) }
+    ensures text { IsSome (O.held out.old) → Wrote (known (O.held out.old)) (known (O.held out.new)) (flat_map entry_text entries.now) result }
+    ensures later { O.faults out.old ≤ O.faults out.new }
+    ensures cause { OnUnwritten result (Rose (O.faults out.old) (O.faults out.new)) }
+    ensures steady { OnWritten result (O.faults out.new ≡ O.faults out.old) }
+{
+    'entries: for entry in entries {
+        match put(out, entry_line(entry).as_slice()) {
+            Written::All => {}
+            Written::Failed => return Written::Failed,
+        }
+    }
+    Written::All
+}
+
+/// Writes what is told of the log's entries behind the first so many.
+#[tactic(auto, unfolding(crate::specs::Lines::added_text))]
+pub(crate) fn put_added<O: Sink>(peer: &Peer, entries: usize, out: &mut O) -> Written
+    requires { entries ≤ length peer.now.entries }
+    ensures told { IsSome (O.held out.old) → IsSome (O.held out.new) }
+    ensures text { IsSome (O.held out.old) → Wrote (known (O.held out.old)) (known (O.held out.new)) (added_text entries peer.now.entries) result }
+    ensures later { O.faults out.old ≤ O.faults out.new }
+    ensures cause { OnUnwritten result (Rose (O.faults out.old) (O.faults out.new)) }
+    ensures steady { OnWritten result (O.faults out.new ≡ O.faults out.old) }
+{
+    put_entries(peer.entries().split_at(entries).1, out)
+}
+
+/// Writes these needs.
+fn put_each_need<O: Sink>(needs: &[Need], out: &mut O) -> Written
+    ensures told { IsSome (O.held out.old) → IsSome (O.held out.new) }
+    ensures text { IsSome (O.held out.old) → Wrote (known (O.held out.old)) (known (O.held out.new)) (flat_map need_text needs.now) result }
+    ensures later { O.faults out.old ≤ O.faults out.new }
+    ensures cause { OnUnwritten result (Rose (O.faults out.old) (O.faults out.new)) }
+    ensures steady { OnWritten result (O.faults out.new ≡ O.faults out.old) }
+{
+    'needs: for need in needs {
+        match put(out, need_line(need).as_slice()) {
+            Written::All => {}
+            Written::Failed => return Written::Failed,
+        }
+    }
+    Written::All
+}
+
+/// Writes the needs, or that there is none.
+fn put_needs<O: Sink>(needs: &[Need], out: &mut O) -> Written
+    ensures told { IsSome (O.held out.old) → IsSome (O.held out.new) }
+    ensures text { IsSome (O.held out.old) → Wrote (known (O.held out.old)) (known (O.held out.new)) (needs_text needs.now) result }
+    ensures later { O.faults out.old ≤ O.faults out.new }
+    ensures cause { OnUnwritten result (Rose (O.faults out.old) (O.faults out.new)) }
+    ensures steady { OnWritten result (O.faults out.new ≡ O.faults out.old) }
+{
+    match needs {
+        [] => put(out, b"done\n"),
+        _ => put_each_need(needs, out),
+    }
+}
+
+/// Writes how the peer stands.
+#[tactic(auto, unfolding(crate::specs::Lines::stand_text))]
+fn put_stand<O: Sink>(peer: &Peer, out: &mut O) -> Written
+    ensures told { IsSome (O.held out.old) → IsSome (O.held out.new) }
+    ensures text { IsSome (O.held out.old) → Wrote (known (O.held out.old)) (known (O.held out.new)) (stand_text peer.now.game peer.now.me peer.now.entries) result }
+    ensures later { O.faults out.old ≤ O.faults out.new }
+    ensures cause { OnUnwritten result (Rose (O.faults out.old) (O.faults out.new)) }
+    ensures steady { OnWritten result (O.faults out.new ≡ O.faults out.old) }
+{
+    if peer.may_choose() {
+        put(out, due_line(peer.choice().turn).as_slice())
+    } else {
+        put_needs(peer.needs().as_slice(), out)
+    }
+}
+
+/// Writes what the peer's log shows of each player.
+fn put_players<O: Sink>(peer: &Peer, out: &mut O) -> Written
+    ensures told { IsSome (O.held out.old) → IsSome (O.held out.new) }
+    ensures text { IsSome (O.held out.old) → Wrote (known (O.held out.old)) (known (O.held out.new)) (players_text peer.now.game peer.now.me peer.now.entries 0 (players_of peer.now.game)) result }
+    ensures later { O.faults out.old ≤ O.faults out.new }
+    ensures cause { OnUnwritten result (Rose (O.faults out.old) (O.faults out.new)) }
+    ensures steady { OnWritten result (O.faults out.new ≡ O.faults out.old) }
+{
+    'players: for player in 0..peer.session().players() {
+        match put(out, player_line(player, peer.player(player)).as_slice()) {
+            Written::All => {}
+            Written::Failed => return Written::Failed,
+        }
+    }
+    Written::All
+}
+
+/// Writes what the peer's log shows of each player, and that this is the end.
+fn put_last<O: Sink>(peer: &Peer, out: &mut O) -> Written
+    ensures told { IsSome (O.held out.old) → IsSome (O.held out.new) }
+    ensures text { IsSome (O.held out.old) → Wrote (known (O.held out.old)) (known (O.held out.new)) (last_text peer.now.game peer.now.me peer.now.entries) result }
+    ensures later { O.faults out.old ≤ O.faults out.new }
+    ensures cause { OnUnwritten result (Rose (O.faults out.old) (O.faults out.new)) }
+    ensures steady { OnWritten result (O.faults out.new ≡ O.faults out.old) }
+{
+    match put_players(peer, out) {
+        Written::All => put(out, b"end\n"),
+        Written::Failed => Written::Failed,
+    }
+}
+
+/// Writes the end: how the peer stands, and what its log shows of each player.
+pub(crate) fn put_end<O: Sink>(peer: &Peer, out: &mut O) -> Written
+    ensures told { IsSome (O.held out.old) → IsSome (O.held out.new) }
+    ensures text { IsSome (O.held out.old) → Wrote (known (O.held out.old)) (known (O.held out.new)) (end_text peer.now.game peer.now.me peer.now.entries) result }
+    ensures later { O.faults out.old ≤ O.faults out.new }
+    ensures cause { OnUnwritten result (Rose (O.faults out.old) (O.faults out.new)) }
+    ensures steady { OnWritten result (O.faults out.new ≡ O.faults out.old) }
+{
+    match put_stand(peer, out) {
+        Written::All => put_last(peer, out),
+        Written::Failed => Written::Failed,
+    }
+}
+
+/// Writes the answer to a choice of the turn, and what is told of the log's entries behind the first so many.
+pub(crate) fn put_choice<O: Sink>(
+    peer: &Peer,
+    turn: Turn,
+    fault: Option<OwnFault>,
+    entries: usize,
+    out: &mut O,
+) -> Written
+    requires { entries ≤ length peer.now.entries }
+    ensures told { IsSome (O.held out.old) → IsSome (O.held out.new) }
+    ensures text { IsSome (O.held out.old) → Wrote (known (O.held out.old)) (known (O.held out.new)) (choice_text turn fault ++ added_text entries peer.now.entries) result }
+    ensures later { O.faults out.old ≤ O.faults out.new }
+    ensures cause { OnUnwritten result (Rose (O.faults out.old) (O.faults out.new)) }
+    ensures steady { OnWritten result (O.faults out.new ≡ O.faults out.old) }
+{
+    match put(out, choice_line(turn, fault).as_slice()) {
+        Written::All => put_added(peer, entries, out),
+        Written::Failed => Written::Failed,
+    }
+}

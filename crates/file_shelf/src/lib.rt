@@ -1,0 +1,63 @@
+//! The files of the machine as a shelf.
+//!
+//! This is the trusted edge: the crate promises the contract of `Shelf` without content, so that a read takes no more bytes
+//! than fit, and answers `Failed` exactly where its count of faults rises. What a file holds is told by no clause. It opens
+//! files for reading and touches nothing else.
+#![tactic(auto)]
+
+ghost use Rattle.std.specs.Prelude.{◌≡◌, None};
+ghost use Rattle.std.specs.Io.{ReadsAtMost};
+
+use station::{Pull, Shelf};
+use std::io::{self, ErrorKind, Read, Seek, SeekFrom};
+use std::rt::Files;
+use std::{fs, str};
+
+/// Reads the files of the machine by their paths.
+#[derive(Drop)]
+pub struct FileShelf<R> {
+    files: R,
+    faults: u64,
+}
+
+impl<R: Files> FileShelf<R> {
+    /// A shelf of the files that this runtime reaches, with no fault so far.
+    pub fn new(files: R) -> FileShelf<R>
+        ensures { result.faults ≡ 0 }
+    {
+        FileShelf { files, faults: 0 }
+    }
+}
+
+/// Reads the bytes of the file at this path from the place `at` on.
+fn read_file<R: Files>(files: &R, path: &[u8], at: u64, buf: &mut [u8]) -> io::Result<usize>
+    ensures { ReadsAtMost result buf.new }
+{
+    match str::from_utf8(path) {
+        Err(_) => Err(io::Error::from(ErrorKind::InvalidInput)),
+        Ok(path) => {
+            let mut file = fs::open(files, path)?;
+            file.seek(SeekFrom::Start(at))?;
+            file.read(buf)
+        }
+    }
+}
+
+impl<R: Files> Shelf for FileShelf<R> {
+    ghost told = { λ s. ⊥ };
+
+    ghost content = { λ s name. None };
+
+    ghost faults = { λ s. s.faults };
+
+    fn read_at(&mut self, name: &[u8], at: u64, buf: &mut [u8]) -> Pull {
+        match read_file(&self.files, name, at, buf) {
+            Ok(0) => Pull::Ended,
+            Ok(count) => Pull::Took(count),
+            Err(_) => {
+                self.faults = self.faults.saturating_add(1);
+                Pull::Failed
+            }
+        }
+    }
+}

@@ -1,0 +1,86 @@
+-- What reading a text answers, from what the text says.
+use Rattle.std.proofs.Common.{◌≡◌, ℕ, ◌+◌, List, None, Result, Ok, Err, refl, sym, ap, subst, ◌∙◌}
+use Rattle.std.specs.Prelude.{IfOk}
+use Rattle.sha2.specs.Sha256.{sha256}
+use Rattle.definitions.specs.declared.world.Cell.{Cell}
+use Rattle.definitions.specs.World.{Game}
+use Rattle.grid_world.specs.declared.fault.SessionFault.{SessionFault}
+use Rattle.grid_world.specs.declared.fault.SessionFault.TheVariants.{At, Memory}
+use Rattle.grid_world.specs.Lines.{lines_of, joined}
+use Rattle.grid_world.specs.Text.{session_text}
+use Rattle.grid_world.specs.Sessions.{game_of}
+use Rattle.grid_world.specs.Reading.{◌>>=◌, Head, head_at, starts_at, walls_at, Said, said_by, fault_of, session_fault, game_at, Gives}
+use Rattle.grid_world.specs.Answers.{IsReadFrom, IsRead, Faults}
+use Rattle.grid_world.proofs.Steps.{bind_ok, ok_is}
+use Rattle.grid_world.proofs.Joined.{joined-lines_of}
+use Rattle.grid_world.proofs.Kept.{ReadsParts, walled, session_kept, lines_kept, length-sha256}
+use Rattle.grid_world.proofs.Again.{said_of, said_again, game_is, lines_of-session_text}
+
+-- what the parts of a text say
+abbrev made : Head → List Cell → List Cell → Said
+made head starts walls = record { grid = walled head.grid walls; rules = head.rules; turns = head.turns; starts = starts }
+
+said_parts : (lines : List (List ℕ)) (said : Said) → said_by lines ≡ Ok said → (head : Head) × (starts : List Cell) × (walls : List Cell) × ReadsParts lines head starts walls × (made head starts walls ≡ said)
+unfolding said_by
+said_parts lines said e =
+    let a = bind_ok (head_at lines) (λ head. starts_at head.0.grid head.0.players 0 head.1 >>= λ starts. walls_at head.0.grid starts.0 starts.1 None (7 + head.0.players) >>= λ walls. Ok (made head.0 starts.0 walls)) said e in
+    let b = bind_ok (starts_at a.0.0.grid a.0.0.players 0 a.0.1) (λ starts. walls_at a.0.0.grid starts.0 starts.1 None (7 + a.0.0.players) >>= λ walls. Ok (made a.0.0 starts.0 walls)) said a.2 in
+    let c = bind_ok (walls_at a.0.0.grid b.0.0 b.0.1 None (7 + a.0.0.players)) (λ walls. Ok (made a.0.0 b.0.0 walls)) said b.2 in
+    (a.0.0, b.0.0, c.0, record { starts_from = a.0.1; walls_from = b.0.1; head_is = a.1; starts_are = b.1; walls_are = c.1 }, ok_is (made a.0.0 b.0.0 c.0) said c.2)
+
+-- the session that something said makes
+abbrev played : List ℕ → Said → Game
+played id said = game_of id said.grid said.rules said.turns said.starts
+
+said_found : (text : List ℕ) (said : Said) → said_by (lines_of text) ≡ Ok said → IsReadFrom (played (sha256 text) said) text
+unfolding session_text
+said_found text said e =
+    let parts = said_parts (lines_of text) said e in
+    subst (λ (s : Said). IsReadFrom (played (sha256 text) s) text) parts.4
+    (record {
+      session = session_kept (sha256 text) (lines_of text) parts.0 parts.1 parts.2 (length-sha256 text) parts.3;
+      text_is = sym (joined-lines_of text) ∙ ap joined (lines_kept (sha256 text) (lines_of text) parts.0 parts.1 parts.2 parts.3);
+      id_is = refl;
+    })
+
+-- what a text says is a session of this text
+pub game_found : (text : List ℕ) (game : Game) → game_at text ≡ Ok game → IsReadFrom game text
+unfolding game_at
+game_found text game e =
+    let a = bind_ok (said_by (lines_of text)) (λ said. Ok (played (sha256 text) said)) game e in
+    subst (λ (g : Game). IsReadFrom g text) (ok_is (played (sha256 text) a.0) game a.2) (said_found text a.0 a.1)
+
+-- a session's text says the session
+pub game_again : (text : List ℕ) (game : Game) → IsReadFrom game text → game_at text ≡ Ok game
+unfolding game_at
+game_again text game from =
+    let said : said_by (lines_of text) ≡ Ok (said_of game) = ap said_by (ap lines_of from.text_is ∙ lines_of-session_text game from.session) ∙ said_again game from.session in
+    let same = game_is game (sha256 text) from.session from.id_is in
+    rw said (ap (λ (g : Game). Ok g) same)
+
+fault_game : (id : List ℕ) (read : Result Said SessionFault) → fault_of (read >>= λ said. Ok (played id said)) ≡ fault_of read
+fault_game id (Ok said) = refl
+fault_game id (Err e) = refl
+
+pub fault_at : (text : List ℕ) → fault_of (game_at text) ≡ session_fault text
+unfolding game_at session_fault
+fault_at text = fault_game (sha256 text) (said_by (lines_of text))
+
+-- ---- what the reader answers
+
+pub is_found : (text : List ℕ) (r : Result Game SessionFault) → Gives (λ s. s) r (game_at text) → IfOk r (λ s. IsReadFrom s text)
+is_found text (Ok s) given = game_found text s given
+is_found text (Err e) given = tt
+
+pub is_read : (text : List ℕ) (r : Result Game SessionFault) (game : Game) → Gives (λ s. s) r (game_at text) → IsReadFrom game text → IsRead game r
+is_read text (Ok s) game given from = ok_is s game (sym given ∙ game_again text game from)
+is_read text (Err Memory) game given from = refl
+is_read text (Err (At line what)) game given from = absurd (apart (sym given ∙ game_again text game from))
+  where
+    apart : Err (At line what) ≡ Ok game → ⊥
+    apart e = absurd cc
+
+pub faults : (text : List ℕ) (r : Result Game SessionFault) → Gives (λ s. s) r (game_at text) → Faults r (session_fault text)
+faults text (Ok s) given = sym (fault_at text) ∙ ap fault_of given
+faults text (Err Memory) given = tt
+faults text (Err (At line what)) given = sym (fault_at text) ∙ ap fault_of given

@@ -1,0 +1,14 @@
+pub mod Facts
+pub mod FirstLine
+pub mod Numbers
+pub mod Forms
+pub mod Joined
+pub mod Taken
+pub mod Kept
+pub mod Again
+pub mod Found
+pub mod Printed
+pub mod Rows
+pub mod Steps
+pub mod Loops
+mod Table

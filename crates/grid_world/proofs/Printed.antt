@@ -1,0 +1,50 @@
+-- Writing a text piece by piece.
+use Rattle.std.proofs.Common.{◌≡◌, ℕ, ◌+◌, ◌<◌, List, [], ◌∷◌, ◌++◌, length, get_or, drop, refl, sym, ap, ◌∙◌, append_assoc, add-one, drop-cons}
+use Rattle.std.specs.Fmt.{decimal}
+use Rattle.std.proofs.lemmas.List.{append-nil}
+use Rattle.grid_world.specs.Lines.{joined, fields_of, line_of}
+
+joined-append : (xs ys : List (List ℕ)) → joined (xs ++ ys) ≡ joined xs ++ joined ys
+joined-append [] ys = refl
+joined-append (x ∷ xs) ys = ap (λ (t : List ℕ). x ++ t) (joined-append xs ys) ∙ sym (append_assoc x (joined xs) (joined ys))
+
+-- one more number of a line
+pub field_more : (out new all : List ℕ) (numbers : List ℕ) (i : ℕ) → i < length numbers → new ≡ out ++ 32 ∷ decimal (get_or numbers i 0)
+    → out ++ fields_of (drop i numbers) ≡ all → new ++ fields_of (drop (i + 1) numbers) ≡ all
+field_more out new all numbers i lt e so_far =
+    ap (λ (t : List ℕ). t ++ fields_of (drop (i + 1) numbers)) e
+    ∙ append_assoc out (32 ∷ decimal (get_or numbers i 0)) (fields_of (drop (i + 1) numbers))
+    ∙ sym (ap (λ (ns : List ℕ). out ++ fields_of ns) (drop-cons numbers i 0 lt ∙ ap (λ (k : ℕ). get_or numbers i 0 ∷ drop k numbers) (sym (add-one i)))) ∙ so_far
+
+-- a line more, behind lines
+line_more : (o n a : List ℕ) (more : List (List ℕ)) (all : List ℕ) → n ≡ o ++ a → n ++ joined more ≡ all → o ++ joined (a ∷ more) ≡ all
+line_more o n a more all e rest = sym (append_assoc o a (joined more)) ∙ ap (λ (t : List ℕ). t ++ joined more) (sym e) ∙ rest
+
+pub six_more : (o1 o2 o3 o4 o5 o6 o7 a b c d e f : List ℕ) → o2 ≡ o1 ++ a → o3 ≡ o2 ++ b → o4 ≡ o3 ++ c → o5 ≡ o4 ++ d → o6 ≡ o5 ++ e → o7 ≡ o6 ++ f
+    → o7 ≡ o1 ++ joined (a ∷ b ∷ c ∷ d ∷ e ∷ f ∷ [])
+six_more o1 o2 o3 o4 o5 o6 o7 a b c d e f p q r s t u =
+    sym (line_more o1 o2 a (b ∷ c ∷ d ∷ e ∷ f ∷ []) o7 p
+    (line_more o2 o3 b (c ∷ d ∷ e ∷ f ∷ []) o7 q
+    (line_more o3 o4 c (d ∷ e ∷ f ∷ []) o7 r
+    (line_more o4 o5 d (e ∷ f ∷ []) o7 s
+    (line_more o5 o6 e (f ∷ []) o7 t
+    (line_more o6 o7 f [] o7 u (append-nil o7)))))))
+
+pub all_more : (o1 o2 o3 o4 : List ℕ) (head players walls : List (List ℕ)) (end : List ℕ) → o1 ≡ joined head → o2 ≡ o1 ++ joined players → o3 ≡ o2 ++ joined walls → o4 ≡ o3 ++ end
+    → o4 ≡ joined (head ++ (players ++ (walls ++ (end ∷ []))))
+all_more o1 o2 o3 o4 head players walls end p q r s =
+    s ∙ ap (λ (t : List ℕ). t ++ end) (r ∙ ap (λ (t : List ℕ). t ++ joined walls) (q ∙ ap (λ (t : List ℕ). t ++ joined players) p))
+    ∙ append_assoc (joined head ++ joined players) (joined walls) end ∙ append_assoc (joined head) (joined players) (joined walls ++ end)
+    ∙ sym (joined-append head (players ++ (walls ++ (end ∷ []))) ∙ ap (λ (t : List ℕ). joined head ++ t) (joined-append players (walls ++ (end ∷ []))
+    ∙ ap (λ (t : List ℕ). joined players ++ t) (joined-append walls (end ∷ []) ∙ ap (λ (t : List ℕ). joined walls ++ t) (append-nil end))))
+
+-- a line that was written, by other names of its numbers
+pub line_one : (old new name : List ℕ) (a x : ℕ) → new ≡ old ++ line_of name (a ∷ []) → a ≡ x → new ≡ old ++ line_of name (x ∷ [])
+line_one old new name a x e p = e ∙ ap (λ (n : ℕ). old ++ line_of name (n ∷ [])) p
+
+pub line_two : (old new name : List ℕ) (a b x y : ℕ) → new ≡ old ++ line_of name (a ∷ b ∷ []) → a ≡ x → b ≡ y → new ≡ old ++ line_of name (x ∷ y ∷ [])
+line_two old new name a b x y e p q = e ∙ ap (λ (n : ℕ). old ++ line_of name (n ∷ b ∷ [])) p ∙ ap (λ (n : ℕ). old ++ line_of name (x ∷ n ∷ [])) q
+
+pub line_three : (old new name : List ℕ) (a b c x y z : ℕ) → new ≡ old ++ line_of name (a ∷ b ∷ c ∷ []) → a ≡ x → b ≡ y → c ≡ z → new ≡ old ++ line_of name (x ∷ y ∷ z ∷ [])
+line_three old new name a b c x y z e p q r =
+    e ∙ ap (λ (n : ℕ). old ++ line_of name (n ∷ b ∷ c ∷ [])) p ∙ ap (λ (n : ℕ). old ++ line_of name (x ∷ n ∷ c ∷ [])) q ∙ ap (λ (n : ℕ). old ++ line_of name (x ∷ y ∷ n ∷ [])) r

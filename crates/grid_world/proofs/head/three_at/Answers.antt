@@ -1,0 +1,12 @@
+use Rattle.std.proofs.Common.{sym}
+use Rattle.grid_world.specs.Lines as words
+use Rattle.grid_world.proofs.FirstLine.{line_at-none, line_at-some, three_of-empty}
+use Rattle.grid_world.proofs.head.three_at.Goals as goal
+
+pub returns-in-None : goal.returns-in-None
+returns-in-None c =
+    rw c.fault.ensures (line_at-none c.args.n (words.three_of c.args.name.now) c.args.text.now c.take_line.result.0.now (three_of-empty c.args.name.now c.requires) c.take_line.ensures.line (sym c.in-None.ensures))
+
+pub returns-in-Some : goal.returns-in-Some
+returns-in-Some c =
+    line_at-some c.args.n (words.three_of c.args.name.now) c.args.text.now c.take_line.result.0.now c.take_line.result.1.now c.in-Some.numbers (three_of-empty c.args.name.now c.requires) c.take_line.ensures.line c.take_line.ensures.rest (sym c.in-Some.ensures)

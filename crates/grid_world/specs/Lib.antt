@@ -1,0 +1,7 @@
+pub mod Grids
+pub mod Sessions
+pub mod Lines
+pub mod Text
+pub mod Reading
+pub mod Parts
+pub mod Answers

@@ -1,0 +1,184 @@
+-- What a text says, line by line, and the first rule of a session text that it breaks.
+--
+-- Each line is first asked for its form, which is rule S1, and then for its other rules in their order.
+use Rattle.std.specs.Prelude.{◌≡◌, ℕ, zero, suc, ◌+◌, Bool, not, List, [], ◌∷◌, Option, Some, None, Result, Ok, Err, nat_le, ◌==◌, ◌&&◌, if◌then◌else◌, codes, true}
+use Rattle.sha2.specs.Sha256.{sha256}
+use Rattle.definitions.specs.declared.world.Cell.{Cell}
+use Rattle.definitions.specs.declared.world.SessionRule.{SessionRule}
+use Rattle.definitions.specs.declared.world.SessionRule.TheVariants.{S1, S2, S3, S4, S5, S6, S7, S8, S9}
+use Rattle.definitions.specs.World as world
+use Rattle.definitions.specs.World.{Ground, Game, has_cell, is_inside, is_before}
+use Rattle.grid_world.specs.declared.fault.SessionFault.{SessionFault}
+use Rattle.grid_world.specs.declared.fault.SessionFault.TheVariants.{At, Memory}
+use Rattle.grid_world.specs.Sessions.{game_of}
+use Rattle.grid_world.specs.Lines.{lines_of, is_bare, one_of, two_of, three_of}
+
+infixl 10 ◌>>=◌
+-- the next line's answer, unless a line before was at fault
+abbrev pub ◌>>=◌ : {A B : Type 0} → Result A SessionFault → (A → Result B SessionFault) → Result B SessionFault
+(Ok x) >>= f = f x
+(Err e) >>= f = Err e
+
+-- the value, where the line keeps the rule
+abbrev pub keeps : {A : Type 0} → ℕ → SessionRule → Bool → A → Result A SessionFault
+keeps n rule holds x = if holds then Ok x else Err (At n rule)
+
+-- what a line of the right form says, and the lines behind it
+abbrev pub formed : {A : Type 0} → ℕ → Option A → List (List ℕ) → Result (A × List (List ℕ)) SessionFault
+formed n None lines = Err (At n S1)
+formed n (Some x) lines = Ok (x, lines)
+
+-- line n, which has the form that is read, or is missing or otherwise at fault
+abbrev pub line_at : {A : Type 0} → ℕ → (List ℕ → Option A) → List (List ℕ) → Result (A × List (List ℕ)) SessionFault
+line_at n read [] = Err (At n S1)
+line_at n read (line ∷ lines) = formed n (read line) lines
+
+-- the number is one of these
+abbrev pub is_within : ℕ → ℕ → ℕ → Bool
+is_within low high n = nat_le low n && nat_le n high
+
+-- line 1: the version
+unfoldable pub version_at : List (List ℕ) → Result (List (List ℕ)) SessionFault
+version_at lines = do
+  version ← line_at 1 (one_of (codes "playout")) lines
+  keeps 1 S2 (version.0 == 1) version.1
+
+-- line 2: how wide and how high the grid is
+unfoldable pub sides_at : List (List ℕ) → Result ((ℕ × ℕ) × List (List ℕ)) SessionFault
+sides_at lines = do
+  sides ← line_at 2 (two_of (codes "grid")) lines
+  keeps 2 S3 (is_within 1 256 sides.0.0 && is_within 1 256 sides.0.1) sides
+
+-- line 3: speed, reach and blast
+unfoldable pub steps_at : List (List ℕ) → Result ((ℕ × ℕ × ℕ) × List (List ℕ)) SessionFault
+steps_at lines = do
+  steps ← line_at 3 (three_of (codes "rules")) lines
+  keeps 3 S4 (is_within 1 8 steps.0.0 && (nat_le steps.0.1 8 && nat_le steps.0.2 2)) steps
+
+-- line 4: the start charge, the cap and the cost
+unfoldable pub charges_at : List (List ℕ) → Result ((ℕ × ℕ × ℕ) × List (List ℕ)) SessionFault
+charges_at lines = do
+  charges ← line_at 4 (three_of (codes "charge")) lines
+  keeps 4 S5 (nat_le charges.0.0 255 && (nat_le charges.0.1 255 && (nat_le charges.0.2 255 && nat_le charges.0.0 charges.0.1))) charges
+
+-- line 5: how many turns are played
+unfoldable pub turns_at : List (List ℕ) → Result (ℕ × List (List ℕ)) SessionFault
+turns_at lines = do
+  turns ← line_at 5 (one_of (codes "turns")) lines
+  keeps 5 S6 (is_within 1 4096 turns.0) turns
+
+-- line 6: how many players there are
+unfoldable pub players_at : List (List ℕ) → Result (ℕ × List (List ℕ)) SessionFault
+players_at lines = do
+  players ← line_at 6 (one_of (codes "players")) lines
+  keeps 6 S7 (is_within 2 16 players.0) players
+
+-- what the first six lines say: the grid, still without walls, the rules, the turns and how many players there are
+pub record Head : Type 0 where
+  pub grid : Ground
+  pub rules : world.Rules
+  pub turns : ℕ
+  pub players : ℕ
+
+-- the first six lines, and the lines behind them
+unfoldable pub head_at : List (List ℕ) → Result (Head × List (List ℕ)) SessionFault
+head_at lines = do
+  rest ← version_at lines
+  sides ← sides_at rest
+  steps ← steps_at sides.1
+  charges ← charges_at steps.1
+  turns ← turns_at charges.1
+  players ← players_at turns.1
+  Ok (
+    record {
+      grid = record { width = sides.0.0; height = sides.0.1; walls = [] };
+      rules = record { speed = steps.0.0; reach = steps.0.1; blast = steps.0.2; start_charge = charges.0.0; cap = charges.0.1; cost = charges.0.2 };
+      turns = turns.0;
+      players = players.0;
+    },
+    players.1,
+  )
+
+abbrev pub cell_at : ℕ → ℕ → Cell
+cell_at x y = record { x = x; y = y }
+
+-- the line of player q, who has the line 7 + q: where the player starts
+unfoldable pub start_at : Ground → ℕ → List (List ℕ) → Result (Cell × List (List ℕ)) SessionFault
+start_at grid q lines = do
+  line ← line_at (7 + q) (three_of (codes "player")) lines
+  keeps (7 + q) S8 ((line.0.0 == q) && is_inside grid (cell_at line.0.1 line.0.2)) (cell_at line.0.1 line.0.2, line.1)
+
+-- the lines of so many players, the first of whom has the number q
+unfoldable pub starts_at : Ground → ℕ → ℕ → List (List ℕ) → Result (List Cell × List (List ℕ)) SessionFault
+starts_at grid zero q lines = Ok ([], lines)
+starts_at grid (suc k) q lines = do
+  first ← start_at grid q lines
+  others ← starts_at grid k (suc q) first.1
+  Ok (first.0 ∷ others.0, others.1)
+
+-- the cell comes after the wall before it, if there is one
+abbrev pub is_after : Option Cell → Cell → Bool
+is_after None c = true
+is_after (Some d) c = is_before d c
+
+-- the cell that a wall's line says, on line n
+abbrev pub wall_said : Ground → List Cell → Option Cell → ℕ → Option (ℕ × ℕ) → Result Cell SessionFault
+wall_said grid starts before n None = Err (At n S1)
+wall_said grid starts before n (Some c) = do
+  wall ← keeps n S8 (is_inside grid (cell_at c.0 c.1)) (cell_at c.0 c.1)
+  keeps n S9 (is_after before wall && not (has_cell starts wall)) wall
+
+-- the wall on line n, which comes after the wall before it and stands on no start
+unfoldable pub wall_at : Ground → List Cell → Option Cell → ℕ → List ℕ → Result Cell SessionFault
+wall_at grid starts before n line = wall_said grid starts before n (two_of (codes "wall") line)
+
+-- behind `end`, which has the line before n, no line stands
+abbrev pub ends_at : ℕ → List (List ℕ) → Result (List Cell) SessionFault
+ends_at n [] = Ok []
+ends_at n (line ∷ lines) = Err (At n S1)
+
+-- the walls from line n on, and `end`
+unfoldable pub walls_at : Ground → List Cell → List (List ℕ) → Option Cell → ℕ → Result (List Cell) SessionFault
+walls_at grid starts [] before n = Err (At n S1)
+walls_at grid starts (line ∷ lines) before n = if is_bare (codes "end") line then ends_at (suc n) lines else (do
+  wall ← wall_at grid starts before n line
+  others ← walls_at grid starts lines (Some wall) (suc n)
+  Ok (wall ∷ others))
+
+-- what a text says, but for its digest
+pub record Said : Type 0 where
+  pub grid : Ground
+  pub rules : world.Rules
+  pub turns : ℕ
+  pub starts : List Cell
+
+-- what these lines say, or the first of them at fault and the first of its rules that it breaks
+unfoldable pub said_by : List (List ℕ) → Result Said SessionFault
+said_by lines = do
+  head ← head_at lines
+  starts ← starts_at head.0.grid head.0.players 0 head.1
+  walls ← walls_at head.0.grid starts.0 starts.1 None (7 + head.0.players)
+  Ok (record { grid = record { width = head.0.grid.width; height = head.0.grid.height; walls = walls }; rules = head.0.rules; turns = head.0.turns; starts = starts.0 })
+
+abbrev pub fault_of : {A : Type 0} → Result A SessionFault → Option SessionFault
+fault_of (Ok x) = None
+fault_of (Err e) = Some e
+
+-- the first faulty line of a text, and the first of its rules that it breaks
+unfoldable pub session_fault : List ℕ → Option SessionFault
+session_fault text = fault_of (said_by (lines_of text))
+
+-- the session that a text says, or the first faulty line of it and the first of its rules that it breaks
+unfoldable pub game_at : List ℕ → Result Game SessionFault
+game_at text = do
+  said ← said_by (lines_of text)
+  Ok (game_of (sha256 text) said.grid said.rules said.turns said.starts)
+
+-- what a function that reads answers: what is said, seen by view, or the fault, unless memory ran out
+abbrev pub Fails : {Y : Type 0} → SessionFault → Result Y SessionFault → Type 0
+Fails Memory read = Unit {0}
+Fails (At n rule) read = read ≡ Err (At n rule)
+
+abbrev pub Gives : {X Y : Type 0} → (X → Y) → Result X SessionFault → Result Y SessionFault → Type 0
+Gives view (Ok x) read = read ≡ Ok (view x)
+Gives view (Err e) read = Fails e read

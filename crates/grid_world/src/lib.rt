@@ -1,0 +1,26 @@
+//! The grid world and the sessions that are played on it.
+//!
+//! A session is a text that every player has: the grid with its walls, the rules, the number of turns, and where each
+//! player starts. The crate reads that text and gives a [`Session`], which contracts see as a `Game` of the crate
+//! `definitions`. It promises that a text reads as exactly one session, that every text of a session is read unless
+//! memory runs out, and that a text which is none is refused with its first faulty line and that line's first broken
+//! rule. It takes memory from the allocator that it is given, and touches nothing else.
+#![tactic(auto)]
+
+mod fault;
+mod grid;
+mod head;
+mod lines;
+mod parts;
+mod printing;
+mod reading;
+mod rules;
+mod session;
+
+pub use definitions::{Cell, PlayerId, SessionRule, Turn};
+pub use fault::SessionFault;
+pub use grid::{Grid, distance};
+pub use printing::print_session;
+pub use reading::read_session;
+pub use rules::Rules;
+pub use session::Session;

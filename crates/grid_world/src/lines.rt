@@ -1,0 +1,142 @@
+//! The lines of a text, and the numbers that they say.
+
+ghost use Rattle.std.specs.Prelude.{◌≡◌, ℕ, ◌<◌, ◌≤◌, List, [], ◌∷◌, length, take, drop, option_map, codes};
+ghost use Rattle.grid_world.specs.Lines as lines;
+ghost use Rattle.grid_world.specs.Lines.{lines_of, line_len, value_from, number_of, is_ended, is_bare};
+
+/// How many bytes the first line has, its LF counted.
+fn first_line_len(text: &[u8]) -> usize
+    ensures value { result ≡ line_len text.now }
+    ensures within { result ≤ length text.now }
+    ensures some { 0 < length text.now → 0 < result }
+{
+    for (i, b) in text.iter().enumerate() {
+        if *b == b'\n' {
+            return i + 1;
+        }
+    }
+    text.len()
+}
+
+/// The first line with its LF, and the text behind it. Only of an empty text the line is empty.
+pub(crate) fn take_line(text: &[u8]) -> (&[u8], &[u8])
+    ensures line { result.0.now ≡ take (line_len text.now) text.now }
+    ensures rest { result.1.now ≡ drop (line_len text.now) text.now }
+    ensures shorter { 0 < length text.now → length result.1.now < length text.now }
+{
+    text.split_at(first_line_len(text))
+}
+
+/// How many digits stand at the front of the text.
+fn digits_len(text: &[u8]) -> usize
+    ensures value { result ≡ lines.digits_len text.now }
+    ensures within { result ≤ length text.now }
+{
+    for (i, b) in text.iter().enumerate() {
+        if !b.is_ascii_digit() {
+            return i;
+        }
+    }
+    text.len()
+}
+
+/// The number that the digits spell, if it is below 2 to the power of 32.
+fn read_value(digits: &[u8]) -> Option<u32>
+    ensures { result ≡ value_from 0 digits.now }
+{
+    let mut value = 0u32;
+    for digit in digits {
+        if !digit.is_ascii_digit() {
+            return None;
+        }
+        let next = u64::from(value) * 10 + u64::from(*digit - b'0');
+        if next > 4_294_967_295 {
+            return None;
+        }
+        value = next as u32;
+    }
+    Some(value)
+}
+
+/// The number that the digits spell in its one form.
+fn read_number(digits: &[u8]) -> Option<u32>
+    ensures { result ≡ number_of digits.now }
+{
+    match digits {
+        [] => None,
+        [b'0'] => Some(0),
+        [b'0', ..] => None,
+        _ => read_value(digits),
+    }
+}
+
+/// The number at the front of the text, and the text behind its digits.
+fn number_at(text: &[u8]) -> Option<(u32, &[u8])>
+    ensures { option_map (λ x. (x.0, x.1.now)) result ≡ lines.number_at text.now }
+{
+    let (digits, rest) = text.split_at(digits_len(text));
+    let number = read_number(digits)?;
+    Some((number, rest))
+}
+
+/// The number behind one space at the front of the text, and the text behind its digits.
+#[tactic(auto, unfolding(crate::specs::Lines::field_at))]
+fn field_at(text: &[u8]) -> Option<(u32, &[u8])>
+    ensures { option_map (λ x. (x.0, x.1.now)) result ≡ lines.field_at text.now }
+{
+    match text {
+        [b' ', rest @ ..] => number_at(rest),
+        _ => None,
+    }
+}
+
+/// Whether nothing but the line's end is left.
+fn is_at_end(rest: &[u8]) -> bool
+    ensures { result ≡ is_ended rest.now }
+{
+    matches!(rest, [b'\n'])
+}
+
+/// Whether it is the last line of a session text.
+pub(crate) fn is_last_line(line: &[u8]) -> bool
+    ensures { result ≡ is_bare (codes "end") line.now }
+{
+    matches!(line, b"end\n")
+}
+
+/// The number of a line of this name that has one.
+#[tactic(auto, unfolding(crate::specs::Lines::one_of))]
+pub(crate) fn one_of(name: &[u8], line: &[u8]) -> Option<u32>
+    ensures { result ≡ lines.one_of name.now line.now }
+{
+    let rest = line.strip_prefix(name)?;
+    let (a, rest) = field_at(rest)?;
+    if is_at_end(rest) { Some(a) } else { None }
+}
+
+/// The numbers of a line of this name that has two.
+#[tactic(auto, unfolding(crate::specs::Lines::two_of))]
+pub(crate) fn two_of(name: &[u8], line: &[u8]) -> Option<(u32, u32)>
+    ensures { result ≡ lines.two_of name.now line.now }
+{
+    let rest = line.strip_prefix(name)?;
+    let (a, rest) = field_at(rest)?;
+    let (b, rest) = field_at(rest)?;
+    if is_at_end(rest) { Some((a, b)) } else { None }
+}
+
+/// The numbers of a line of this name that has three.
+#[tactic(auto, unfolding(crate::specs::Lines::three_of))]
+pub(crate) fn three_of(name: &[u8], line: &[u8]) -> Option<(u32, u32, u32)>
+    ensures { result ≡ lines.three_of name.now line.now }
+{
+    let rest = line.strip_prefix(name)?;
+    let (a, rest) = field_at(rest)?;
+    let (b, rest) = field_at(rest)?;
+    let (c, rest) = field_at(rest)?;
+    if is_at_end(rest) {
+        Some((a, b, c))
+    } else {
+        None
+    }
+}

@@ -1,0 +1,19 @@
+//! What parts of a session text say.
+
+use crate::rules::Rules;
+
+/// How wide and how high a grid is, each at most 256.
+#[derive(Clone, Copy)]
+pub(crate) struct Sides {
+    pub width: u16,
+    pub height: u16,
+}
+
+/// What the first six lines say.
+#[derive(Clone, Copy)]
+pub(crate) struct Head {
+    pub sides: Sides,
+    pub rules: Rules,
+    pub turns: u32,
+    pub players: u8,
+}

@@ -1,0 +1,87 @@
+//! The text of a session.
+
+ghost use Rattle.std.specs.Prelude.{◌≡◌, ◌++◌, map, IfOk, OnOk};
+ghost use Rattle.grid_world.specs.Lines.{joined, line_of};
+ghost use Rattle.grid_world.specs.Text.{head_lines, player_lines, wall_line, session_text};
+
+use crate::grid::Grid;
+use crate::session::Session;
+use std::alloc::{AllocError, Global};
+
+/// Writes the line of this name and these numbers.
+fn put_line(
+    alloc: Global,
+    out: &mut Vec<u8>,
+    name: &[u8],
+    numbers: &[u32],
+) -> Result<(), AllocError>
+    ensures { OnOk result (out.new.items ≡ out.old.items ++ line_of name.now numbers.now) }
+{
+    out.extend_from_slice(name)?;
+    for number in numbers {
+        let field = format!(in alloc; " {number}")?;
+        out.extend_from_slice(field.as_bytes())?;
+    }
+    out.push(b'\n')?;
+    Ok(())
+}
+
+/// Writes the first six lines.
+fn put_head(alloc: Global, out: &mut Vec<u8>, session: &Session) -> Result<(), AllocError>
+    ensures { OnOk result (out.new.items ≡ out.old.items ++ joined (head_lines session.now)) }
+{
+    let grid = session.grid();
+    let rules = session.rules();
+    put_line(alloc, out, b"playout", &[session.version()])?;
+    let sides = [u32::from(grid.width()), u32::from(grid.height())];
+    put_line(alloc, out, b"grid", &sides)?;
+    let steps = [
+        u32::from(rules.speed),
+        u32::from(rules.reach),
+        u32::from(rules.blast),
+    ];
+    put_line(alloc, out, b"rules", &steps)?;
+    let charges = [
+        u32::from(rules.start_charge),
+        u32::from(rules.cap),
+        u32::from(rules.cost),
+    ];
+    put_line(alloc, out, b"charge", &charges)?;
+    put_line(alloc, out, b"turns", &[session.turns()])?;
+    put_line(alloc, out, b"players", &[u32::from(session.players())])?;
+    Ok(())
+}
+
+/// Writes the players' lines.
+fn put_players(alloc: Global, out: &mut Vec<u8>, session: &Session) -> Result<(), AllocError>
+    ensures { OnOk result (out.new.items ≡ out.old.items ++ joined (player_lines session.now.seats 0)) }
+{
+    for player in 0..session.players() {
+        let start = session.start(player);
+        let numbers = [u32::from(player), u32::from(start.x), u32::from(start.y)];
+        put_line(alloc, out, b"player", &numbers)?;
+    }
+    Ok(())
+}
+
+/// Writes the walls' lines.
+fn put_walls(alloc: Global, out: &mut Vec<u8>, grid: &Grid) -> Result<(), AllocError>
+    ensures { OnOk result (out.new.items ≡ out.old.items ++ joined (map wall_line grid.now.walls)) }
+{
+    for wall in grid.walls() {
+        put_line(alloc, out, b"wall", &[u32::from(wall.x), u32::from(wall.y)])?;
+    }
+    Ok(())
+}
+
+/// The one text that reads as the session.
+pub fn print_session(alloc: Global, session: &Session) -> Result<Vec<u8>, AllocError>
+    ensures { IfOk result (λ text. text.items ≡ session_text session.now) }
+{
+    let mut out = Vec::new(alloc);
+    put_head(alloc, &mut out, session)?;
+    put_players(alloc, &mut out, session)?;
+    put_walls(alloc, &mut out, session.grid())?;
+    put_line(alloc, &mut out, b"end", &[])?;
+    Ok(out)
+}

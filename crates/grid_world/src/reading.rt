@@ -1,0 +1,173 @@
+//! A session is read from its text.
+
+ghost use Rattle.std.specs.Prelude.{◌≡◌, ◌<◌, ◌≤◌, ◌+◌, ◌&&◌, not, ℕ, length, Some, None, if◌then◌else◌, option_map, IfOk};
+ghost use Rattle.definitions.specs.World.{has_cell, is_inside};
+ghost use Rattle.grid_world.specs.Lines.{lines_of};
+ghost use Rattle.grid_world.specs.Reading as spec;
+ghost use Rattle.grid_world.specs.Reading.{Gives, start_at, starts_at, wall_at, walls_at, cell_at, game_at, session_fault};
+ghost use Rattle.definitions.specs.World.{Game};
+ghost use Rattle.grid_world.specs.Answers.{IsReadFrom, IsRead, Faults};
+ghost use Rattle.grid_world.specs.Parts.{bare};
+
+use crate::fault::SessionFault;
+use crate::grid::Grid;
+use crate::head::{fault, head, three_at};
+use crate::lines::{is_last_line, take_line, two_of};
+use crate::parts::Sides;
+use crate::session::Session;
+use definitions::{Cell, PlayerId, SessionRule};
+use sha2::{Digest, Sha256};
+use std::alloc::Global;
+
+/// The cell of this column and this row, if it is inside.
+fn cell_of(sides: Sides, x: u32, y: u32) -> Option<Cell>
+    ensures { result ≡ (if is_inside (bare sides) (cell_at x y) then Some (cell_at x y) else None) }
+{
+    if x < u32::from(sides.width) && y < u32::from(sides.height) {
+        Some(Cell {
+            x: x as u16,
+            y: y as u16,
+        })
+    } else {
+        None
+    }
+}
+
+/// Where the player starts, which its line says, and the text behind that line.
+#[tactic(auto, unfolding(crate::specs::Reading::start_at))]
+fn start_of(sides: Sides, player: PlayerId, text: &[u8]) -> Result<(Cell, &[u8]), SessionFault>
+    ensures { Gives (λ x. (x.0, lines_of x.1.now)) result (start_at (bare sides) player (lines_of text.now)) }
+{
+    let line = 7 + u32::from(player);
+    let ((number, x, y), rest) = three_at(line, b"player", text)?;
+    match cell_of(sides, x, y) {
+        Some(cell) if number == u32::from(player) => Ok((cell, rest)),
+        _ => Err(fault(line, SessionRule::S8)),
+    }
+}
+
+/// Where the players start, and the text behind their lines.
+fn starts_of(
+    alloc: Global,
+    sides: Sides,
+    players: u8,
+    text: &[u8],
+) -> Result<(Vec<Cell>, &[u8]), SessionFault>
+    ensures { Gives (λ x. (x.0.items, lines_of x.1.now)) result (starts_at (bare sides) players 0 (lines_of text.now)) }
+{
+    let mut starts = Vec::new(alloc);
+    let mut rest = text;
+    for player in 0..players {
+        let (start, after) = start_of(sides, player, rest)?;
+        starts.push(start)?;
+        rest = after;
+    }
+    Ok((starts, rest))
+}
+
+/// Whether the cell comes after the other one in row order, if there is another one.
+fn is_after(before: Option<Cell>, cell: Cell) -> bool
+    ensures { result ≡ spec.is_after before cell }
+{
+    match before {
+        None => true,
+        Some(wall) => wall.y < cell.y || (wall.y == cell.y && wall.x < cell.x),
+    }
+}
+
+/// Whether a player starts at the cell.
+fn is_start(starts: &[Cell], cell: Cell) -> bool
+    ensures { result ≡ has_cell starts.now cell }
+{
+    starts
+        .iter()
+        .any(|start| cell.x == start.x && cell.y == start.y)
+}
+
+/// The wall that line `n` says.
+#[tactic(auto, unfolding(crate::specs::Reading::wall_at))]
+fn wall_of(
+    sides: Sides,
+    starts: &[Cell],
+    before: Option<Cell>,
+    n: u32,
+    line: &[u8],
+) -> Result<Cell, SessionFault>
+    ensures { Gives (λ x. x) result (wall_at (bare sides) starts.now before n line.now) }
+{
+    let Some((x, y)) = two_of(b"wall", line) else {
+        return Err(fault(n, SessionRule::S1));
+    };
+    let Some(wall) = cell_of(sides, x, y) else {
+        return Err(fault(n, SessionRule::S8));
+    };
+    if !(is_after(before, wall) && !is_start(starts, wall)) {
+        return Err(fault(n, SessionRule::S9));
+    }
+    Ok(wall)
+}
+
+/// The walls that lines `first` and on say, up to `end`, the last line.
+fn walls_of(
+    alloc: Global,
+    sides: Sides,
+    starts: &[Cell],
+    first: u32,
+    text: &[u8],
+) -> Result<Vec<Cell>, SessionFault>
+    requires wide { sides.width ≤ 256 }
+    requires high { sides.height ≤ 256 }
+    requires early { first ≤ 23 }
+    ensures { Gives (λ v. v.items) result (walls_at (bare sides) starts.now (lines_of text.now) None first) }
+{
+    let mut walls = Vec::new(alloc);
+    let mut before = None;
+    let mut n = first;
+    let mut rest = text;
+    while !rest.is_empty() {
+        let (line, after) = take_line(rest);
+        if is_last_line(line) {
+            if after.is_empty() {
+                return Ok(walls);
+            }
+            return Err(fault(n + 1, SessionRule::S1));
+        }
+        let wall = wall_of(sides, starts, before, n, line)?;
+        walls.push(wall)?;
+        before = Some(wall);
+        n += 1;
+        rest = after;
+    }
+    Err(fault(n, SessionRule::S1))
+}
+
+/// The session of a text, or the first rule that the text breaks.
+#[tactic(auto, unfolding(crate::specs::Reading::game_at, crate::specs::Reading::said_by))]
+fn session_of(alloc: Global, text: &[u8]) -> Result<Session, SessionFault>
+    ensures { Gives (λ s. s) result (game_at text.now) }
+{
+    let (head, rest) = head(text)?;
+    let (starts, rest) = starts_of(alloc, head.sides, head.players, rest)?;
+    let first = 7 + u32::from(head.players);
+    let walls = walls_of(alloc, head.sides, &starts, first, rest)?;
+    let grid = Grid::new(alloc, head.sides.width, head.sides.height, walls)?;
+    let id = Sha256::digest(text);
+    Ok(Session::new(id, grid, head.rules, head.turns, starts))
+}
+
+/// Reads a session from its text.
+///
+/// A text that is of no session is refused with its first faulty line, and of the rules that this line breaks the
+/// lowest. A text of a session is refused only where memory runs out.
+pub fn read_session(alloc: Global, text: &[u8]) -> Result<Session, SessionFault>
+    // What is read has this text and no other.
+    ensures found { IfOk result (λ s. IsReadFrom s text.now) }
+    // Each text of a session is read as that session, unless memory runs out.
+    ensures only { (game : Game) → IsReadFrom game text.now → IsRead game result }
+    // Which line is at fault, and which rule it breaks.
+    ensures exact { Faults result (session_fault text.now) }
+    // All of it once more, as the text is read line by line.
+    ensures said { Gives (λ s. s) result (game_at text.now) }
+{
+    session_of(alloc, text)
+}

@@ -1,0 +1,28 @@
+use Rattle.std.proofs.Common.{◌<◌, ◌≤◌, arith}
+use Rattle.std.specs.Prelude.{min}
+use Rattle.log_scan.proofs.First.{turn_found, turn_none, clean_is_none}
+use Rattle.log_scan.proofs.findings.first_finding.Goals as goal
+
+pub returns-then-is_some-clause-first : goal.returns-then-is_some-clause-first
+returns-then-is_some-clause-first c =
+    let lt : c.loop-turn.turn < c.args.session.now.turns = omega arith in
+    turn_found c.args.session.now c.args.q c.loop-turn.turn c.args.entries.now _ _ c.requires.player c.requires.last lt c.loop-turn.invariant.none
+    c.finding_of_turn-found.ensures.finding c.is_some.ensures c.if-is_some.true
+
+pub returns-then-is_some-clause-clean : goal.returns-then-is_some-clause-clean
+returns-then-is_some-clause-clean c =
+    let lt : c.loop-turn.turn < c.args.session.now.turns = omega arith in
+    clean_is_none c.args.session.now c.args.entries.now _
+    (turn_found c.args.session.now c.args.q c.loop-turn.turn c.args.entries.now _ _ c.requires.player c.requires.last lt c.loop-turn.invariant.none
+    c.finding_of_turn-found.ensures.finding c.is_some.ensures c.if-is_some.true)
+
+pub returns-clause-first : goal.returns-clause-first
+returns-clause-first c =
+    let past : min c.args.session.now.turns c.turns_seen.result ≤ c.loop-turn.turn = omega arith in
+    turn_none c.args.session.now c.args.q c.loop-turn.turn c.turns_seen.result c.args.entries.now c.requires.player c.requires.last past c.turns_seen.ensures c.loop-turn.invariant.none
+
+pub returns-clause-clean : goal.returns-clause-clean
+returns-clause-clean c =
+    let past : min c.args.session.now.turns c.turns_seen.result ≤ c.loop-turn.turn = omega arith in
+    clean_is_none c.args.session.now c.args.entries.now _
+    (turn_none c.args.session.now c.args.q c.loop-turn.turn c.turns_seen.result c.args.entries.now c.requires.player c.requires.last past c.turns_seen.ensures c.loop-turn.invariant.none)

@@ -1,0 +1,23 @@
+use Rattle.std.proofs.Common.{◌∙◌, Bool}
+use Rattle.definitions.specs.Findings.{Sighting}
+use Rattle.log_scan.specs.Cases as C
+use Rattle.log_scan.proofs.Spotted.{spot_here, spot_on, spot_none}
+use Rattle.log_scan.proofs.findings.spot_after.Goals as goal
+
+pub returns-then-shows_with-clause-spot : goal.returns-then-shows_with-clause-spot
+returns-then-shows_with-clause-spot c =
+    let test : Sighting → Bool = C.show_by c.args.session.now c.args.case.now c.args.kind (C.sighting_of c.args.first.now) in
+    spot_here test c.args.case.now.player c.args.case.now.turn c.loop-at.at c.args.entries.now _ _ _ c.loop-at.invariant.rest c.loop-at-test.true c.shows_with.ensures.shown c.if-shows_with.true
+
+pub loop-at-preserved : goal.loop-at-preserved
+loop-at-preserved c =
+    let test : Sighting → Bool = C.show_by c.args.session.now c.args.case.now c.args.kind (C.sighting_of c.args.first.now) in
+    record {
+      rest = spot_on test c.args.case.now.player c.args.case.now.turn c.loop-at.at c.args.entries.now _ _ _ c.loop-at.invariant.rest c.loop-at-test.true c.shows_with.ensures.shown c.if-shows_with.false;
+      walker = c.shows_with.ensures.walker ∙ c.loop-at.invariant.walker;
+    }
+
+pub returns-clause-spot : goal.returns-clause-spot
+returns-clause-spot c =
+    let test : Sighting → Bool = C.show_by c.args.session.now c.args.case.now c.args.kind (C.sighting_of c.args.first.now) in
+    spot_none test c.args.case.now.player c.args.case.now.turn c.loop-at.at c.args.entries.now _ c.loop-at.invariant.rest c.loop-at-test.false

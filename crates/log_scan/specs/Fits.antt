@@ -1,0 +1,23 @@
+-- Fits: how many entries an honest log has at most.
+use Rattle.std.specs.Prelude.{ℕ, ◌+◌, ◌-◌, ◌*◌, ◌<◌, ◌≤◌, List, length, IsTrue}
+use Rattle.definitions.specs.declared.logs.Entry.{Entry}
+use Rattle.definitions.specs.World.{Game, players_of}
+use Rattle.definitions.specs.Findings.{is_clean}
+use Rattle.definitions.specs.Honest.{IsHonest}
+use Rattle.grid_world.specs.Sessions.{IsSession}
+
+-- for each turn its choice and the owner's two frames, and two frames of each other player
+abbrev pub room_of : Game → ℕ
+room_of game = 3 * game.turns + 2 * game.turns * (players_of game - 1)
+
+-- an honest log without a finding has no more entries than that
+abbrev pub CleanLogsFit : Type 0
+CleanLogsFit = (game : Game) (me : ℕ) (h : List Entry) → 1 ≤ game.ahead → me < players_of game → IsHonest game me h → IsTrue (is_clean game h) → length h ≤ room_of game
+
+-- an honest log has one more at most, which makes a finding
+abbrev pub LogsFit : Type 0
+LogsFit = (game : Game) (me : ℕ) (h : List Entry) → 1 ≤ game.ahead → me < players_of game → IsHonest game me h → length h ≤ room_of game + 1
+
+-- and in a session of version 1 that is no more than this many
+abbrev pub RoomIsSmall : Type 0
+RoomIsSmall = (game : Game) → IsSession game → room_of game ≤ 135168

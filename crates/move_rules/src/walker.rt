@@ -1,0 +1,118 @@
+//! Which moves are legal.
+
+ghost use Rattle.std.specs.Prelude.{◌≡◌, ◌<◌, ◌≤◌, [], IsTrue, IfOk, IfNone, IfSome};
+ghost use Rattle.definitions.specs.World.{players_of, is_open, is_inside};
+ghost use Rattle.definitions.specs.Walk.{in_reach};
+ghost use Rattle.definitions.specs.Moves as M;
+ghost use Rattle.move_rules.specs.Verdicts.{size_of, verdict};
+
+use crate::tracks::next_track;
+use definitions::{Cell, Move, MoveFault, PlayerId, Track};
+use grid_world::{Grid, Session, distance};
+use std::alloc::{AllocError, Global};
+use std::marker::Model;
+
+/// Judges moves on grids of one size.
+#[derive(Drop)]
+pub struct Walker {
+    width: u16,
+    height: u16,
+}
+
+impl Model for Walker {
+    ghost use Rattle.move_rules.specs.Verdicts.{Size};
+
+    ghost Value = { Size };
+
+    ghost view = { λ w. record { width = w.width; height = w.height } };
+}
+
+/// Whether a player that stands at `from` reaches `to` within a turn.
+fn is_near(session: &Session, player: PlayerId, from: Cell, to: Cell) -> bool
+    requires free { session.now.grid.walls ≡ [] }
+    requires player { player < players_of session.now }
+    requires from { IsTrue (is_open session.now.grid from) }
+    requires to { IsTrue (is_inside session.now.grid to) }
+    ensures { result ≡ in_reach session.now player from to }
+{
+    distance(from, to) <= u16::from(session.rules().speed)
+}
+
+/// Why the strike isn't allowed from this track to this target, by the first cause.
+fn strike_fault(
+    session: &Session,
+    player: PlayerId,
+    track: &Track,
+    to: Cell,
+    strike: Cell,
+) -> Option<MoveFault>
+    requires { player < players_of session.now }
+    ensures { result ≡ M.strike_fault session.now player track.now to (Some strike) }
+{
+    let rules = session.rules();
+    if !session.grid().inside(strike) {
+        Some(MoveFault::StrikeOutside)
+    } else if distance(strike, to) > u16::from(rules.reach) {
+        Some(MoveFault::StrikeFar)
+    } else if track.charge < rules.cost {
+        Some(MoveFault::NoCharge)
+    } else {
+        None
+    }
+}
+
+/// Why the move isn't legal from this track, by the first cause.
+fn move_fault(session: &Session, player: PlayerId, track: &Track, mv: &Move) -> Option<MoveFault>
+    requires free { session.now.grid.walls ≡ [] }
+    requires player { player < players_of session.now }
+    requires track { IsTrue (is_open session.now.grid track.now.at) }
+    ensures fault { result ≡ M.move_fault session.now player track.now mv.now }
+    ensures charge { IfNone result (IfSome mv.now.strike (λ c. session.now.rules.cost ≤ track.now.charge)) }
+{
+    if !session.grid().inside(mv.to) {
+        return Some(MoveFault::Outside);
+    }
+    if session.grid().wall(mv.to) {
+        return Some(MoveFault::Wall);
+    }
+    if !is_near(session, player, track.at, mv.to) {
+        return Some(MoveFault::TooFar);
+    }
+    match mv.strike {
+        None => None,
+        Some(strike) => strike_fault(session, player, track, mv.to, strike),
+    }
+}
+
+impl Walker {
+    /// A walker for grids of this grid's size.
+    pub fn new(_alloc: Global, grid: &Grid) -> Result<Walker, AllocError>
+        ensures { IfOk result (λ w. w ≡ size_of grid.now) }
+    {
+        Ok(Walker {
+            width: grid.width(),
+            height: grid.height(),
+        })
+    }
+
+    /// The player's track after the move, or the first of the faults that the move has from this track.
+    pub fn legal(
+        &mut self,
+        session: &Session,
+        player: PlayerId,
+        track: &Track,
+        mv: &Move,
+    ) -> Result<Track, MoveFault>
+        requires size { self.old ≡ size_of session.now.grid }
+        requires free { session.now.grid.walls ≡ [] }
+        requires player { player < players_of session.now }
+        requires track { IsTrue (is_open session.now.grid track.now.at) }
+        ensures verdict { result ≡ verdict session.now player track.now mv.now }
+        ensures walker { self.new ≡ self.old }
+    {
+        match move_fault(session, player, track, mv) {
+            Some(fault) => Err(fault),
+            None => Ok(next_track(session, track, mv)),
+        }
+    }
+}

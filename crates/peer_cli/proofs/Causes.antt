@@ -1,0 +1,107 @@
+-- Causes: each status has its cause.
+use Rattle.std.proofs.Common.{Bool, List, None, Option, Some, [], ap, arith, false, inl, inr, refl, subst, sym, true, ℕ, ◌+◌, ◌∙◌, ◌∷◌, ◌≡◌, ◌⊎◌}
+use Rattle.std.specs.Prelude.{Err, Ok, Result, nat_lt, if◌then◌else◌}
+use Rattle.std.proofs.lemmas.Bool.{lt-ltb, ltb-true}
+use Rattle.definitions.specs.declared.world.Cell.{Cell}
+use Rattle.definitions.specs.Lists.{is_empty}
+use Rattle.definitions.specs.World.{Game, players_of}
+use Rattle.text_io.specs.Ends.{Finished}
+use Rattle.text_io.specs.Frame.{Answer, EndCause, line_by_line}
+use Rattle.text_io.specs.Lines.{lines_of}
+use Rattle.text_io.specs.declared.statuses.Status.{Status}
+use Rattle.text_io.specs.declared.statuses.Status.TheVariants.{BadLine, Done, InputFault, NoMemory, OutputFault, Unbuilt, Usage}
+use Rattle.text_io.specs.declared.statuses.TextName.TheVariants.{Script}
+use Rattle.grid_world.specs.declared.fault.SessionFault.{SessionFault}
+use Rattle.grid_world.specs.declared.fault.SessionFault.TheVariants.{At, Memory}
+use Rattle.grid_world.specs.Lines as L
+use Rattle.grid_world.specs.Reading.{◌>>=◌, fault_of, game_at, said_by, session_fault}
+use Rattle.drive_script.specs.declared.grammar.DriveLine.{DriveLine}
+use Rattle.drive_script.specs.declared.grammar.DriveLine.TheVariants as D
+use Rattle.drive_script.specs.Drive.{drive, said_behind, script_status, status_by}
+use Rattle.drive_script.specs.Ends.{ScriptEnds}
+use Rattle.drive_script.proofs.Ends.{drive_status}
+use Rattle.peer_cli.specs.Causes.{HasCause, IsNamed, IsSet}
+use Rattle.peer_cli.specs.Games.{built, front_of, with_player}
+use Rattle.peer_cli.specs.Program.{answer_of, answer_to, playing}
+use Rattle.peer_cli.specs.Words.{Command, Drive, command_of}
+
+-- the answer where a session is set
+pub set_answer : (words : List (List ℕ)) (files : List ℕ → Option (List ℕ)) (input : List ℕ) (game : Game) (player : ℕ) → IsSet words files game player → answer_to words files input ≡ drive game player [] input
+set_answer words files input game player s =
+    ap (λ (o : Option Command). answer_of o files input) s.named.command ∙
+    ap (λ (r : Result Game SessionFault). playing player (with_player player (built r)) input) s.named.read ∙
+    ap (λ (b : Bool). playing player (with_player player (if b then Ok game else Err Unbuilt)) input) (ap (λ (cs : List Cell). is_empty cs) s.free) ∙
+    ap (λ (b : Bool). playing player (if b then Ok game else Err Usage) input) (lt-ltb player (players_of game) s.player_is)
+
+-- a fault that is not of what is made last is of what came before
+bound_fault : (A B : Type 0) (r : Result A SessionFault) (f : A → B) (e : SessionFault) → (r >>= (λ x. Ok (f x))) ≡ Err e → fault_of r ≡ Some e
+bound_fault A B (Ok x) f e h = absurd (let same : Ok (f x) ≡ Err e = h in cc)
+bound_fault A B (Err d) f e h = let same : d ≡ e = (let g : Err d ≡ Err e = h in cc) in ap Some same
+
+-- a text of which no session is read has that fault
+fault_said : (text : List ℕ) (e : SessionFault) → game_at text ≡ Err e → session_fault text ≡ Some e
+unfolding game_at session_fault
+fault_said text e h = bound_fault _ _ (said_by (L.lines_of text)) _ e h
+
+-- a script ends in one of three ways
+status_ends : (s : DriveLine) (n : ℕ) (rest : Status) → ScriptEnds rest → ScriptEnds (status_by s n rest)
+status_ends D.Bad n rest h = tt
+status_ends (D.Got q f) n rest h = tt
+status_ends D.Nothing n rest h = h
+status_ends (D.Choose mv nonce) n rest h = h
+
+script_ends : (n : ℕ) (lines : List (List ℕ)) → ScriptEnds (script_status n lines)
+script_ends n [] = tt
+script_ends n (line ∷ lines) = status_ends (said_behind n line) (n + 1) (script_status (n + 1) lines) (script_ends (n + 1) lines)
+
+module _ (words : List (List ℕ)) (files : List ℕ → Option (List ℕ)) (input : List ℕ) where
+  played : (game : Game) (player : ℕ) → IsSet words files game player → (s : Status) → script_status 0 (lines_of input) ≡ s → ScriptEnds s → HasCause words files input s
+  played game player set Done e h = record { game = game; player = player; set = set; script = e }
+  played game player set Unbuilt e h = inr (record { game = game; player = player; set = set; script = e })
+  played game player set (BadLine Script n) e h = record { game = game; player = player; set = set; script = e }
+  played game player set s e h = absurd h
+
+  -- a session that this version plays
+  seated : (game : Game) (player : ℕ) → IsNamed words files game player → game.grid.walls ≡ [] → (b : Bool) → nat_lt player (players_of game) ≡ b →
+      HasCause words files input (playing player (if b then Ok game else Err Usage) input).status
+  seated game player named free true e =
+      let set : IsSet words files game player = record { named = named; free = free; player_is = ltb-true player (players_of game) e } in
+      subst (λ (s : Status). HasCause words files input s) (sym (drive_status game player [] input))
+      (played game player set (script_status 0 (lines_of input)) refl (script_ends 0 (lines_of input)))
+  seated game player named free false e = inr (record { game = game; player = player; named = named; free = free; past = grind (arith, e) })
+
+  walled : (game : Game) (player : ℕ) → IsNamed words files game player → (walls : List Cell) → game.grid.walls ≡ walls →
+      HasCause words files input (playing player (with_player player (if is_empty walls then Ok game else Err Unbuilt)) input).status
+  walled game player named [] e = seated game player named e (nat_lt player (players_of game)) refl
+  walled game player named (c ∷ cs) e = inl (record { game = game; player = player; named = named; walled = λ f. let g : [] ≡ c ∷ cs = sym f ∙ e in cc })
+
+  read : (session : List ℕ) (player : ℕ) → command_of words ≡ Some (Drive session player) → (r : Result Game SessionFault) → game_at (front_of (files session)) ≡ r →
+      HasCause words files input (playing player (with_player player (built r)) input).status
+  read session player e (Ok game) f = walled game player (record { session = session; command = e; read = f }) game.grid.walls refl
+  read session player e (Err Memory) f = tt
+  read session player e (Err (At line what)) f =
+      record { session = session; player = player; command = e; fault_is = fault_said (front_of (files session)) (At line what) f }
+
+  commanded : (o : Option Command) → command_of words ≡ o → HasCause words files input (answer_of o files input).status
+  commanded None e = inl e
+  commanded (Some (Drive session player)) e = read session player e (game_at (front_of (files session))) refl
+
+-- the status that is due has its cause
+pub caused : (words : List (List ℕ)) (files : List ℕ → Option (List ℕ)) (input : List ℕ) → HasCause words files input (answer_to words files input).status
+caused words files input = commanded words files input (command_of words) refl
+
+-- what holds of the status that is due, of want of memory and of faults holds of the status that comes
+pub finished_cause : (P : Status → Type 0) (before now : List ℕ) (due : Answer) (fault : Type 0) (s : Status) → Finished line_by_line before now due fault s →
+    P due.status → P NoMemory → P InputFault → P OutputFault → P s
+finished_cause P before now due fault NoMemory f p m i o = m
+finished_cause P before now due fault InputFault f p m i o = i
+finished_cause P before now due fault OutputFault f p m i o = o
+finished_cause P before now due fault s f p m i o = subst P (sym f.0) p
+
+-- a run that nothing outside cuts short comes to what is due, unless memory is wanting
+pub completed : (own : Status → Type 0) (before now : List ℕ) (due : Answer) (fault input output : Type 0) (s : Status) → Finished line_by_line before now due fault s →
+    EndCause own input output s → (input → ⊥) → (output → ⊥) → (s ≡ due.status) ⊎ (s ≡ NoMemory)
+completed own before now due fault input output NoMemory f c i o = inr refl
+completed own before now due fault input output InputFault f c i o = absurd (i c)
+completed own before now due fault input output OutputFault f c i o = absurd (o c)
+completed own before now due fault input output s f c i o = inl f.0

@@ -1,0 +1,48 @@
+use Rattle.std.proofs.Common.{[], arith, ap, rules, inl, inr, ◌∙◌, ◌⊎◌, ◌≡◌, ◌≤◌}
+use Rattle.station.specs.Outside.{known}
+use Rattle.text_io.specs.Frame.{Answer, line_by_line}
+use Rattle.text_io.specs.declared.statuses.Status.{Status}
+use Rattle.text_io.specs.declared.statuses.Status.TheVariants.{Done, NoMemory}
+use Rattle.text_io.proofs.Finish.{finished}
+use Rattle.grid_world.proofs.Found.{game_found}
+use Rattle.definition_laws.proofs.ForPeers.{honest_empty}
+use Rattle.drive_script.proofs.Ends.{drive_status}
+use Rattle.drive_script.proofs.Fair.{drive_fair}
+use Rattle.drive_script.proofs.Tellings.{drive_tells}
+use Rattle.peer_cli.specs.Causes.{HasCause}
+use Rattle.peer_cli.specs.Ends.{RunEnds}
+use Rattle.peer_cli.proofs.Causes.{caused, completed, finished_cause, set_answer}
+use Rattle.peer_cli.proofs.program.run.Goals as goal
+
+pub returns-clause-text : goal.returns-clause-text
+returns-clause-text g c = λ ti to th.
+    finished line_by_line _ _ _ _ RunEnds _ _ c.work-status.result c.refuse.result (c.work-status.ensures.text ti to th) c.work-status.ensures.cause (c.refuse.ensures.text (c.work-status.ensures.told_out to))
+
+pub returns-clause-own : goal.returns-clause-own
+returns-clause-own g c = λ ti to th.
+    finished_cause (HasCause _ _ _) _ _ _ _ c.refuse.result (returns-clause-text g c ti to th) (caused _ _ _) tt tt tt
+
+neither : (P Q : Type 0) → ¬ P → ¬ Q → P ⊎ Q → ⊥
+neither P Q p q (inl h) = p h
+neither P Q p q (inr h) = q h
+
+done_or_memory : (s due : Status) → due ≡ Done → (s ≡ due) ⊎ (s ≡ NoMemory) → (s ≡ Done) ⊎ (s ≡ NoMemory)
+done_or_memory s due d (inl h) = inl (h ∙ d)
+done_or_memory s due d (inr h) = inr h
+
+pub returns-clause-cause : goal.returns-clause-cause
+returns-clause-cause g c = search rules
+
+pub returns-clause-complete : goal.returns-clause-complete
+returns-clause-complete g c = λ ti to th game player set script ni ns no.
+    let due = ap (λ (a : Answer). a.status) (set_answer _ _ _ game player set) ∙ drive_status game player [] (known (g.I.Source.left c.args.input.now)) ∙ script in
+    done_or_memory _ _ due (completed RunEnds _ _ _ _ _ _ c.refuse.result (returns-clause-text g c ti to th) (returns-clause-cause g c) (neither _ _ ni ns) no)
+
+pub returns-clause-tells : goal.returns-clause-tells
+returns-clause-tells g c = λ game player set. rw (set_answer _ _ _ game player set) (drive_tells game player [] _)
+
+pub returns-clause-fair : goal.returns-clause-fair
+returns-clause-fair g c = λ game player set.
+    let read = game_found _ game set.named.read in
+    let ahead : 1 ≤ game.ahead = omega (arith, read.session.ahead) in
+    drive_fair game player [] _ ahead (honest_empty game player)

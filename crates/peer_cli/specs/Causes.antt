@@ -1,0 +1,66 @@
+-- Causes: why the program ends as it does, status by status.
+use Rattle.std.specs.Prelude.{◌≡◌, ◌⊎◌, ℕ, ◌<◌, ◌≤◌, List, [], Option, Some, None, Ok}
+use Rattle.definitions.specs.World.{Game, players_of}
+use Rattle.text_io.specs.Lines.{lines_of}
+use Rattle.text_io.specs.declared.statuses.Status.{Status}
+use Rattle.text_io.specs.declared.statuses.Status.TheVariants.{Done, NoMemory, Usage, BadSession, InputFault, OutputFault, BadLine, Unbuilt}
+use Rattle.text_io.specs.declared.statuses.TextName.TheVariants.{Script}
+use Rattle.grid_world.specs.declared.fault.SessionFault.{SessionFault}
+use Rattle.grid_world.specs.declared.fault.SessionFault.TheVariants.{At}
+use Rattle.grid_world.specs.Reading.{game_at, session_fault}
+use Rattle.drive_script.specs.Drive.{script_status}
+use Rattle.peer_cli.specs.Words.{Drive, command_of}
+use Rattle.peer_cli.specs.Games.{front_of}
+
+-- the words name a file and a player, and the file has this session
+pub record IsNamed (words : List (List ℕ)) (files : List ℕ → Option (List ℕ)) (game : Game) (player : ℕ) : Type 0 where
+  pub session : List ℕ
+  pub command : command_of words ≡ Some (Drive session player)
+  pub read : game_at (front_of (files session)) ≡ Ok game
+
+-- and this version plays it, and the player is one of it
+pub record IsSet (words : List (List ℕ)) (files : List ℕ → Option (List ℕ)) (game : Game) (player : ℕ) : Type 0 where
+  pub named : IsNamed words files game player
+  pub free : game.grid.walls ≡ []
+  pub player_is : player < players_of game
+
+-- the words name a player past those of a session that this version plays
+pub record IsPast (words : List (List ℕ)) (files : List ℕ → Option (List ℕ)) : Type 0 where
+  pub game : Game
+  pub player : ℕ
+  pub named : IsNamed words files game player
+  pub free : game.grid.walls ≡ []
+  pub past : players_of game ≤ player
+
+-- the words name a session with walls, which this version doesn't play
+pub record IsWalled (words : List (List ℕ)) (files : List ℕ → Option (List ℕ)) : Type 0 where
+  pub game : Game
+  pub player : ℕ
+  pub named : IsNamed words files game player
+  pub walled : game.grid.walls ≡ [] → ⊥
+
+-- the words name a file that has no session, and what is the first fault in it
+pub record IsFaulty (words : List (List ℕ)) (files : List ℕ → Option (List ℕ)) (fault : SessionFault) : Type 0 where
+  pub session : List ℕ
+  pub player : ℕ
+  pub command : command_of words ≡ Some (Drive session player)
+  pub fault_is : session_fault (front_of (files session)) ≡ Some fault
+
+-- a session is played, and its script ends the run so
+pub record IsPlayed (words : List (List ℕ)) (files : List ℕ → Option (List ℕ)) (input : List ℕ) (status : Status) : Type 0 where
+  pub game : Game
+  pub player : ℕ
+  pub set : IsSet words files game player
+  pub script : script_status 0 (lines_of input) ≡ status
+
+-- Why the program may end so with these words, files and input. Want of memory and faults have their causes outside.
+abbrev pub HasCause : List (List ℕ) → (List ℕ → Option (List ℕ)) → List ℕ → Status → Type 0
+HasCause words files input Usage = (command_of words ≡ None) ⊎ IsPast words files
+HasCause words files input (BadSession line what) = IsFaulty words files (At line what)
+HasCause words files input Unbuilt = IsWalled words files ⊎ IsPlayed words files input Unbuilt
+HasCause words files input (BadLine Script n) = IsPlayed words files input (BadLine Script n)
+HasCause words files input Done = IsPlayed words files input Done
+HasCause words files input NoMemory = Unit {0}
+HasCause words files input InputFault = Unit {0}
+HasCause words files input OutputFault = Unit {0}
+HasCause words files input status = ⊥

@@ -1,0 +1,5 @@
+pub mod Words
+pub mod Games
+pub mod Ends
+pub mod Program
+pub mod Causes

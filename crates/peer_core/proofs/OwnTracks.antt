@@ -1,0 +1,162 @@
+-- The owner's tracks: where each is found, and that all of them stand on open cells.
+use Rattle.std.proofs.Common.{◌≡◌, ℕ, zero, suc, ◌+◌, ◌*◌, ◌≤◌, ◌<◌, List, [], ◌∷◌, ◌++◌, length, take, drop, refl, Bool, true, false, sym, ◌∙◌, ap, subst, arith, get_or}
+use Rattle.std.specs.Prelude.{◌&&◌, not, map, Some, is_none, if◌then◌else◌}
+use Rattle.std.proofs.lemmas.Bool.{and_parts}
+use Rattle.std.proofs.lemmas.List.{take-append-drop, length-map}
+use Rattle.definitions.specs.declared.world.Cell.{Cell}
+use Rattle.definitions.specs.declared.world.Move.{Move}
+use Rattle.definitions.specs.declared.world.Track.{Track}
+use Rattle.definitions.specs.declared.world.MoveFault.TheVariants.{Outside, Wall, TooFar}
+use Rattle.definitions.specs.declared.logs.Entry.{Entry}
+use Rattle.definitions.specs.World.{Game, players_of, is_inside, is_wall, is_open}
+use Rattle.definitions.specs.Walk.{in_reach}
+use Rattle.definitions.specs.Moves.{is_legal, strike_fault, next_track, start_track, track_from, track_after, are_legal_from}
+use Rattle.definitions.specs.Logs.{chosen, frames_of}
+use Rattle.definitions.specs.Held.{known, resolved_count, next_place}
+use Rattle.definitions.specs.Meets.{cell_before}
+use Rattle.definitions.specs.Honest.{IsHonest, chosen_track}
+use Rattle.definition_laws.proofs.Tracks.{are_legal_from_append, AreKnownLegal, known_to_legal}
+use Rattle.definition_laws.proofs.Knowing.{places_in_le}
+use Rattle.definition_laws.proofs.OwnLog.{own_honest}
+use Rattle.definition_laws.proofs.ForPeers.{own_moves, own_counts}
+use Rattle.grid_world.specs.Sessions.{IsSession}
+use Rattle.grid_world.proofs.Facts.{seat_open}
+use Rattle.peer_core.specs.Waiting.{tracks_from, AreOwnTracks}
+
+pub tracks-length : (game : Game) (track : Track) (ms : List Move) → length (tracks_from game track ms) ≡ length ms + 1
+tracks-length game track [] = refl
+tracks-length game track (m ∷ ms) = let ih = tracks-length game (next_track game track m) ms in omega arith
+
+-- the track at a place is that after so many moves
+pub tracks-at : (game : Game) (track : Track) (ms : List Move) (i : ℕ) (d : Track) → i ≤ length ms → get_or (tracks_from game track ms) i d ≡ track_from game track (take i ms)
+tracks-at game track [] zero d h = refl
+tracks-at game track [] (suc i) d h = absurd (omega arith)
+tracks-at game track (m ∷ ms) zero d h = refl
+tracks-at game track (m ∷ ms) (suc i) d h = tracks-at game (next_track game track m) ms i d (omega arith)
+
+-- one move more
+pub tracks-push : (game : Game) (track : Track) (ms : List Move) (m : Move) → tracks_from game track (ms ++ m ∷ []) ≡ tracks_from game track ms ++ next_track game (track_from game track ms) m ∷ []
+tracks-push game track [] m = refl
+tracks-push game track (k ∷ ms) m = ap (λ ts. track ∷ ts) (tracks-push game (next_track game track k) ms m)
+
+-- a legal move leads to an open cell
+legal-open : (game : Game) (q : ℕ) (track : Track) (m : Move) → is_legal game q track m ≡ true → is_open game.grid m.to ≡ true
+unfolding is_legal
+legal-open game q track m h = by_tests (is_inside game.grid m.to) (is_wall game.grid m.to) h
+  where
+    by_tests : (i w : Bool) →
+        is_none (if not i then Some Outside else if w then Some Wall else if not (in_reach game q track.at m.to) then Some TooFar else strike_fault game q track m.to m.strike) ≡ true →
+        (i && not w) ≡ true
+    by_tests true true h = h
+    by_tests true false h = refl
+    by_tests false w h = h
+
+-- legal moves lead from an open cell to an open cell
+pub moves-open : (game : Game) (q : ℕ) (track : Track) (ms : List Move) → is_open game.grid track.at ≡ true → are_legal_from game q track ms ≡ true →
+    is_open game.grid (track_from game track ms).at ≡ true
+moves-open game q track [] o h = o
+moves-open game q track (m ∷ ms) o h =
+    let p = and_parts (is_legal game q track m) (are_legal_from game q (next_track game track m) ms) h in
+    moves-open game q (next_track game track m) ms (legal-open game q track m p.0) p.1
+
+take-take : {X : Type 0} (xs : List X) (i j : ℕ) → i ≤ j → take i (take j xs) ≡ take i xs
+take-take xs zero j h = refl
+take-take [] (suc i) zero h = refl
+take-take [] (suc i) (suc j) h = refl
+take-take (x ∷ xs) (suc i) zero h = absurd (omega arith)
+take-take (x ∷ xs) (suc i) (suc j) h = ap (λ ys. x ∷ ys) (take-take xs i j (omega arith))
+
+own-moves-legal : (game : Game) (me : ℕ) (h : List Entry) → 1 ≤ game.ahead → IsHonest game me h →
+    are_legal_from game me (start_track game me) (map (λ o. o.mv) (chosen me h)) ≡ true
+own-moves-legal game me h d i = (own_honest game me h d i).legal
+
+-- the first of legal moves are legal
+legal-front : (game : Game) (q : ℕ) (track : Track) (ms : List Move) (i : ℕ) → are_legal_from game q track ms ≡ true → are_legal_from game q track (take i ms) ≡ true
+legal-front game q track ms i h =
+    let P : List Move → Type 0 = λ xs. are_legal_from game q track xs ≡ true in
+    (and_parts (are_legal_from game q track (take i ms)) _ (sym (are_legal_from_append game q track (take i ms) (drop i ms)) ∙ subst P (sym (take-append-drop i ms)) h)).0
+
+pub own_tracks_reach : (game : Game) (me t : ℕ) (h : List Entry) (tracks : List Track) → 1 ≤ game.ahead → IsHonest game me h → AreOwnTracks game me h tracks →
+    t ≤ resolved_count game me h me → t < length tracks
+own_tracks_reach game me t h tracks d i are le =
+    let n = own_counts game me h d i in
+    let before = n.before in
+    let enough = n.enough in
+    let l = tracks-length game (start_track game me) (map (λ o. o.mv) (chosen me h)) in
+    let m = length-map (chosen me h) (λ o. o.mv) in
+    let e = ap length are in
+    omega arith
+
+-- the owner's cell before a turn stands among its tracks
+pub own_track_at : (game : Game) (me t : ℕ) (h : List Entry) (tracks : List Track) (d : Track) → 1 ≤ game.ahead → IsHonest game me h → AreOwnTracks game me h tracks →
+    t ≤ resolved_count game me h me → (get_or tracks t d).at ≡ cell_before game me h me t
+own_track_at game me t h tracks d a i are le =
+    let n = own_counts game me h a i in
+    let before = n.before in
+    let enough = n.enough in
+    let m = length-map (chosen me h) (λ o. o.mv) in
+    let ms : List Move = map (λ o. o.mv) (chosen me h) in
+    let front : take t (known game me h me).moves ≡ take t ms = ap (take t) (own_moves game me h a i) ∙ take-take ms t (resolved_count game me h me) le in
+    ap (λ (ts : List Track). (get_or ts t d).at) are ∙ ap (λ (t : Track). t.at) (tracks-at game (start_track game me) ms t d (omega arith)) ∙
+    ap (λ (xs : List Move). (track_from game (start_track game me) xs).at) (sym front)
+
+-- and that cell is open
+pub own_cell_open : (game : Game) (me t : ℕ) (h : List Entry) → 1 ≤ game.ahead → IsHonest game me h → is_open game.grid (start_track game me).at ≡ true →
+    t ≤ resolved_count game me h me → is_open game.grid (cell_before game me h me t) ≡ true
+own_cell_open game me t h a i o le =
+    let ms : List Move = map (λ o. o.mv) (chosen me h) in
+    let front : take t (known game me h me).moves ≡ take t ms = ap (take t) (own_moves game me h a i) ∙ take-take ms t (resolved_count game me h me) le in
+    let P : List Move → Type 0 = λ xs. is_open game.grid (track_from game (start_track game me) xs).at ≡ true in
+    subst P (sym front) (moves-open game me (start_track game me) (take t ms) o (legal-front game me (start_track game me) ms t (own-moves-legal game me h a i)))
+
+pub ahead : (game : Game) → IsSession game → 1 ≤ game.ahead
+ahead game is = let one = is.ahead in omega arith
+
+-- a test for both holds of the first
+open_inside : (i w : Bool) → (i && w) ≡ true → i ≡ true
+open_inside true w h = refl
+open_inside false w h = h
+
+pub own_cell_inside : (game : Game) (me t : ℕ) (h : List Entry) (tracks : List Track) (d : Track) → IsSession game → me < players_of game → IsHonest game me h → AreOwnTracks game me h tracks →
+    t ≤ resolved_count game me h me → is_inside game.grid (get_or tracks t d).at ≡ true
+own_cell_inside game me t h tracks d is lt i are le =
+    let P : Cell → Type 0 = λ c. is_inside game.grid c ≡ true in
+    subst P (sym (own_track_at game me t h tracks d (ahead game is) i are le))
+    (open_inside (is_inside game.grid (cell_before game me h me t)) (not (is_wall game.grid (cell_before game me h me t))) (own_cell_open game me t h (ahead game is) i (seat_open game me is lt) le))
+
+-- the turns that the owner resolved are turns of the session
+pub own_turns : (game : Game) (me : ℕ) (h : List Entry) → IsSession game → IsHonest game me h → resolved_count game me h me ≤ game.turns
+own_turns game me h is i =
+    let n = own_counts game me h (ahead game is) i in
+    let before = n.before in
+    let enough = n.enough in
+    let few = n.few in
+    omega arith
+
+-- the track that is known of a player stands inside the grid
+pub known_inside : (game : Game) (me q : ℕ) (h : List Entry) → IsSession game → q < players_of game → is_inside game.grid (track_after game q (known game me h q).moves).at ≡ true
+unfolding known AreKnownLegal
+known_inside game me q h is lt =
+    let c : Cell = (track_after game q (known game me h q).moves).at in
+    open_inside (is_inside game.grid c) (not (is_wall game.grid c))
+    (moves-open game q (start_track game q) (known game me h q).moves (seat_open game q is lt) (known_to_legal game q (frames_of me q h) (2 * game.turns)))
+
+-- as many places as the stream has are known at most
+pub known_few : (game : Game) (me q : ℕ) (h : List Entry) → IsSession game → next_place game me h q ≤ 8192
+unfolding known
+known_few game me q h is =
+    let few = places_in_le game q (frames_of me q h) (2 * game.turns) in
+    let turns = is.turns in
+    omega arith
+
+-- a player starts inside the grid
+pub start_inside : (game : Game) (q : ℕ) (at : Track) → IsSession game → q < players_of game → at ≡ start_track game q → is_inside game.grid at.at ≡ true
+start_inside game q at is lt e =
+    let P : Track → Type 0 = λ t. is_inside game.grid t.at ≡ true in
+    let c : Cell = (start_track game q).at in
+    subst P (sym e) (open_inside (is_inside game.grid c) (not (is_wall game.grid c)) (seat_open game q is lt))
+
+-- where the owner stands after its choices is open
+pub chosen_open : (game : Game) (me : ℕ) (h : List Entry) → IsSession game → me < players_of game → IsHonest game me h → is_open game.grid (chosen_track game me h).at ≡ true
+chosen_open game me h is lt i =
+    moves-open game me (start_track game me) (map (λ o. o.mv) (chosen me h)) (seat_open game me is lt) (own-moves-legal game me h (ahead game is) i)

@@ -1,0 +1,312 @@
+//! A peer, and what it may do.
+
+ghost use Rattle.std.specs.Prelude.{◌≡◌, ◌<◌, ◌≤◌, ◌+◌, ◌*◌, [], ◌∷◌, ◌++◌, length, Some, None, IsTrue, IfOk, OnOk, OnErr, slice_get};
+ghost use Rattle.definitions.specs.World.{players_of};
+ghost use Rattle.definitions.specs.Logs as L;
+ghost use Rattle.definitions.specs.Held as H;
+ghost use Rattle.definitions.specs.Honest.{made_count, chosen_track};
+ghost use Rattle.definitions.specs.Moves as M;
+ghost use Rattle.definitions.specs.Needs as N;
+ghost use Rattle.move_rules.specs.Verdicts.{verdict};
+ghost use Rattle.peer_core.specs.Choosing.{fault_of};
+ghost use Rattle.peer_core.specs.Standing.{IsStanding};
+ghost use Rattle.definitions.specs.Advance as A;
+ghost use Rattle.peer_core.specs.Views as V;
+
+use crate::choosing::{chooses, next_of, progress_of};
+use crate::needs::NeedList;
+use crate::room::add;
+use crate::streams::other_stream;
+use crate::views::{Choice, PlayerView};
+use crate::waiting::find_needs;
+use definitions::{
+    Entry, Move, MoveFault, Nonce, Opening, OwnFault, PlayerId, Progress, Track, TurnFrame,
+};
+use grid_world::Session;
+use move_rules::{Walker, start_track};
+use std::alloc::{AllocError, Global};
+use std::marker::Model;
+
+/// The log of one player of a session, with tables of what its own entries say.
+#[derive(Drop)]
+pub struct Peer {
+    session: Session,
+    walker: Walker,
+    me: PlayerId,
+    entries: Vec<Entry>,
+    // what was chosen, the frames that were made, and the tracks before each choice and after the last
+    openings: Vec<Opening>,
+    frames: Vec<TurnFrame>,
+    tracks: Vec<Track>,
+    needs: NeedList,
+}
+
+impl Model for Peer {
+    ghost use Rattle.std.specs.Prelude.{vec_capacity};
+    ghost use Rattle.peer_core.specs.Views.{PeerState};
+    ghost use Rattle.peer_core.specs.Inside.{IsPeer, HasRoom};
+
+    ghost Value = { PeerState };
+
+    ghost view = { λ p. record { game = p.session; me = p.me; entries = p.entries.items } };
+
+    ghost invariant = { λ p. IsPeer p.session p.me p.entries.items p.openings.items p.frames.items p.tracks.items p.needs p.walker
+        × HasRoom p.session (vec_capacity p.entries) (vec_capacity p.openings) (vec_capacity p.frames) (vec_capacity p.tracks) };
+}
+
+impl Peer {
+    /// A peer with an empty log, for this player of the session. It takes all the memory that the peer will need.
+    pub fn new(alloc: Global, session: &Session, me: PlayerId) -> Result<Peer, AllocError>
+        requires player { me < players_of session.now }
+        requires free { session.now.grid.walls ≡ [] }
+        ensures { IfOk result (λ p. p ≡ record { game = session.now; me = me; entries = [] }) }
+    {
+        let copy = session.copy(alloc)?;
+        let walker = Walker::new(alloc, session.grid())?;
+        let turns = session.turns() as usize;
+        let others = usize::from(session.players()) - 1;
+        let entries = Vec::with_capacity(alloc, 3 * turns + 2 * turns * others + 1)?;
+        let openings = Vec::with_capacity(alloc, turns)?;
+        let frames = Vec::with_capacity(alloc, 2 * turns)?;
+        let mut tracks = Vec::with_capacity(alloc, turns + 1)?;
+        tracks.push(start_track(session, me))?;
+        let mut needs = NeedList::new();
+        find_needs(
+            session,
+            me,
+            entries.as_slice(),
+            0,
+            tracks.as_slice(),
+            &mut needs,
+        );
+        Ok(Peer {
+            session: copy,
+            walker,
+            me,
+            entries,
+            openings,
+            frames,
+            tracks,
+            needs,
+        })
+    }
+
+    /// The peer's log is always honest: nothing but that fact, and what follows for its session and its numbers.
+    pub fn facts(&self)
+        ensures { IsStanding self.now }
+    {
+        self.session.facts();
+    }
+
+    /// The session that the peer was made for.
+    pub fn session(&self) -> &Session
+        ensures { result.now ≡ self.now.game }
+    {
+        &self.session
+    }
+
+    /// The player whose log this is.
+    pub fn me(&self) -> PlayerId
+        ensures { result ≡ self.now.me }
+    {
+        self.me
+    }
+
+    /// The log, in the order in which its entries came.
+    pub fn entries(&self) -> &[Entry]
+        ensures { result.now ≡ self.now.entries }
+    {
+        self.entries.as_slice()
+    }
+
+    /// For whom the peer waits, by rising player.
+    pub fn needs(&self) -> &NeedList
+        ensures { result.now ≡ N.needs self.now.game self.now.me self.now.entries }
+    {
+        &self.needs
+    }
+
+    /// How many frames the peer made: the next one has this place in its stream.
+    pub fn made_count(&self) -> u32
+        ensures { result ≡ made_count self.now.entries }
+    {
+        self.frames.len() as u32
+    }
+
+    /// The own frame at this place, counted from 0. None comes exactly from `made_count` on.
+    pub fn made(&self, place: u32) -> Option<TurnFrame>
+        ensures { result ≡ slice_get (L.made self.now.entries) place }
+    {
+        self.frames.as_slice().get(place as usize).copied()
+    }
+
+    /// The own turn that is next to be revealed; the number of turns once all are.
+    pub fn turn(&self) -> u32
+        ensures { result ≡ H.resolved_count self.now.game self.now.me self.now.entries self.now.me }
+    {
+        (self.frames.len() / 2) as u32
+    }
+
+    /// The number of turns chosen, which is that of the turn to be chosen next, and the track after them.
+    pub fn choice(&self) -> Choice
+        ensures { result ≡ V.choice_of self.now.game self.now.me self.now.entries }
+    {
+        let turn = self.openings.len();
+        Choice {
+            turn: turn as u32,
+            track: self.tracks[turn],
+        }
+    }
+
+    /// Whether a move may be chosen now.
+    pub fn may_choose(&self) -> bool
+        ensures { result ≡ N.may_choose self.now.game self.now.me self.now.entries }
+    {
+        self.session.facts();
+        chooses(
+            self.needs.as_slice().is_empty(),
+            self.frames.len(),
+            self.openings.len(),
+            self.session.turns() as usize,
+        )
+    }
+
+    /// The frame that the peer makes next, where one is allowed.
+    fn next_made(&self) -> Option<TurnFrame>
+        ensures frame { result ≡ A.next_made self.now.game self.now.me self.now.entries }
+        ensures facts { IsStanding self.now }
+    {
+        self.session.facts();
+        next_of(
+            &self.session,
+            self.needs.as_slice().is_empty(),
+            self.openings.as_slice(),
+            self.frames.len(),
+        )
+    }
+
+    /// Makes the next frame.
+    fn make(&mut self, frame: TurnFrame)
+        requires { A.next_made self.old.game self.old.me self.old.entries ≡ Some frame }
+        ensures { self.new ≡ record self.old { entries = self.old.entries ++ Entry.Made frame ∷ [] } }
+    {
+        self.session.facts();
+        add(&mut self.entries, Entry::Made(frame));
+        add(&mut self.frames, frame);
+        find_needs(
+            &self.session,
+            self.me,
+            self.entries.as_slice(),
+            self.frames.len() as u32,
+            self.tracks.as_slice(),
+            &mut self.needs,
+        );
+    }
+
+    /// Makes every frame that is allowed, and says how many there were.
+    fn make_all(&mut self) -> u8
+        ensures log { self.new ≡ record self.old { entries = A.advance self.old.game self.old.me self.old.entries } }
+        ensures count { result ≡ A.advances_by self.old.game self.old.me self.old.entries }
+    {
+        self.facts();
+        let mut count = 0u8;
+        while let Some(frame) = self.next_made() {
+            self.make(frame);
+            count += 1;
+        }
+        count
+    }
+
+    /// Makes every frame that the protocol allows by now, and says how far the peer came.
+    pub fn advance(&mut self) -> Progress
+        ensures progress { result ≡ A.progress self.old.game self.old.me self.old.entries }
+        ensures log { self.new ≡ record self.old { entries = A.advance self.old.game self.old.me self.old.entries } }
+    {
+        self.facts();
+        let chooses = self.may_choose();
+        let no_needs = self.needs.as_slice().is_empty();
+        let count = self.make_all();
+        progress_of(count, chooses, no_needs)
+    }
+
+    /// Adds a choice that is allowed, after which the owner has this track.
+    fn add_choice(&mut self, mv: Move, nonce: Nonce, track: Track)
+        requires chooses { IsTrue (N.may_choose self.old.game self.old.me self.old.entries) }
+        requires legal { M.move_fault self.old.game self.old.me (chosen_track self.old.game self.old.me self.old.entries) mv ≡ None }
+        requires track { track ≡ M.next_track self.old.game (chosen_track self.old.game self.old.me self.old.entries) mv }
+        ensures { self.new ≡ record self.old { entries = self.old.entries ++ Entry.Chose (length (L.chosen self.old.me self.old.entries)) mv nonce ∷ [] } }
+    {
+        self.session.facts();
+        let turn = self.openings.len() as u32;
+        let opening = Opening {
+            player: self.me,
+            turn,
+            mv,
+            nonce,
+        };
+        add(&mut self.entries, Entry::Chose { turn, mv, nonce });
+        add(&mut self.openings, opening);
+        add(&mut self.tracks, track);
+        find_needs(
+            &self.session,
+            self.me,
+            self.entries.as_slice(),
+            self.frames.len() as u32,
+            self.tracks.as_slice(),
+            &mut self.needs,
+        );
+    }
+
+    /// Chooses the move of the next turn, with the nonce that its commitment is made of. It is refused where no move may
+    /// be chosen, and otherwise where the move isn't legal from the track of `choice`; then nothing changes.
+    pub fn choose(&mut self, mv: Move, nonce: Nonce) -> Result<(), OwnFault>
+        ensures fault { fault_of result ≡ N.choice_fault self.old.game self.old.me self.old.entries mv }
+        ensures chosen { OnOk result (self.new ≡ record self.old { entries = self.old.entries ++ Entry.Chose (length (L.chosen self.old.me self.old.entries)) mv nonce ∷ [] }) }
+        ensures refused { OnErr result (self.new ≡ self.old) }
+    {
+        if !self.may_choose() {
+            return Err(OwnFault::NotNow);
+        }
+        let choice = self.choice();
+        match self.judge(&choice.track, &mv) {
+            Err(fault) => Err(OwnFault::Illegal(fault)),
+            Ok(track) => {
+                self.add_choice(mv, nonce, track);
+                Ok(())
+            }
+        }
+    }
+
+    /// The own track after the move, or why the move isn't legal.
+    fn judge(&mut self, track: &Track, mv: &Move) -> Result<Track, MoveFault>
+        requires { track.now ≡ chosen_track self.old.game self.old.me self.old.entries }
+        ensures verdict { result ≡ verdict self.old.game self.old.me track.now mv.now }
+        ensures same { self.new ≡ self.old }
+    {
+        self.session.facts();
+        self.walker.legal(&self.session, self.me, track, mv)
+    }
+
+    /// What the log shows of a player: how many of its turns are resolved, its track after them, and its next place. For
+    /// the peer itself these are its revealed turns, its track after them, and the number of frames that it made.
+    pub fn player(&self, player: PlayerId) -> PlayerView
+        requires { player < players_of self.now.game }
+        ensures { result ≡ V.player_view self.now.game self.now.me self.now.entries player }
+    {
+        self.session.facts();
+        if player == self.me {
+            let turns = self.frames.len() / 2;
+            return PlayerView {
+                turns: turns as u32,
+                track: self.tracks[turns],
+                next: self.frames.len() as u32,
+            };
+        }
+        let stream = other_stream(&self.session, self.me, self.entries.as_slice(), player);
+        PlayerView {
+            turns: stream.resolved,
+            track: stream.track,
+            next: stream.commits + stream.resolved,
+        }
+    }
+}

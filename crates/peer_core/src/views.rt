@@ -1,0 +1,28 @@
+//! What a peer tells of a player and of its next choice.
+
+use definitions::{Track, Turn};
+
+/// What a peer is to choose next: the number of the turn, counted from 0, and the track that its moves so far give.
+#[derive(Clone, Copy, Debug, PartialEq, Eq)]
+pub struct Choice {
+    pub turn: Turn,
+    pub track: Track,
+}
+
+/// What a peer knows of a player: how many of its turns are resolved, its track after them, and the next place of its
+/// stream, counted from 0.
+#[derive(Clone, Copy, Debug, PartialEq, Eq)]
+pub struct PlayerView {
+    pub turns: u32,
+    pub track: Track,
+    pub next: u32,
+}
+
+/// What the log shows of a player's stream: how many commitments are held, how many turns are resolved, and the track
+/// after these.
+#[derive(Clone, Copy)]
+pub(crate) struct Stream {
+    pub commits: u32,
+    pub resolved: u32,
+    pub track: Track,
+}

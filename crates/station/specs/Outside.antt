@@ -1,0 +1,10 @@
+-- What every object of the outside has: a count of faults, and bytes that may be told.
+use Rattle.std.specs.Prelude.{ℕ, ◌+◌, ◌-◌, ◌^◌, ◌≤◌, min, Option, unwrap_or, List, []}
+
+-- The count rose, or it stands at its last value.
+abbrev pub Rose : ℕ → ℕ → Type 0
+Rose before now = min (before + 1) (2 ^ 64 - 1) ≤ now
+
+-- the bytes that are told, and no bytes where none are
+abbrev pub known : Option (List ℕ) → List ℕ
+known told = unwrap_or told []

@@ -1,0 +1,33 @@
+//! Bytes copied into a buffer.
+
+ghost use Rattle.std.specs.Prelude.{◌≡◌, ◌<◌, Some, length, drop};
+ghost use Rattle.station.specs.Pulls.{Copied, PulledAt, TakesWithin};
+ghost use Rattle.station.specs.Memory.{pull_of};
+
+use crate::sources::Pull;
+
+/// Copies as many of the first bytes as fit.
+pub(crate) fn copy_front(from: &[u8], buf: &mut [u8]) -> Pull
+    requires { 0 < length buf.old }
+    ensures within { TakesWithin result buf.new }
+    ensures copied { Copied from.now result buf.new }
+    ensures answer { result ≡ pull_of from.now (length buf.old) }
+{
+    if from.is_empty() {
+        return Pull::Ended;
+    }
+    let count = buf.len().min(from.len());
+    buf[..count].copy_from_slice(&from[..count]);
+    Pull::Took(count)
+}
+
+/// Copies as many of the bytes from that place on as fit.
+pub(crate) fn copy_at(content: &[u8], at: u64, buf: &mut [u8]) -> Pull
+    requires { 0 < length buf.old }
+    ensures within { TakesWithin result buf.new }
+    ensures copied { PulledAt (Some content.now) at result buf.new }
+    ensures answer { result ≡ pull_of (drop at content.now) (length buf.old) }
+{
+    let at = (at as usize).min(content.len());
+    copy_front(&content[at..], buf)
+}

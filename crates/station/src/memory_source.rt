@@ -1,0 +1,61 @@
+//! A source in memory.
+
+ghost use Rattle.std.specs.Prelude.{◌≡◌, ◌<◌, ◌≤◌, length};
+ghost use Rattle.station.specs.Pulls.{Pulled, TakesWithin};
+ghost use Rattle.station.specs.Memory.{unused, source_answer, after_call, is_pull_failed};
+
+use crate::calls::CallPlan;
+use crate::sources::{Pull, Source};
+use crate::sure::SureSource;
+use std::marker::Model;
+
+/// Bytes in memory. It tells what is left, and fails at the calls that it was told to.
+#[derive(Drop)]
+pub struct MemorySource {
+    source: SureSource,
+    plan: CallPlan,
+}
+
+impl Model for MemorySource {
+    ghost use Rattle.station.specs.Plans.{HeldSource};
+
+    ghost Value = { HeldSource };
+
+    ghost view = { λ s. record { left = s.source; plan = s.plan } };
+}
+
+impl MemorySource {
+    /// Has these bytes left. The calls of `read` whose numbers stand in `fails`, counted from 1, fail.
+    pub fn new(bytes: Vec<u8>, fails: Vec<u32>) -> MemorySource
+        ensures { result ≡ record { left = bytes.items; plan = unused fails.items } }
+    {
+        MemorySource {
+            source: SureSource::new(bytes),
+            plan: CallPlan::new(fails),
+        }
+    }
+}
+
+impl Source for MemorySource {
+    ghost use Rattle.std.specs.Prelude.{Some};
+
+    ghost left = { λ s. Some s.left };
+
+    ghost faults = { λ s. s.plan.faults };
+
+    /// Fails exactly at the numbers that it was told, and else takes as many bytes as fit.
+    fn read(&mut self, buf: &mut [u8]) -> Pull
+        requires { 0 < length buf.old }
+        ensures within { TakesWithin result buf.new }
+        ensures bytes { Pulled self.old.left self.new.left result buf.new }
+        ensures later { self.old.plan.faults ≤ self.new.plan.faults }
+        ensures answer { result ≡ source_answer self.old (length buf.old) }
+        ensures counted { self.new.plan ≡ after_call self.old.plan (is_pull_failed result) }
+    {
+        if self.plan.begin() {
+            self.plan.fail();
+            return Pull::Failed;
+        }
+        self.source.read(buf)
+    }
+}

@@ -1,0 +1,37 @@
+//! Bytes to be read.
+
+ghost use Rattle.std.specs.Prelude.{◌≡◌, ◌<◌, ◌≤◌, IsSome, Option, List, ℕ, length};
+ghost use Rattle.station.specs.Outside.{known, Rose};
+ghost use Rattle.station.specs.Pulls.{Pulled, TakesWithin, OnPullFailed, OnPulled};
+
+/// What a source or a shelf answers.
+#[derive(Clone, Copy, Debug, PartialEq, Eq)]
+pub enum Pull {
+    /// So many bytes, at least 1, now stand at the front of the buffer. The rest of the buffer may be anything.
+    Took(usize),
+    /// Nothing is left.
+    Ended,
+    /// The call failed, and the count of faults rose.
+    Failed,
+}
+
+/// Gives bytes from first to last.
+pub trait Source {
+    /// The bytes that are left, where they are told.
+    ghost left: { Self → Option (List ℕ) };
+
+    /// How many calls failed so far. It never falls, and stays at 2^64 - 1 once it is there.
+    ghost faults: { Self → ℕ };
+
+    /// Takes the next bytes that are left, at least one and at most as many as the buffer has room for.
+    fn read(&mut self, buf: &mut [u8]) -> Pull
+        requires { 0 < length buf.old }
+        ensures within { TakesWithin result buf.new }
+        ensures told { IsSome (left self.old) → IsSome (left self.new) }
+        ensures bytes { IsSome (left self.old) → Pulled (known (left self.old)) (known (left self.new)) result buf.new }
+
+        // The count rises exactly where the call fails.
+        ensures later { faults self.old ≤ faults self.new }
+        ensures cause { OnPullFailed result (Rose (faults self.old) (faults self.new)) }
+        ensures steady { OnPulled result (faults self.new ≡ faults self.old) };
+}

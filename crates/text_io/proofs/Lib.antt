@@ -1,0 +1,5 @@
+pub mod FirstLine
+pub mod Writing
+pub mod Pieces
+pub mod Frames
+pub mod Finish

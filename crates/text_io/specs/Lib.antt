@@ -1,0 +1,9 @@
+pub mod Lines
+pub mod Reader
+pub mod Readings
+pub mod Texts
+pub mod Fronts
+pub mod Statuses
+pub mod Frame
+pub mod Turns
+pub mod Ends

@@ -1,0 +1,75 @@
+//! Bytes from a source, one by one, through a buffer.
+
+ghost use Rattle.std.specs.Prelude.{◌≡◌, ◌≤◌, ◌++◌, [], List, ℕ, IsSome};
+ghost use Rattle.station.specs.Outside.{known, Rose};
+ghost use Rattle.text_io.specs.Readings.{GaveByte, OnByteFailed, OnByteRead};
+
+use station::{Pull, Source};
+use std::marker::Model;
+
+/// What a reader of bytes answers.
+#[derive(Clone, Copy, Debug, PartialEq, Eq)]
+pub enum NextByte {
+    /// The next byte.
+    Byte(u8),
+    /// No byte is left.
+    End,
+    /// The source failed. Nothing was lost, and the reader may be called again.
+    Failed,
+}
+
+/// Holds the bytes that were taken from a source and not yet given, at most 1,024. It is used with one source.
+#[derive(Drop)]
+pub struct ByteReader {
+    chunk: [u8; 1024],
+    from: usize,
+    until: usize,
+}
+
+impl Model for ByteReader {
+    ghost use Rattle.std.specs.Prelude.{◌-◌, ◌≤◌, List, ℕ, take, drop};
+
+    ghost Value = { List ℕ };
+
+    ghost view = { λ r. drop r.from (take r.until r.chunk) };
+
+    ghost invariant = { λ r. (r.from ≤ r.until) × (r.until ≤ 1024) };
+}
+
+impl ByteReader {
+    /// Holds nothing yet.
+    pub fn new() -> ByteReader
+        ensures { result ≡ [] }
+    {
+        ByteReader {
+            chunk: [0; 1024],
+            from: 0,
+            until: 0,
+        }
+    }
+
+    /// The next byte of those held and of those that the source has left.
+    pub fn next<I: Source>(&mut self, input: &mut I) -> NextByte
+        ensures told { IsSome (I.left input.old) → IsSome (I.left input.new) }
+        ensures byte { IsSome (I.left input.old) → GaveByte (self.old ++ known (I.left input.old)) (self.new ++ known (I.left input.new)) result }
+
+        // A fault is answered exactly where the source's count rose.
+        ensures later { I.faults input.old ≤ I.faults input.new }
+        ensures cause { OnByteFailed result (Rose (I.faults input.old) (I.faults input.new)) }
+        ensures steady { OnByteRead result (I.faults input.new ≡ I.faults input.old) }
+    {
+        if self.from == self.until {
+            match input.read(&mut self.chunk) {
+                Pull::Failed => return NextByte::Failed,
+                Pull::Ended => return NextByte::End,
+                Pull::Took(count) => {
+                    self.from = 0;
+                    self.until = count;
+                }
+            }
+        }
+        let byte = self.chunk[self.from];
+        self.from += 1;
+        NextByte::Byte(byte)
+    }
+}

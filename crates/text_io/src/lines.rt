@@ -1,0 +1,110 @@
+//! Lines from a source.
+
+ghost use Rattle.std.specs.Prelude.{◌≡◌, ◌≤◌, ◌++◌, [], List, ℕ, length, IsSome};
+ghost use Rattle.station.specs.Outside.{known, Rose};
+ghost use Rattle.text_io.specs.Readings.{GaveLine, OnLineFailed, OnLineRead};
+
+use crate::bytes::{ByteReader, NextByte};
+use arrayvec::ArrayVec;
+use station::Source;
+use std::marker::Model;
+
+/// What a reader of lines answers.
+#[derive(Clone, Copy, Debug, PartialEq, Eq)]
+pub enum NextLine {
+    /// There is a line, which `LineReader::line` gives.
+    Line,
+    /// The next line has more than 1,024 bytes without its LF. The reader stands within that line then,
+    /// and nothing is said of what it reads next.
+    TooLong,
+    /// No byte is left.
+    End,
+    /// The source failed. What was read of the line is what `LineReader::line` gives.
+    Failed,
+}
+
+/// Gives the lines of a source, each without its LF, which the last line may lack. It is used with one source.
+#[derive(Drop)]
+pub struct LineReader {
+    bytes: ByteReader,
+    line: ArrayVec<u8, 1024>,
+}
+
+impl Model for LineReader {
+    ghost use Rattle.text_io.specs.Reader.{Reader};
+
+    ghost Value = { Reader };
+
+    ghost view = { λ r. record { line = r.line.items; pending = r.bytes } };
+}
+
+impl LineReader {
+    /// Has read nothing yet.
+    pub fn new() -> LineReader
+        ensures { result ≡ record { line = []; pending = [] } }
+    {
+        LineReader {
+            bytes: ByteReader::new(),
+            line: ArrayVec::new(),
+        }
+    }
+
+    /// The line that the last call of `next` read, at most 1,024 bytes.
+    pub fn line(&self) -> &[u8]
+        ensures line { result.now ≡ self.now.line }
+        ensures short { length result.now ≤ 1024 }
+    {
+        self.line.as_slice()
+    }
+
+    /// Reads the next line of the bytes held and of those that the source has left.
+    pub fn next<I: Source>(&mut self, input: &mut I) -> NextLine
+        ensures told { IsSome (I.left input.old) → IsSome (I.left input.new) }
+        ensures line { IsSome (I.left input.old) → GaveLine (self.old.pending ++ known (I.left input.old)) (self.new.pending ++ known (I.left input.new)) result self.new.line }
+        ensures short { length self.new.line ≤ 1024 }
+
+        // A fault is answered exactly where the source's count rose.
+        ensures later { I.faults input.old ≤ I.faults input.new }
+        ensures cause { OnLineFailed result (Rose (I.faults input.old) (I.faults input.new)) }
+        ensures steady { OnLineRead result (I.faults input.new ≡ I.faults input.old) }
+    {
+        take_line(&mut self.bytes, &mut self.line, input)
+    }
+}
+
+/// Takes bytes into the line until its LF or the end.
+fn take_line<I: Source>(
+    bytes: &mut ByteReader,
+    line: &mut ArrayVec<u8, 1024>,
+    input: &mut I,
+) -> NextLine
+    ensures told { IsSome (I.left input.old) → IsSome (I.left input.new) }
+    ensures line { IsSome (I.left input.old) → GaveLine (bytes.old ++ known (I.left input.old)) (bytes.new ++ known (I.left input.new)) result line.new.items }
+    ensures short { length line.new.items ≤ 1024 }
+    ensures later { I.faults input.old ≤ I.faults input.new }
+    ensures cause { OnLineFailed result (Rose (I.faults input.old) (I.faults input.new)) }
+    ensures steady { OnLineRead result (I.faults input.new ≡ I.faults input.old) }
+{
+    line.clear();
+    'bytes: loop {
+        match bytes.next(input) {
+            NextByte::Failed => return NextLine::Failed,
+            NextByte::End => {
+                return if line.is_empty() {
+                    NextLine::End
+                } else {
+                    NextLine::Line
+                };
+            }
+            NextByte::Byte(byte) => {
+                if byte == b'\n' {
+                    return NextLine::Line;
+                }
+                if line.is_full() {
+                    return NextLine::TooLong;
+                }
+                line.push(byte);
+            }
+        }
+    }
+}
