@@ -1,22 +1,31 @@
 //! Each row's text and status.
 
-use crate::rows::ROWS;
+use crate::received::RECEIVED;
+use crate::rows::{ROWS, Row};
 use crate::runs::{NONE, run_drive};
+use std::alloc::{AllocError, Global};
 use std::test::Fail;
 
+/// Whether `drive` prints the row's text and ends with its status.
+fn agrees(alloc: Global, row: &Row) -> Result<bool, AllocError> {
+    let (status, text) = run_drive(alloc, b"s", row.player, row.session, row.script, &NONE)?;
+    Ok(status.code() == row.status && text.as_slice() == row.text)
+}
+
 #[test]
-fn rows_print_their_texts(rt: HostRuntime) -> Result<(), Fail> {
+fn choices_print_their_texts(rt: HostRuntime) -> Result<(), Fail> {
     for row in &ROWS {
-        let (status, text) = run_drive(
-            rt.alloc(),
-            b"s",
-            row.player,
-            row.session,
-            row.script,
-            &NONE,
-        )?;
-        assert_eq!(rt; status.code(), row.status, "{}", row.name);
-        assert!(rt; text.as_slice() == row.text, "{}", row.name);
+        let agrees = agrees(rt.alloc(), row)?;
+        assert!(rt; agrees, "{}", row.name);
+    }
+    Ok(())
+}
+
+#[test]
+fn frames_that_come_print_their_texts(rt: HostRuntime) -> Result<(), Fail> {
+    for row in &RECEIVED {
+        let agrees = agrees(rt.alloc(), row)?;
+        assert!(rt; agrees, "{}", row.name);
     }
     Ok(())
 }

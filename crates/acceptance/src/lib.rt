@@ -9,6 +9,10 @@ mod drives;
 #[cfg(test)]
 mod faults;
 #[cfg(test)]
+mod matches;
+#[cfg(test)]
+mod received;
+#[cfg(test)]
 mod refusals;
 #[cfg(test)]
 mod rows;

@@ -47,7 +47,7 @@ pub fn run_words(
         Vec::from_slice(alloc, script)?,
         Vec::from_slice(alloc, fails.source)?,
     );
-    let mut out = MemorySink::new(alloc, 65_536, Vec::from_slice(alloc, fails.sink)?)?;
+    let mut out = MemorySink::new(alloc, 131_072, Vec::from_slice(alloc, fails.sink)?)?;
     let status = run(alloc, words, &mut input, &mut out, &mut shelf);
     Ok((status, Vec::from_slice(alloc, out.bytes())?))
 }

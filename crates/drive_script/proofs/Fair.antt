@@ -1,43 +1,64 @@
 -- Fair: the log of a peer that is driven is honest, and its reveals stand behind the commitments of all that meet.
-use Rattle.std.proofs.Common.{List, [], subst, ℕ, ◌+◌, ◌∷◌, ◌≤◌}
+use Rattle.std.proofs.Common.{Bool, List, [], false, subst, true, ℕ, ◌+◌, ◌∷◌, ◌≤◌}
 use Rattle.definitions.specs.declared.logs.Entry.{Entry}
 use Rattle.definitions.specs.declared.logs.Entry.TheVariants.{Got}
-use Rattle.definitions.specs.declared.frames.TurnFrame.TheVariants.{Commit}
+use Rattle.definitions.specs.declared.frames.TurnFrame.{TurnFrame}
+use Rattle.definitions.specs.declared.frames.TurnFrame.TheVariants.{Commit, Reveal}
 use Rattle.definitions.specs.World.{Game}
+use Rattle.std.specs.Prelude.{if◌then◌else◌}
+use Rattle.definitions.specs.Findings.{is_clean}
 use Rattle.definitions.specs.Honest.{IsHonest}
+use Rattle.definitions.specs.Advance.{advance}
+use Rattle.text_io.specs.Lines.{lines_of}
 use Rattle.definition_laws.proofs.Advances.{advance_honest}
-use Rattle.definition_laws.proofs.Behind.{reveal_behind_received}
+use Rattle.definition_laws.proofs.Behind.{reveal_behind_received, resolved_received}
+use Rattle.definition_laws.proofs.WellFormed.{honest_well_formed}
+use Rattle.definition_laws.specs.Members.{Has}
 use Rattle.definition_laws.proofs.Members.{Has_split}
-use Rattle.definition_laws.proofs.Stepping.{choice_honest}
+use Rattle.definition_laws.proofs.Stepping.{choice_honest, got_honest}
 use Rattle.drive_script.specs.declared.grammar.DriveLine.{DriveLine}
 use Rattle.drive_script.specs.declared.grammar.DriveLine.TheVariants.{Bad, Choose, Nothing}
 use Rattle.drive_script.specs.declared.grammar.DriveLine.TheVariants as D
-use Rattle.drive_script.specs.Drive.{drive_log, log_behind, log_by, log_from, said_behind}
-use Rattle.drive_script.specs.FairPlay.{IsFairPlay}
+use Rattle.drive_script.specs.Drive.{drive_log, log_behind, log_by, log_from, log_on, said_behind}
+use Rattle.drive_script.specs.FairPlay.{IsFairPlay, IsGotIn}
 
 behind_honest : (game : Game) (me : ℕ) (h : List Entry) (s : DriveLine) → 1 ≤ game.ahead → IsHonest game me h → IsHonest game me (log_behind game me h s)
 unfolding log_behind
 behind_honest game me h Nothing a i = i
 behind_honest game me h (Choose mv nonce) a i = choice_honest game me h mv nonce a i
-behind_honest game me h (D.Got q f) a i = i
+behind_honest game me h (D.Got q f) a i = got_honest game me q h f i
 behind_honest game me h Bad a i = i
 
 by_honest : (game : Game) (me : ℕ) (now last : List Entry) (s : DriveLine) → IsHonest game me now → IsHonest game me last → IsHonest game me (log_by s now last)
 by_honest game me now last Nothing i j = j
 by_honest game me now last (Choose mv nonce) i j = j
-by_honest game me now last (D.Got q f) i j = i
+by_honest game me now last (D.Got q f) i j = j
 by_honest game me now last Bad i j = i
+
+on_honest : (game : Game) (me : ℕ) (now last : List Entry) → IsHonest game me now → IsHonest game me last → IsHonest game me (log_on game now last)
+on_honest game me now last i j = go (is_clean game now)
+  where
+    go : (b : Bool) → IsHonest game me (if b then last else now)
+    go true = j
+    go false = i
 
 from_honest : (game : Game) (me : ℕ) (h : List Entry) (n : ℕ) (lines : List (List ℕ)) → 1 ≤ game.ahead → IsHonest game me h → IsHonest game me (log_from game me h n lines)
 from_honest game me h n [] a i = i
 from_honest game me h n (line ∷ lines) a i =
-    by_honest game me h (log_from game me (log_behind game me h (said_behind n line)) (n + 1) lines) (said_behind n line) i
-    (from_honest game me (log_behind game me h (said_behind n line)) (n + 1) lines a (behind_honest game me h (said_behind n line) a i))
+    let next = log_behind game me h (said_behind n line) in
+    let j = behind_honest game me h (said_behind n line) a i in
+    by_honest game me h (log_on game next (log_from game me next (n + 1) lines)) (said_behind n line) i
+    (on_honest game me next (log_from game me next (n + 1) lines) j (from_honest game me next (n + 1) lines a j))
 
 -- a log that begins honest ends so
 pub log_honest : (game : Game) (me : ℕ) (first : List Entry) (script : List ℕ) → 1 ≤ game.ahead → IsHonest game me first → IsHonest game me (drive_log game me first script)
 unfolding drive_log
-log_honest game me first script a i = from_honest game me _ 0 _ a (advance_honest game me first i)
+log_honest game me first script a i =
+    let j = advance_honest game me first i in
+    on_honest game me (advance game me first) (log_from game me (advance game me first) 0 (lines_of script)) j (from_honest game me (advance game me first) 0 (lines_of script) a j)
+
+got_in : (log : List Entry) (q : ℕ) (f : TurnFrame) → Has log (Got q f) → IsGotIn log q f
+got_in log q f h = let s = Has_split log (Got q f) h in record { before = s.0; behind = s.1; log_is = s.2 }
 
 -- an honest log shows fair play
 pub honest_fair : (game : Game) (me : ℕ) (log : List Entry) → 1 ≤ game.ahead → IsHonest game me log → IsFairPlay game me log
@@ -46,8 +67,10 @@ honest_fair game me log a i = record {
   behind = λ front back q t mv nonce e l other met.
       let j = subst (λ (h : List Entry). IsHonest game me h) e i in
       let b = reveal_behind_received game me t q front back mv nonce a j l other met in
-      let s = Has_split front (Got q (Commit q t b.0)) b.2 in
-      record { digest = b.0; before = s.0; behind = s.1; held_is = b.1; front_is = s.2 };
+      record { digest = b.0; held_is = b.1; received = got_in front q (Commit q t b.0) b.2 };
+  opened = λ q t mv other e.
+      let r = resolved_received game me q t log mv (honest_well_formed game me log a i) other e in
+      record { digest = r.0; nonce = r.1; held_is = r.2; opens = r.5; committed = got_in log q (Commit q t r.0) r.3; revealed = got_in log q (Reveal q t mv r.1) r.4 };
 }
 
 pub drive_fair : (game : Game) (me : ℕ) (first : List Entry) (script : List ℕ) → 1 ≤ game.ahead → IsHonest game me first → IsFairPlay game me (drive_log game me first script)

@@ -1,6 +1,6 @@
 -- Hearings: the answer from a line on, by what the line says.
 use Rattle.std.proofs.Common.{Bool, List, [], ap, append-nil, append_assoc, false, length, nat_lt, refl, subst, sym, true, ℕ, ◌+◌, ◌++◌, ◌<◌, ◌∙◌, ◌∷◌, ◌≡◌}
-use Rattle.std.specs.Prelude.{nat_le, ◌||◌, if◌then◌else◌}
+use Rattle.std.specs.Prelude.{nat_le, not, ◌||◌, if◌then◌else◌}
 use Rattle.std.proofs.lemmas.Bool.{lt-ltb}
 use Rattle.definitions.specs.declared.world.Move.{Move}
 use Rattle.definitions.specs.declared.openings.Nonce.{Nonce}
@@ -8,39 +8,67 @@ use Rattle.definitions.specs.declared.logs.Entry.{Entry}
 use Rattle.definitions.specs.World.{Game}
 use Rattle.definitions.specs.Logs.{chosen}
 use Rattle.definitions.specs.Needs.{choice_fault}
-use Rattle.definitions.specs.Steps.{after_choice}
+use Rattle.definitions.specs.declared.frames.TurnFrame.{TurnFrame}
+use Rattle.definitions.specs.Findings.{is_clean}
+use Rattle.definitions.specs.Answers.{got_answer, place_of}
+use Rattle.definitions.specs.Steps.{after_choice, after_got}
 use Rattle.text_io.specs.Frame.{Answer, Ended, Onward, after_text, bare_answer}
 use Rattle.text_io.specs.Lines.{StartsLonger, lines_of}
 use Rattle.text_io.specs.Texts.{Between}
-use Rattle.text_io.specs.declared.statuses.Status.TheVariants.{BadLine, Done}
+use Rattle.text_io.specs.declared.statuses.Status.TheVariants.{BadLine, Caught, Done}
 use Rattle.text_io.specs.declared.statuses.TextName.TheVariants.{Script}
 use Rattle.text_io.proofs.Frames.{onward_start}
 use Rattle.text_io.proofs.Writing.{grew}
 use Rattle.drive_script.specs.declared.grammar.DriveLine.{DriveLine}
-use Rattle.drive_script.specs.declared.grammar.DriveLine.TheVariants.{Bad, Nothing, Choose}
-use Rattle.drive_script.specs.Drive.{answer_by, drive_from, log_behind, said_behind, text_behind}
-use Rattle.drive_script.specs.Lines.{added_text, choice_text, end_text}
+use Rattle.drive_script.specs.declared.grammar.DriveLine.TheVariants.{Bad, Nothing, Choose, Got}
+use Rattle.drive_script.specs.Drive.{answer_by, drive_from, going_on, log_behind, said_behind, text_behind}
+use Rattle.drive_script.specs.Lines.{added_text, choice_text, got_text, end_text}
 use Rattle.drive_script.specs.Grammar.{line_of}
 use Rattle.drive_script.proofs.Pieces.{wrote_first}
 
+-- the answer from a log on that has no finding, and from one that has
+pub goes_on : (game : Game) (me : ℕ) (h : List Entry) (rest : Answer) → is_clean game h ≡ true → going_on game me h rest ≡ rest
+goes_on game me h rest c = rw c refl
+
+pub comes_to_end : (game : Game) (me : ℕ) (h : List Entry) (rest : Answer) → is_clean game h ≡ false → going_on game me h rest ≡ record { body = end_text game me h; status = Caught }
+comes_to_end game me h rest c = rw c refl
+
+-- the answer from a log on to lines that come behind n lines
+abbrev pub answer_from : Game → ℕ → List Entry → ℕ → List (List ℕ) → Answer
+answer_from game me h n lines = going_on game me h (drive_from game me h n lines)
+
 -- the answer from a line on that says this
-from_said : (game : Game) (me : ℕ) (h : List Entry) (n : ℕ) (line : List ℕ) (lines : List (List ℕ)) (s : DriveLine) → s ≡ said_behind n line →
-    drive_from game me h n (line ∷ lines) ≡ answer_by s (n + 1) (text_behind game me h s) (drive_from game me (log_behind game me h s) (n + 1) lines)
-from_said game me h n line lines s e =
-    ap (λ (s : DriveLine). answer_by s (n + 1) (text_behind game me h s) (drive_from game me (log_behind game me h s) (n + 1) lines)) (sym e)
+from_said : (game : Game) (me : ℕ) (h : List Entry) (n : ℕ) (line : List ℕ) (lines : List (List ℕ)) (s : DriveLine) → is_clean game h ≡ true → s ≡ said_behind n line →
+    answer_from game me h n (line ∷ lines) ≡ answer_by s (n + 1) (text_behind game me h s) (answer_from game me (log_behind game me h s) (n + 1) lines)
+from_said game me h n line lines s c e =
+    goes_on game me h (drive_from game me h n (line ∷ lines)) c ∙
+    ap (λ (s : DriveLine). answer_by s (n + 1) (text_behind game me h s) (answer_from game me (log_behind game me h s) (n + 1) lines)) (sym e)
 
 -- a line that is passed over
-pub passed_over : (game : Game) (me : ℕ) (h : List Entry) (n : ℕ) (line : List ℕ) (lines : List (List ℕ)) → Nothing ≡ said_behind n line →
-    drive_from game me h n (line ∷ lines) ≡ drive_from game me h (n + 1) lines
+pub passed_over : (game : Game) (me : ℕ) (h : List Entry) (n : ℕ) (line : List ℕ) (lines : List (List ℕ)) → is_clean game h ≡ true → Nothing ≡ said_behind n line →
+    answer_from game me h n (line ∷ lines) ≡ answer_from game me h (n + 1) lines
 unfolding text_behind log_behind
-passed_over game me h n line lines e = from_said game me h n line lines Nothing e
+passed_over game me h n line lines c e = from_said game me h n line lines Nothing c e
 
 -- a line that chooses
-pub answered : (game : Game) (me : ℕ) (h : List Entry) (n : ℕ) (line : List ℕ) (lines : List (List ℕ)) (mv : Move) (nonce : Nonce) → Choose mv nonce ≡ said_behind n line →
-    drive_from game me h n (line ∷ lines) ≡
-    after_text (choice_text (length (chosen me h)) (choice_fault game me h mv) ++ added_text (length h) (after_choice game me h mv nonce)) (drive_from game me (after_choice game me h mv nonce) (n + 1) lines)
+pub answered : (game : Game) (me : ℕ) (h : List Entry) (n : ℕ) (line : List ℕ) (lines : List (List ℕ)) (mv : Move) (nonce : Nonce) → is_clean game h ≡ true → Choose mv nonce ≡ said_behind n line →
+    answer_from game me h n (line ∷ lines) ≡
+    after_text (choice_text (length (chosen me h)) (choice_fault game me h mv) ++ added_text (length h) (after_choice game me h mv nonce)) (answer_from game me (after_choice game me h mv nonce) (n + 1) lines)
 unfolding text_behind log_behind
-answered game me h n line lines mv nonce e = from_said game me h n line lines (Choose mv nonce) e
+answered game me h n line lines mv nonce c e = from_said game me h n line lines (Choose mv nonce) c e
+
+-- a line that brings a frame
+pub received : (game : Game) (me : ℕ) (h : List Entry) (n : ℕ) (line : List ℕ) (lines : List (List ℕ)) (q : ℕ) (f : TurnFrame) → is_clean game h ≡ true → Got q f ≡ said_behind n line →
+    answer_from game me h n (line ∷ lines) ≡
+    after_text (got_text q (place_of game f) (got_answer game me h q f) ++ added_text (length h) (after_got game me h q f)) (answer_from game me (after_got game me h q f) (n + 1) lines)
+unfolding text_behind log_behind
+received game me h n line lines q f c e = from_said game me h n line lines (Got q f) c e
+
+-- a line in no grammar
+pub refused : (game : Game) (me : ℕ) (h : List Entry) (n : ℕ) (line : List ℕ) (lines : List (List ℕ)) → is_clean game h ≡ true → Bad ≡ said_behind n line →
+    answer_from game me h n (line ∷ lines) ≡ bare_answer (BadLine Script (n + 1))
+unfolding text_behind log_behind
+refused game me h n line lines c e = from_said game me h n line lines Bad c e
 
 -- a line of more than 1,024 bytes
 overlong : (n : ℕ) (line : List ℕ) → 1024 < length line → said_behind n line ≡ Bad
@@ -51,18 +79,18 @@ overlong n line l = go (nat_lt 1024 (length line)) (lt-ltb 1024 (length line) l)
     go true e = refl
     go false e = cc
 
-pub too_long : (game : Game) (me : ℕ) (h : List Entry) (n : ℕ) (lines : List (List ℕ)) → StartsLonger 1024 lines → drive_from game me h n lines ≡ bare_answer (BadLine Script (n + 1))
-unfolding text_behind log_behind
-too_long game me h n [] l = absurd l
-too_long game me h n (line ∷ lines) l = from_said game me h n line lines Bad (sym (overlong n line l))
+pub too_long : (game : Game) (me : ℕ) (h : List Entry) (n : ℕ) (lines : List (List ℕ)) → is_clean game h ≡ true → StartsLonger 1024 lines →
+    answer_from game me h n lines ≡ bare_answer (BadLine Script (n + 1))
+too_long game me h n [] c l = absurd l
+too_long game me h n (line ∷ lines) c l = refused game me h n line lines c (sym (overlong n line l))
 
 -- no line is left
-pub ended : (game : Game) (me : ℕ) (h : List Entry) (n : ℕ) (text : List ℕ) → text ≡ [] → drive_from game me h n (lines_of text) ≡ record { body = end_text game me h; status = Done }
-ended game me h n text e = ap (λ (t : List ℕ). drive_from game me h n (lines_of t)) e
+pub ended : (game : Game) (me : ℕ) (h : List Entry) (n : ℕ) (text : List ℕ) → is_clean game h ≡ true → text ≡ [] → answer_from game me h n (lines_of text) ≡ record { body = end_text game me h; status = Done }
+ended game me h n text c e = goes_on game me h (drive_from game me h n (lines_of text)) c ∙ ap (λ (t : List ℕ). drive_from game me h n (lines_of t)) e
 
 -- the line and those behind it
-pub next : (game : Game) (me : ℕ) (h : List Entry) (n : ℕ) (line : List ℕ) (lines all : List (List ℕ)) → all ≡ line ∷ lines → drive_from game me h n all ≡ drive_from game me h n (line ∷ lines)
-next game me h n line lines all e = ap (drive_from game me h n) e
+pub next : (game : Game) (me : ℕ) (h : List Entry) (n : ℕ) (line : List ℕ) (lines all : List (List ℕ)) → all ≡ line ∷ lines → answer_from game me h n all ≡ answer_from game me h n (line ∷ lines)
+next game me h n line lines all e = ap (answer_from game me h n) e
 
 -- nothing was written, and the whole answer is the rest
 pub onward_same : (a : List ℕ) (p q : Answer) → p ≡ q → Onward a p a q
@@ -85,6 +113,15 @@ between_text a b t p q e w = let F : Answer → Type 0 = λ r. Between a r.body 
 -- a line of no grammar ends the run, and nothing was written
 pub bad_ends : (a : List ℕ) (p : Answer) (n : ℕ) → p ≡ bare_answer (BadLine Script n) → Ended a a p (BadLine Script n)
 bad_ends a p n e = (sym (append-nil a) ∙ ap (λ (r : Answer). a ++ r.body) (sym e), ap (λ (r : Answer). r.status) (sym e))
+
+-- a log has no finding where its peer tells of none, and has one where it tells of it
+pub told_none : (b clean : Bool) → b ≡ not clean → b ≡ false → clean ≡ true
+told_none b true e f = refl
+told_none b false e f = cc
+
+pub told_one : (b clean : Bool) → b ≡ not clean → b ≡ true → clean ≡ false
+told_one b false e f = refl
+told_one b true e f = cc
 
 -- where nothing is pending or left, nothing is left
 pub none_left : (a b : List ℕ) → a ++ b ≡ [] → b ≡ []

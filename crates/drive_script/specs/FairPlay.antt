@@ -3,25 +3,42 @@ use Rattle.std.specs.Prelude.{◌≡◌, ℕ, ◌<◌, List, ◌∷◌, ◌++◌
 use Rattle.definitions.specs.declared.world.Move.{Move}
 use Rattle.definitions.specs.declared.openings.Nonce.{Nonce}
 use Rattle.definitions.specs.declared.openings.Digest.{Digest}
+use Rattle.definitions.specs.declared.frames.TurnFrame.{TurnFrame}
 use Rattle.definitions.specs.declared.frames.TurnFrame.TheVariants.{Commit, Reveal}
 use Rattle.definitions.specs.declared.logs.Entry.{Entry}
 use Rattle.definitions.specs.declared.logs.Entry.TheVariants.{Got, Made}
 use Rattle.definitions.specs.World.{Game, players_of}
-use Rattle.definitions.specs.Held.{held}
+use Rattle.definitions.specs.Openings.{commitment}
+use Rattle.definitions.specs.Held.{held, resolved}
 use Rattle.definitions.specs.Meets.{meets}
 use Rattle.definitions.specs.Honest.{IsHonest}
 
--- among these entries is the one that brought the player's commitment to the turn of which the digest is held
-pub record IsCommittedBy (game : Game) (me : ℕ) (front : List Entry) (q t : ℕ) : Type 0 where
-  pub digest : Digest
+-- among these entries is the one that brought the frame from the player
+pub record IsGotIn (log : List Entry) (q : ℕ) (f : TurnFrame) : Type 0 where
   pub before : List Entry
   pub behind : List Entry
-  pub held_is : held game me front q t ≡ Some digest
-  pub front_is : front ≡ before ++ Got q (Commit q t digest) ∷ behind
+  pub log_is : log ≡ before ++ Got q f ∷ behind
 
--- each entry was allowed after those before it, and each reveal stands behind a received commitment of every other player
--- whose dilated sphere met the owner's when the reveal was made
+-- the player's commitment to the turn, of which the digest is held, was received from it
+pub record IsCommittedBy (game : Game) (me : ℕ) (log : List Entry) (q t : ℕ) : Type 0 where
+  pub digest : Digest
+  pub held_is : held game me log q t ≡ Some digest
+  pub received : IsGotIn log q (Commit q t digest)
+
+-- the move of the player's turn opens the digest held: it is the SHA-256 digest of the opening with this move and a nonce, and
+-- both the commitment and the reveal that show this came from the player
+pub record IsOpenedBy (game : Game) (me : ℕ) (log : List Entry) (q t : ℕ) (mv : Move) : Type 0 where
+  pub digest : Digest
+  pub nonce : Nonce
+  pub held_is : held game me log q t ≡ Some digest
+  pub opens : digest ≡ commitment game.id (record { player = q; turn = t; mv = mv; nonce = nonce })
+  pub committed : IsGotIn log q (Commit q t digest)
+  pub revealed : IsGotIn log q (Reveal q t mv nonce)
+
+-- Each entry was allowed after those before it. Each reveal made stands behind a received commitment of every other player
+-- whose dilated sphere met the owner's when the reveal was made. Each move accepted of another player opens the digest held.
 pub record IsFairPlay (game : Game) (me : ℕ) (log : List Entry) : Type 0 where
   pub honest : IsHonest game me log
   pub behind : (front back : List Entry) (q t : ℕ) (mv : Move) (nonce : Nonce) → log ≡ front ++ Made (Reveal me t mv nonce) ∷ back →
       q < players_of game → (q ≡ me → ⊥) → IsTrue (meets game me front q t) → IsCommittedBy game me front q t
+  pub opened : (q t : ℕ) (mv : Move) → (q ≡ me → ⊥) → resolved game me log q t ≡ Some mv → IsOpenedBy game me log q t mv

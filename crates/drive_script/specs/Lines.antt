@@ -1,5 +1,5 @@
 -- Lines: the printed lines of a peer that is driven.
-use Rattle.std.specs.Prelude.{ℕ, List, [], ◌∷◌, ◌++◌, length, drop, flat_map, Option, Some, None, codes, decimal, if◌then◌else◌}
+use Rattle.std.specs.Prelude.{ℕ, not, List, [], ◌∷◌, ◌++◌, length, drop, flat_map, Option, Some, None, codes, decimal, if◌then◌else◌}
 use Rattle.std.specs.List.{range_with_len}
 use Rattle.hex.specs.Hex.{encode_lower}
 use Rattle.definitions.specs.declared.world.MoveFault.{MoveFault}
@@ -11,10 +11,18 @@ use Rattle.definitions.specs.declared.frames.What.TheVariants.{Commit, Reveal}
 use Rattle.definitions.specs.declared.answers.Need.{Need}
 use Rattle.definitions.specs.declared.answers.OwnFault.{OwnFault}
 use Rattle.definitions.specs.declared.answers.OwnFault.TheVariants.{NotNow, Illegal}
+use Rattle.definitions.specs.declared.findings.Kind.{Kind}
+use Rattle.definitions.specs.declared.findings.Kind.TheVariants.{TwoCommits, BadOpening, Collision}
+use Rattle.definitions.specs.declared.findings.Kind.TheVariants as K
+use Rattle.definitions.specs.declared.findings.Finding.{Finding}
+use Rattle.definitions.specs.declared.answers.GotAnswer.{GotAnswer}
+use Rattle.definitions.specs.declared.answers.GotAnswer.TheVariants.{Taken, Stashed, Same, Far, Foreign, Closed}
+use Rattle.definitions.specs.declared.answers.GotAnswer.TheVariants as G
 use Rattle.definitions.specs.declared.logs.Entry.{Entry}
 use Rattle.definitions.specs.declared.logs.Entry.TheVariants.{Chose, Made, Got}
 use Rattle.definitions.specs.World.{Game, players_of}
 use Rattle.definitions.specs.Logs.{chosen}
+use Rattle.definitions.specs.Findings.{is_clean}
 use Rattle.definitions.specs.Needs.{needs, may_choose}
 use Rattle.commitment.specs.Spelling.{frame_bytes}
 use Rattle.peer_core.specs.declared.views.PlayerView.{PlayerView}
@@ -34,6 +42,39 @@ unfoldable pub choice_text : (turn : ℕ) → Option OwnFault → List ℕ
 choice_text turn None = codes "chosen " ++ decimal turn ++ codes "\n"
 choice_text turn (Some NotNow) = codes "not now\n"
 choice_text turn (Some (Illegal fault)) = codes "illegal " ++ fault_name fault ++ codes "\n"
+
+-- the name of a kind of finding
+abbrev pub kind_name : Kind → List ℕ
+kind_name TwoCommits = codes "two-commits"
+kind_name BadOpening = codes "bad-opening"
+kind_name Collision = codes "collision"
+kind_name K.Illegal = codes "illegal"
+
+-- what is written about a finding
+unfoldable pub caught_text : Finding → List ℕ
+caught_text f = codes "caught " ++ decimal f.player ++ codes " " ++ decimal f.turn ++ codes " " ++ kind_name f.kind ++ codes "\n"
+
+-- what is written about a finding, if there is one
+abbrev pub found_text : Option Finding → List ℕ
+found_text None = []
+found_text (Some f) = caught_text f
+
+-- what is written about a frame: this, from whom it came, and its place
+unfoldable pub taken_text : List ℕ → (q place : ℕ) → List ℕ
+taken_text word q place = word ++ decimal q ++ codes " " ++ decimal place ++ codes "\n"
+
+unfoldable pub foreign_text : (q : ℕ) → List ℕ
+foreign_text q = codes "foreign " ++ decimal q ++ codes "\n"
+
+-- what is written about a frame of this place that came from q, by the peer's answer; behind a finding no frame comes
+abbrev pub got_text : (q place : ℕ) → GotAnswer → List ℕ
+got_text q place Taken = taken_text (codes "taken ") q place
+got_text q place Stashed = taken_text (codes "stashed ") q place
+got_text q place Same = taken_text (codes "same ") q place
+got_text q place Far = taken_text (codes "far ") q place
+got_text q place Foreign = foreign_text q
+got_text q place (G.Caught f) = caught_text f
+got_text q place Closed = []
 
 -- the word for one of a turn's two frames
 abbrev pub what_name : What → List ℕ
@@ -71,9 +112,9 @@ needs_text (n ∷ ns) = need_text n ++ flat_map need_text ns
 unfoldable pub due_text : (turn : ℕ) → List ℕ
 due_text turn = codes "choose " ++ decimal turn ++ codes "\n"
 
--- how the log's owner stands: it may choose, or it waits, or it is done
+-- how the log's owner stands: it may choose, or it waits, or it is done; nothing where the log has a finding
 unfoldable pub stand_text : Game → ℕ → List Entry → List ℕ
-stand_text game me h = if may_choose game me h then due_text (length (chosen me h)) else needs_text (needs game me h)
+stand_text game me h = if not (is_clean game h) then [] else if may_choose game me h then due_text (length (chosen me h)) else needs_text (needs game me h)
 
 -- what is written about a player
 unfoldable pub player_text : ℕ → PlayerView → List ℕ

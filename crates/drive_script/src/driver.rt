@@ -1,16 +1,19 @@
 //! A peer that is driven by a script, and what becomes of the script's lines.
 
-ghost use Rattle.std.specs.Prelude.{◌≡◌, ◌<◌, ◌≤◌, ◌+◌, ◌∷◌, List, ℕ, length};
+ghost use Rattle.std.specs.Prelude.{◌≡◌, ◌<◌, ◌≤◌, ◌+◌, ◌∷◌, List, ℕ, length, IsTrue};
 ghost use Rattle.definitions.specs.Logs.{chosen};
 ghost use Rattle.definitions.specs.Advance.{advance};
 ghost use Rattle.definitions.specs.Needs.{choice_fault};
-ghost use Rattle.definitions.specs.Steps.{after_choice};
+ghost use Rattle.definitions.specs.Findings.{is_clean};
+ghost use Rattle.definitions.specs.Answers.{got_answer, place_of};
+ghost use Rattle.definitions.specs.Steps.{after_choice, after_got};
 ghost use Rattle.drive_script.specs.Drive.{said_behind};
+ghost use Rattle.drive_script.specs.Telling.{is_logged};
 ghost use Rattle.drive_script.specs.Hearing.{driven_from, AnswersBy, Counts, OnTaken};
 
 use crate::grammar::{DriveLine, read_line};
-use definitions::{Move, Nonce, OwnFault, Turn};
-use peer_core::Peer;
+use definitions::{GotAnswer, Move, Nonce, OwnFault, PlayerId, Turn, TurnFrame};
+use peer_core::{Peer, place_of};
 use std::marker::Model;
 
 /// The most lines that a script has.
@@ -21,8 +24,6 @@ const LINES: u32 = 1_048_576;
 pub(crate) enum Heard {
     /// It is in no grammar, or one too many, and nothing changed.
     Bad,
-    /// It brings a frame, which this version does not take, and nothing changed.
-    Frame,
     /// It was passed over.
     Nothing,
     /// The player chose, which is refused where there is a fault. The turn is the one that was to be chosen, and the
@@ -30,6 +31,13 @@ pub(crate) enum Heard {
     Choice {
         turn: Turn,
         fault: Option<OwnFault>,
+        entries: usize,
+    },
+    /// A frame of this place came from a player, and the peer answered it. The log had so many entries before.
+    Received {
+        from: PlayerId,
+        place: u64,
+        answer: GotAnswer,
         entries: usize,
     },
 }
@@ -46,6 +54,28 @@ fn choose_and_advance(peer: &mut Peer, mv: Move, nonce: Nonce) -> Option<OwnFaul
             None
         }
     }
+}
+
+/// Whether the frame that is answered so is in the log.
+fn is_logged(answer: GotAnswer) -> bool
+    ensures { result ≡ is_logged answer }
+{
+    matches!(
+        answer,
+        GotAnswer::Taken | GotAnswer::Stashed | GotAnswer::Caught(_)
+    )
+}
+
+/// Hands a frame to the peer, and then makes what the peer may make by itself. A frame that is refused changes nothing.
+fn receive_and_advance(peer: &mut Peer, from: PlayerId, frame: &TurnFrame) -> GotAnswer
+    ensures answer { result ≡ got_answer peer.old.game peer.old.me peer.old.entries from frame.now }
+    ensures after { peer.new ≡ record peer.old { entries = after_got peer.old.game peer.old.me peer.old.entries from frame.now } }
+{
+    let answer = peer.got(from, frame);
+    if is_logged(answer) {
+        peer.advance();
+    }
+    answer
 }
 
 /// A peer and the number of its script's lines so far, at most 1,048,576.
@@ -129,17 +159,36 @@ impl Driver {
         }
     }
 
-    /// Takes the next line, which has at most 1,024 bytes.
+    /// Hands a frame to the peer.
+    fn receive(&mut self, from: PlayerId, frame: &TurnFrame) -> Heard
+        requires { self.old.lines < 1048576 }
+        ensures heard { result ≡ Heard.Received from (place_of self.old.game frame.now) (got_answer self.old.game self.old.me self.old.entries from frame.now) (length self.old.entries) }
+        ensures after { self.new ≡ record self.old { entries = after_got self.old.game self.old.me self.old.entries from frame.now; lines = self.old.lines + 1 } }
+    {
+        self.lines += 1;
+        let place = place_of(self.peer.session(), frame);
+        let entries = self.peer.entries().len();
+        let answer = receive_and_advance(&mut self.peer, from, frame);
+        Heard::Received {
+            from,
+            place,
+            answer,
+            entries,
+        }
+    }
+
+    /// Takes the next line, which has at most 1,024 bytes. No line comes behind a finding.
     pub(crate) fn hear(&mut self, line: &[u8]) -> Heard
-        requires { length line.now ≤ 1024 }
+        requires short { length line.now ≤ 1024 }
+        requires clean { IsTrue (is_clean self.old.game self.old.entries) }
         ensures answers { (lines : List (List ℕ)) → AnswersBy result (driven_from self.old (line.now ∷ lines)) (driven_from self.new lines) (self.old.lines + 1) self.new.entries }
         ensures counts { Counts result self.old.lines self.new.lines self.new.entries }
     {
         match self.said(line) {
             DriveLine::Bad => Heard::Bad,
-            DriveLine::Got(..) => Heard::Frame,
             DriveLine::Nothing => self.pass_over(),
             DriveLine::Choose(mv, nonce) => self.choose(mv, nonce),
+            DriveLine::Got(from, frame) => self.receive(from, &frame),
         }
     }
 }

@@ -1,6 +1,6 @@
 //! The printed lines, each in a buffer of its own.
 
-ghost use Rattle.std.specs.Prelude.{◌≡◌};
+ghost use Rattle.std.specs.Prelude.{◌≡◌, ◌≤◌, length};
 ghost use Rattle.definitions.specs.declared.frames.What.{What};
 ghost use Rattle.hex.specs.Hex.{encode_lower};
 ghost use Rattle.commitment.specs.Spelling.{frame_bytes};
@@ -8,7 +8,9 @@ ghost use Rattle.drive_script.specs.Lines as L;
 
 use arrayvec::ArrayVec;
 use commitment::put_turn;
-use definitions::{Entry, MoveFault, Need, OwnFault, PlayerId, Turn, TurnFrame, What};
+use definitions::{
+    Entry, Finding, GotAnswer, Kind, MoveFault, Need, OwnFault, PlayerId, Turn, TurnFrame, What,
+};
 use hex::encode_to_slice;
 use itoa::Buffer;
 use peer_core::PlayerView;
@@ -27,6 +29,82 @@ fn name_of_fault(fault: MoveFault) -> &'static [u8]
         MoveFault::StrikeOutside => b"M4",
         MoveFault::StrikeFar => b"M5",
         MoveFault::NoCharge => b"M6",
+    }
+}
+
+/// The name of a kind of finding.
+fn name_of_kind(kind: Kind) -> &'static [u8]
+    ensures { result.now ≡ L.kind_name kind }
+{
+    match kind {
+        Kind::TwoCommits => b"two-commits",
+        Kind::BadOpening => b"bad-opening",
+        Kind::Collision => b"collision",
+        Kind::Illegal => b"illegal",
+    }
+}
+
+/// What is written about a finding.
+#[tactic(auto, unfolding(crate::specs::Lines::caught_text))]
+pub(crate) fn caught_line(finding: &Finding) -> Line
+    ensures { result.items ≡ L.caught_text finding.now }
+{
+    let mut line = ArrayVec::new();
+    line.try_extend_from_slice(b"caught ").unwrap();
+    line.try_extend_from_slice(Buffer::new().format(finding.player).as_bytes())
+        .unwrap();
+    line.push(b' ');
+    line.try_extend_from_slice(Buffer::new().format(finding.turn).as_bytes())
+        .unwrap();
+    line.push(b' ');
+    line.try_extend_from_slice(name_of_kind(finding.kind))
+        .unwrap();
+    line.push(b'\n');
+    line
+}
+
+/// What is written about a frame: this word, from whom it came, and its place.
+#[tactic(auto, unfolding(crate::specs::Lines::taken_text))]
+fn taken_line(word: &[u8], from: PlayerId, place: u64) -> Line
+    requires { length word.now ≤ 16 }
+    ensures { result.items ≡ L.taken_text word.now from place }
+{
+    let mut line = ArrayVec::new();
+    line.try_extend_from_slice(word).unwrap();
+    line.try_extend_from_slice(Buffer::new().format(from).as_bytes())
+        .unwrap();
+    line.push(b' ');
+    line.try_extend_from_slice(Buffer::new().format(place).as_bytes())
+        .unwrap();
+    line.push(b'\n');
+    line
+}
+
+/// What is written about a frame that is not the sender's.
+#[tactic(auto, unfolding(crate::specs::Lines::foreign_text))]
+fn foreign_line(from: PlayerId) -> Line
+    ensures { result.items ≡ L.foreign_text from }
+{
+    let mut line = ArrayVec::new();
+    line.try_extend_from_slice(b"foreign ").unwrap();
+    line.try_extend_from_slice(Buffer::new().format(from).as_bytes())
+        .unwrap();
+    line.push(b'\n');
+    line
+}
+
+/// What is written about a frame of this place that came from a player, by the peer's answer.
+pub(crate) fn got_line(from: PlayerId, place: u64, answer: &GotAnswer) -> Line
+    ensures { result.items ≡ L.got_text from place answer.now }
+{
+    match answer {
+        GotAnswer::Taken => taken_line(b"taken ", from, place),
+        GotAnswer::Stashed => taken_line(b"stashed ", from, place),
+        GotAnswer::Same => taken_line(b"same ", from, place),
+        GotAnswer::Far => taken_line(b"far ", from, place),
+        GotAnswer::Foreign => foreign_line(from),
+        GotAnswer::Caught(finding) => caught_line(finding),
+        GotAnswer::Closed => ArrayVec::new(),
     }
 }
 

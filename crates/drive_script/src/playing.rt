@@ -1,17 +1,19 @@
 //! A script that is answered line by line.
 
-ghost use Rattle.std.specs.Prelude.{◌≡◌, ◌≤◌, ◌+◌, ◌++◌, ◌∷◌, [], List, ℕ, length, IsSome};
+ghost use Rattle.std.specs.Prelude.{◌≡◌, ◌≤◌, ◌+◌, ◌++◌, ◌∷◌, [], List, ℕ, false, length, IsSome, IsTrue};
+ghost use Rattle.definitions.specs.Findings.{is_clean};
+ghost use Rattle.log_scan.specs.First.{finding_of_log};
 ghost use Rattle.station.specs.Outside.{known, Rose};
 ghost use Rattle.text_io.specs.Lines.{lines_of};
 ghost use Rattle.text_io.specs.Frame.{Ended, EndCause, after_text, OnDone, UnlessInputFault, UnlessOutputFault};
 ghost use Rattle.text_io.specs.Turns.{Turned, TurnCause, MatchTurn, OnOver, OnOn};
 ghost use Rattle.drive_script.specs.Drive.{drive};
-ghost use Rattle.drive_script.specs.Lines.{added_text};
+ghost use Rattle.drive_script.specs.Lines.{added_text, found_text};
 ghost use Rattle.drive_script.specs.Hearing.{driven_from};
 ghost use Rattle.drive_script.specs.Ends.{ScriptEnds};
 
 use crate::driver::{Driver, Heard};
-use crate::printing::{put_added, put_choice, put_end};
+use crate::printing::{put_choice, put_end, put_received, put_start};
 use peer_core::Peer;
 use station::{Sink, Source};
 use text_io::{LineReader, LoopTurn, NextLine, Status, TextName, Written};
@@ -28,7 +30,8 @@ fn bad_line(driver: &Driver) -> Status
 
 /// Takes the line that was read, and answers it.
 fn answer<O: Sink>(driver: &mut Driver, line: &[u8], out: &mut O) -> LoopTurn
-    requires { length line.now ≤ 1024 }
+    requires short { length line.now ≤ 1024 }
+    requires clean { IsTrue (is_clean driver.old.game driver.old.entries) }
     ensures told { IsSome (O.held out.old) → IsSome (O.held out.new) }
     ensures text { IsSome (O.held out.old) → (lines : List (List ℕ)) → Turned
         (known (O.held out.old)) (driven_from driver.old (line.now ∷ lines))
@@ -41,7 +44,6 @@ fn answer<O: Sink>(driver: &mut Driver, line: &[u8], out: &mut O) -> LoopTurn
 {
     match driver.hear(line) {
         Heard::Bad => LoopTurn::Over(bad_line(driver)),
-        Heard::Frame => LoopTurn::Over(Status::Unbuilt),
         Heard::Nothing => LoopTurn::On,
         Heard::Choice {
             turn,
@@ -51,10 +53,35 @@ fn answer<O: Sink>(driver: &mut Driver, line: &[u8], out: &mut O) -> LoopTurn
             Written::All => LoopTurn::On,
             Written::Failed => LoopTurn::Over(Status::OutputFault),
         },
+        Heard::Received {
+            from,
+            place,
+            answer,
+            entries,
+        } => match put_received(driver.peer(), from, place, &answer, entries, out) {
+            Written::All => LoopTurn::On,
+            Written::Failed => LoopTurn::Over(Status::OutputFault),
+        },
     }
 }
 
-/// Reads the next line and answers it.
+/// Writes the end of a peer whose log has a finding.
+fn end_caught<O: Sink>(driver: &Driver, out: &mut O) -> Status
+    requires { is_clean driver.now.game driver.now.entries ≡ false }
+    ensures told { IsSome (O.held out.old) → IsSome (O.held out.new) }
+    ensures text { IsSome (O.held out.old) → (lines : List (List ℕ)) → Ended (known (O.held out.old)) (known (O.held out.new)) (driven_from driver.now lines) result }
+    ensures later { O.faults out.old ≤ O.faults out.new }
+    ensures cause { EndCause ScriptEnds ⊥ (Rose (O.faults out.old) (O.faults out.new)) result }
+    ensures steady { UnlessOutputFault result (O.faults out.new ≡ O.faults out.old) }
+    ensures read { OnDone result ⊥ }
+{
+    match put_end(driver.peer(), out) {
+        Written::All => Status::Caught,
+        Written::Failed => Status::OutputFault,
+    }
+}
+
+/// Reads the next line and answers it; behind a finding nothing is read.
 #[tactic(auto, using(crate::proofs::Hearings::none_left))]
 fn answer_line<I: Source, O: Sink>(
     driver: &mut Driver,
@@ -75,6 +102,9 @@ fn answer_line<I: Source, O: Sink>(
     ensures counted { OnOn result ((driver.new.lines ≡ driver.old.lines + 1) × (driver.new.lines ≤ 1048576)) }
     ensures read { IsSome (I.left input.old) → OnOver result (known (I.left input.new) ≡ []) }
 {
+    if driver.peer().finding().is_some() {
+        return LoopTurn::Over(end_caught(driver, out));
+    }
     match reader.next(input) {
         NextLine::Failed => LoopTurn::Over(Status::InputFault),
         NextLine::TooLong => LoopTurn::Over(bad_line(driver)),
@@ -112,7 +142,8 @@ fn answer_lines<I: Source, O: Sink>(
     }
 }
 
-/// Tells what was made since the log had so many entries, and then answers the lines of the input.
+/// Tells what was made since the log had so many entries and the log's finding, if it has one, and then answers the lines of
+/// the input.
 fn follow<I: Source, O: Sink>(
     driver: &mut Driver,
     entries: usize,
@@ -123,7 +154,7 @@ fn follow<I: Source, O: Sink>(
     ensures told_in { IsSome (I.left input.old) → IsSome (I.left input.new) }
     ensures told_out { IsSome (O.held out.old) → IsSome (O.held out.new) }
     ensures text { IsSome (I.left input.old) → IsSome (O.held out.old) → Ended (known (O.held out.old)) (known (O.held out.new))
-        (after_text (added_text entries driver.old.entries) (driven_from driver.old (lines_of (known (I.left input.old))))) result }
+        (after_text (added_text entries driver.old.entries ++ found_text (finding_of_log driver.old.game driver.old.entries)) (driven_from driver.old (lines_of (known (I.left input.old))))) result }
     ensures later_in { I.faults input.old ≤ I.faults input.new }
     ensures later_out { O.faults out.old ≤ O.faults out.new }
     ensures cause { EndCause ScriptEnds (Rose (I.faults input.old) (I.faults input.new)) (Rose (O.faults out.old) (O.faults out.new)) result }
@@ -132,7 +163,7 @@ fn follow<I: Source, O: Sink>(
     ensures read { IsSome (I.left input.old) → OnDone result (known (I.left input.new) ≡ []) }
 {
     let mut reader = LineReader::new();
-    match put_added(driver.peer(), entries, out) {
+    match put_start(driver.peer(), entries, out) {
         Written::All => answer_lines(driver, &mut reader, input, out),
         Written::Failed => Status::OutputFault,
     }

@@ -4,10 +4,13 @@ ghost use Rattle.std.specs.Prelude.{◌≡◌, ◌≤◌, ◌++◌, flat_map, le
 ghost use Rattle.definitions.specs.World.{players_of};
 ghost use Rattle.station.specs.Outside.{known, Rose};
 ghost use Rattle.text_io.specs.Texts.{Wrote, OnUnwritten, OnWritten};
-ghost use Rattle.drive_script.specs.Lines.{entry_text, need_text, needs_text, stand_text, players_text, last_text, end_text, choice_text, added_text};
+ghost use Rattle.drive_script.specs.Lines.{entry_text, need_text, needs_text, stand_text, players_text, last_text, end_text, choice_text, got_text, found_text, added_text};
+ghost use Rattle.log_scan.specs.First.{finding_of_log};
 
-use crate::lines::{choice_line, due_line, entry_line, need_line, player_line};
-use definitions::{Entry, Need, OwnFault, Turn};
+use crate::lines::{
+    caught_line, choice_line, due_line, entry_line, got_line, need_line, player_line,
+};
+use definitions::{Entry, GotAnswer, Need, OwnFault, PlayerId, Turn};
 use peer_core::Peer;
 use station::Sink;
 use text_io::{Written, put};
@@ -73,7 +76,7 @@ fn put_needs<O: Sink>(needs: &[Need], out: &mut O) -> Written
     }
 }
 
-/// Writes how the peer stands.
+/// Writes how the peer stands; nothing where its log has a finding.
 #[tactic(auto, unfolding(crate::specs::Lines::stand_text))]
 fn put_stand<O: Sink>(peer: &Peer, out: &mut O) -> Written
     ensures told { IsSome (O.held out.old) → IsSome (O.held out.new) }
@@ -82,6 +85,9 @@ fn put_stand<O: Sink>(peer: &Peer, out: &mut O) -> Written
     ensures cause { OnUnwritten result (Rose (O.faults out.old) (O.faults out.new)) }
     ensures steady { OnWritten result (O.faults out.new ≡ O.faults out.old) }
 {
+    if peer.finding().is_some() {
+        return put(out, b"");
+    }
     if peer.may_choose() {
         put(out, due_line(peer.choice().turn).as_slice())
     } else {
@@ -151,6 +157,57 @@ pub(crate) fn put_choice<O: Sink>(
 {
     match put(out, choice_line(turn, fault).as_slice()) {
         Written::All => put_added(peer, entries, out),
+        Written::Failed => Written::Failed,
+    }
+}
+
+/// Writes the answer to a frame that came, and what is told of the log's entries behind the first so many.
+pub(crate) fn put_received<O: Sink>(
+    peer: &Peer,
+    from: PlayerId,
+    place: u64,
+    answer: &GotAnswer,
+    entries: usize,
+    out: &mut O,
+) -> Written
+    requires { entries ≤ length peer.now.entries }
+    ensures told { IsSome (O.held out.old) → IsSome (O.held out.new) }
+    ensures text { IsSome (O.held out.old) → Wrote (known (O.held out.old)) (known (O.held out.new)) (got_text from place answer.now ++ added_text entries peer.now.entries) result }
+    ensures later { O.faults out.old ≤ O.faults out.new }
+    ensures cause { OnUnwritten result (Rose (O.faults out.old) (O.faults out.new)) }
+    ensures steady { OnWritten result (O.faults out.new ≡ O.faults out.old) }
+{
+    match put(out, got_line(from, place, answer).as_slice()) {
+        Written::All => put_added(peer, entries, out),
+        Written::Failed => Written::Failed,
+    }
+}
+
+/// Writes the first finding of the peer's log, if it has one.
+fn put_found<O: Sink>(peer: &Peer, out: &mut O) -> Written
+    ensures told { IsSome (O.held out.old) → IsSome (O.held out.new) }
+    ensures text { IsSome (O.held out.old) → Wrote (known (O.held out.old)) (known (O.held out.new)) (found_text (finding_of_log peer.now.game peer.now.entries)) result }
+    ensures later { O.faults out.old ≤ O.faults out.new }
+    ensures cause { OnUnwritten result (Rose (O.faults out.old) (O.faults out.new)) }
+    ensures steady { OnWritten result (O.faults out.new ≡ O.faults out.old) }
+{
+    match peer.finding() {
+        None => put(out, b""),
+        Some(finding) => put(out, caught_line(&finding).as_slice()),
+    }
+}
+
+/// Writes what is told of the log's entries behind the first so many, and the log's first finding, if it has one.
+pub(crate) fn put_start<O: Sink>(peer: &Peer, entries: usize, out: &mut O) -> Written
+    requires { entries ≤ length peer.now.entries }
+    ensures told { IsSome (O.held out.old) → IsSome (O.held out.new) }
+    ensures text { IsSome (O.held out.old) → Wrote (known (O.held out.old)) (known (O.held out.new)) (added_text entries peer.now.entries ++ found_text (finding_of_log peer.now.game peer.now.entries)) result }
+    ensures later { O.faults out.old ≤ O.faults out.new }
+    ensures cause { OnUnwritten result (Rose (O.faults out.old) (O.faults out.new)) }
+    ensures steady { OnWritten result (O.faults out.new ≡ O.faults out.old) }
+{
+    match put_added(peer, entries, out) {
+        Written::All => put_found(peer, out),
         Written::Failed => Written::Failed,
     }
 }

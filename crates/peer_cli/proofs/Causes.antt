@@ -15,10 +15,8 @@ use Rattle.grid_world.specs.declared.fault.SessionFault.{SessionFault}
 use Rattle.grid_world.specs.declared.fault.SessionFault.TheVariants.{At, Memory}
 use Rattle.grid_world.specs.Lines as L
 use Rattle.grid_world.specs.Reading.{◌>>=◌, fault_of, game_at, said_by, session_fault}
-use Rattle.drive_script.specs.declared.grammar.DriveLine.{DriveLine}
-use Rattle.drive_script.specs.declared.grammar.DriveLine.TheVariants as D
-use Rattle.drive_script.specs.Drive.{drive, said_behind, script_status, status_by}
-use Rattle.drive_script.specs.Ends.{ScriptEnds}
+use Rattle.definitions.specs.Findings.{is_clean}
+use Rattle.drive_script.specs.Drive.{bad_line, drive, drive_log, status_for}
 use Rattle.drive_script.proofs.Ends.{drive_status}
 use Rattle.peer_cli.specs.Causes.{HasCause, IsNamed, IsSet}
 use Rattle.peer_cli.specs.Games.{built, front_of, with_player}
@@ -43,23 +41,12 @@ fault_said : (text : List ℕ) (e : SessionFault) → game_at text ≡ Err e →
 unfolding game_at session_fault
 fault_said text e h = bound_fault _ _ (said_by (L.lines_of text)) _ e h
 
--- a script ends in one of three ways
-status_ends : (s : DriveLine) (n : ℕ) (rest : Status) → ScriptEnds rest → ScriptEnds (status_by s n rest)
-status_ends D.Bad n rest h = tt
-status_ends (D.Got q f) n rest h = tt
-status_ends D.Nothing n rest h = h
-status_ends (D.Choose mv nonce) n rest h = h
-
-script_ends : (n : ℕ) (lines : List (List ℕ)) → ScriptEnds (script_status n lines)
-script_ends n [] = tt
-script_ends n (line ∷ lines) = status_ends (said_behind n line) (n + 1) (script_status (n + 1) lines) (script_ends (n + 1) lines)
-
 module _ (words : List (List ℕ)) (files : List ℕ → Option (List ℕ)) (input : List ℕ) where
-  played : (game : Game) (player : ℕ) → IsSet words files game player → (s : Status) → script_status 0 (lines_of input) ≡ s → ScriptEnds s → HasCause words files input s
-  played game player set Done e h = record { game = game; player = player; set = set; script = e }
-  played game player set Unbuilt e h = inr (record { game = game; player = player; set = set; script = e })
-  played game player set (BadLine Script n) e h = record { game = game; player = player; set = set; script = e }
-  played game player set s e h = absurd h
+  played : (game : Game) (player : ℕ) → IsSet words files game player → (clean : Bool) → is_clean game (drive_log game player [] input) ≡ clean → (bad : Option ℕ) → bad_line 0 (lines_of input) ≡ bad →
+      HasCause words files input (status_for clean bad)
+  played game player set false e bad l = record { game = game; player = player; set = set; found = e }
+  played game player set true e None l = record { game = game; player = player; set = set; clean = e; lines = l }
+  played game player set true e (Some n) l = record { game = game; player = player; set = set; clean = e; lines = l }
 
   -- a session that this version plays
   seated : (game : Game) (player : ℕ) → IsNamed words files game player → game.grid.walls ≡ [] → (b : Bool) → nat_lt player (players_of game) ≡ b →
@@ -67,13 +54,13 @@ module _ (words : List (List ℕ)) (files : List ℕ → Option (List ℕ)) (inp
   seated game player named free true e =
       let set : IsSet words files game player = record { named = named; free = free; player_is = ltb-true player (players_of game) e } in
       subst (λ (s : Status). HasCause words files input s) (sym (drive_status game player [] input))
-      (played game player set (script_status 0 (lines_of input)) refl (script_ends 0 (lines_of input)))
+      (played game player set (is_clean game (drive_log game player [] input)) refl (bad_line 0 (lines_of input)) refl)
   seated game player named free false e = inr (record { game = game; player = player; named = named; free = free; past = grind (arith, e) })
 
   walled : (game : Game) (player : ℕ) → IsNamed words files game player → (walls : List Cell) → game.grid.walls ≡ walls →
       HasCause words files input (playing player (with_player player (if is_empty walls then Ok game else Err Unbuilt)) input).status
   walled game player named [] e = seated game player named e (nat_lt player (players_of game)) refl
-  walled game player named (c ∷ cs) e = inl (record { game = game; player = player; named = named; walled = λ f. let g : [] ≡ c ∷ cs = sym f ∙ e in cc })
+  walled game player named (c ∷ cs) e = record { game = game; player = player; named = named; walled = λ f. let g : [] ≡ c ∷ cs = sym f ∙ e in cc }
 
   read : (session : List ℕ) (player : ℕ) → command_of words ≡ Some (Drive session player) → (r : Result Game SessionFault) → game_at (front_of (files session)) ≡ r →
       HasCause words files input (playing player (with_player player (built r)) input).status

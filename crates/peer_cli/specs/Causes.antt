@@ -1,14 +1,15 @@
 -- Causes: why the program ends as it does, status by status.
-use Rattle.std.specs.Prelude.{◌≡◌, ◌⊎◌, ℕ, ◌<◌, ◌≤◌, List, [], Option, Some, None, Ok}
+use Rattle.std.specs.Prelude.{◌≡◌, ◌⊎◌, ℕ, false, ◌<◌, ◌≤◌, List, [], Option, Some, None, Ok, IsTrue}
 use Rattle.definitions.specs.World.{Game, players_of}
 use Rattle.text_io.specs.Lines.{lines_of}
 use Rattle.text_io.specs.declared.statuses.Status.{Status}
-use Rattle.text_io.specs.declared.statuses.Status.TheVariants.{Done, NoMemory, Usage, BadSession, InputFault, OutputFault, BadLine, Unbuilt}
+use Rattle.text_io.specs.declared.statuses.Status.TheVariants.{Done, NoMemory, Usage, BadSession, InputFault, OutputFault, Caught, BadLine, Unbuilt}
 use Rattle.text_io.specs.declared.statuses.TextName.TheVariants.{Script}
 use Rattle.grid_world.specs.declared.fault.SessionFault.{SessionFault}
 use Rattle.grid_world.specs.declared.fault.SessionFault.TheVariants.{At}
 use Rattle.grid_world.specs.Reading.{game_at, session_fault}
-use Rattle.drive_script.specs.Drive.{script_status}
+use Rattle.definitions.specs.Findings.{is_clean}
+use Rattle.drive_script.specs.Drive.{bad_line, drive_log}
 use Rattle.peer_cli.specs.Words.{Drive, command_of}
 use Rattle.peer_cli.specs.Games.{front_of}
 
@@ -46,20 +47,29 @@ pub record IsFaulty (words : List (List ℕ)) (files : List ℕ → Option (List
   pub command : command_of words ≡ Some (Drive session player)
   pub fault_is : session_fault (front_of (files session)) ≡ Some fault
 
--- a session is played, and its script ends the run so
-pub record IsPlayed (words : List (List ℕ)) (files : List ℕ → Option (List ℕ)) (input : List ℕ) (status : Status) : Type 0 where
+-- a session is played to its end without a finding, and this is the number of the first bad line of its script, if there is one
+pub record IsPlayed (words : List (List ℕ)) (files : List ℕ → Option (List ℕ)) (input : List ℕ) (bad : Option ℕ) : Type 0 where
   pub game : Game
   pub player : ℕ
   pub set : IsSet words files game player
-  pub script : script_status 0 (lines_of input) ≡ status
+  pub clean : IsTrue (is_clean game (drive_log game player [] input))
+  pub lines : bad_line 0 (lines_of input) ≡ bad
+
+-- a session is played, and the log that the player's peer keeps has a finding
+pub record IsCaught (words : List (List ℕ)) (files : List ℕ → Option (List ℕ)) (input : List ℕ) : Type 0 where
+  pub game : Game
+  pub player : ℕ
+  pub set : IsSet words files game player
+  pub found : is_clean game (drive_log game player [] input) ≡ false
 
 -- Why the program may end so with these words, files and input. Want of memory and faults have their causes outside.
 abbrev pub HasCause : List (List ℕ) → (List ℕ → Option (List ℕ)) → List ℕ → Status → Type 0
 HasCause words files input Usage = (command_of words ≡ None) ⊎ IsPast words files
 HasCause words files input (BadSession line what) = IsFaulty words files (At line what)
-HasCause words files input Unbuilt = IsWalled words files ⊎ IsPlayed words files input Unbuilt
-HasCause words files input (BadLine Script n) = IsPlayed words files input (BadLine Script n)
-HasCause words files input Done = IsPlayed words files input Done
+HasCause words files input Unbuilt = IsWalled words files
+HasCause words files input (BadLine Script n) = IsPlayed words files input (Some n)
+HasCause words files input Caught = IsCaught words files input
+HasCause words files input Done = IsPlayed words files input None
 HasCause words files input NoMemory = Unit {0}
 HasCause words files input InputFault = Unit {0}
 HasCause words files input OutputFault = Unit {0}

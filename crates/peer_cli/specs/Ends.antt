@@ -18,4 +18,5 @@ StartEnds status = SessionEnds status
 abbrev pub RunEnds : Status → Type 0
 RunEnds Usage = Unit {0}
 RunEnds (BadSession line what) = Unit {0}
+RunEnds Unbuilt = Unit {0}
 RunEnds status = ScriptEnds status

@@ -1,12 +1,13 @@
 //! The program.
 
-ghost use Rattle.std.specs.Prelude.{◌≡◌, ◌≤◌, ◌⊎◌, ℕ, [], map, None, IsSome};
+ghost use Rattle.std.specs.Prelude.{◌≡◌, ◌≤◌, ◌⊎◌, ℕ, [], map, None, IsSome, IsTrue};
 ghost use Rattle.definitions.specs.World.{Game};
+ghost use Rattle.definitions.specs.Findings.{is_clean};
 ghost use Rattle.station.specs.Outside.{known, Rose};
 ghost use Rattle.text_io.specs.Frame.{line_by_line, Ran, EndCause, OnDone, UnlessInputFault, UnlessOutputFault, UnlessFault};
 ghost use Rattle.text_io.specs.Lines.{lines_of};
 ghost use Rattle.text_io.specs.Ends.{Finished};
-ghost use Rattle.drive_script.specs.Drive.{drive_log, script_status};
+ghost use Rattle.drive_script.specs.Drive.{bad_line, drive_log};
 ghost use Rattle.drive_script.specs.FairPlay.{IsFairPlay};
 ghost use Rattle.drive_script.specs.Telling.{TellsLog};
 ghost use Rattle.peer_cli.specs.Ends.{RunEnds};
@@ -104,10 +105,12 @@ pub fn run<I: Source, O: Sink, H: Shelf>(
     ensures steady_shelf { UnlessFault result (H.faults shelf.new ≡ H.faults shelf.old) }
     ensures steady_out { UnlessOutputFault result (O.faults out.new ≡ O.faults out.old) }
 
-    // Where all is good and nothing fails, only memory can be wanting, and at the end the input was read to its end.
+    // Where all is good, the log has no finding and nothing fails, only memory can be wanting, and at the end the input was
+    // read to its end.
     ensures complete { IsSome (I.left input.old) → IsSome (O.held out.old) → H.told shelf.old → (game : Game) → (player : ℕ) →
         IsSet (map (λ w. w.items) words.now) (H.content shelf.old) game player →
-        script_status 0 (lines_of (known (I.left input.old))) ≡ Status.Done →
+        bad_line 0 (lines_of (known (I.left input.old))) ≡ None →
+        IsTrue (is_clean game (drive_log game player [] (known (I.left input.old)))) →
         ¬ Rose (I.faults input.old) (I.faults input.new) →
         ¬ Rose (H.faults shelf.old) (H.faults shelf.new) →
         ¬ Rose (O.faults out.old) (O.faults out.new) →
@@ -115,7 +118,7 @@ pub fn run<I: Source, O: Sink, H: Shelf>(
     ensures read { IsSome (I.left input.old) → OnDone result (known (I.left input.new) ≡ []) }
 
     // The log that is told by what is written, and fair play in it: each reveal made stands behind a commitment received from
-    // every player who meets.
+    // every player who meets, and each move accepted of another player opens the digest held.
     ensures tells { (game : Game) → (player : ℕ) → IsSet (map (λ w. w.items) words.now) (H.content shelf.old) game player →
         TellsLog game player [] (drive_log game player [] (known (I.left input.old))) (answer_to (map (λ w. w.items) words.now) (H.content shelf.old) (known (I.left input.old))).body }
     ensures fair { (game : Game) → (player : ℕ) → IsSet (map (λ w. w.items) words.now) (H.content shelf.old) game player →

@@ -1,7 +1,7 @@
 -- Choices: what the tables say of the next frame and the next choice is what the log says.
 use Rattle.std.proofs.Common.{◌≡◌, ℕ, zero, suc, ◌+◌, ◌*◌, ◌≤◌, ◌<◌, ◌⊎◌, inl, inr, List, [], ◌∷◌, refl, Bool, true, false, sym, ◌∙◌, ap, arith, length}
 use Rattle.std.specs.Prelude.{Option, Some, None, Result, Ok, Err, nat_lt, nat_le, ◌/◌, ◌%◌, if◌then◌else◌, ◌==◌, ◌&&◌, slice_get, is_none, not}
-use Rattle.std.proofs.lemmas.Bool.{eqb-true, eq-eqb, ne_eqb, cases_lt}
+use Rattle.std.proofs.lemmas.Bool.{and_parts, eqb-true, eq-eqb, ne_eqb, cases_lt}
 use Rattle.std.proofs.lemmas.Bool.Decides.{nat_tests}
 use Rattle.std.proofs.lemmas.Option.{slice_get_past, slice_get_within}
 use Rattle.definitions.specs.declared.openings.Opening.{Opening}
@@ -28,8 +28,10 @@ use Rattle.definitions.specs.Needs.{needs, may_choose, is_unchosen, choice_fault
 use Rattle.definitions.specs.Advance.{next_made, frame_at, frame_of, frame_chosen, if_allowed, advances_by, progress_of, standing, progress}
 use Rattle.definition_laws.proofs.ForPeers.{chosen_for_item, own_counts}
 use Rattle.definition_laws.proofs.Waits.{next_commit_allowed, next_reveal_allowed}
+use Rattle.definition_laws.proofs.Advances.{next_made_allowed}
+use Rattle.log_scan.specs.First.{finding_of_log}
 use Rattle.grid_world.specs.Sessions.{IsSession}
-use Rattle.peer_core.specs.Choosing.{what_at, next_of, chooses}
+use Rattle.peer_core.specs.Choosing.{what_at, next_of, chooses, progress_by}
 use Rattle.peer_core.proofs.OwnTracks.{ahead}
 use Rattle.peer_core.proofs.Places.{slot_even, slot_odd, slot_end}
 use Rattle.peer_core.proofs.Ready.{made_few}
@@ -121,6 +123,20 @@ next_is game me n h os is i clean o e =
       | inr le ↦ next_end game me (n / 2) h (what_at n) is i (omega arith) le
     ]
 
+-- behind a finding nothing is made
+caught_next : (game : Game) (me : ℕ) (h : List Entry) → is_clean game h ≡ false → None ≡ next_made game me h
+unfolding next_made
+caught_next game me h dirty = by_frame (frame_at game me h (slot_at game (made_count h)))
+  where
+    by_frame : (o : Option TurnFrame) → None ≡ if_allowed game me h o
+    by_frame None = refl
+    by_frame (Some f) = rw dirty refl
+
+pub next_free : (game : Game) (me n : ℕ) (h : List Entry) (os : List Opening) (clean none : Bool) → IsSession game → IsHonest game me h → clean ≡ is_clean game h → none ≡ is_empty (needs game me h) →
+    os ≡ chosen me h → n ≡ made_count h → next_of game (clean && none) os n ≡ next_made game me h
+next_free game me n h os true none is i c e o f = ap (λ b. next_of game b os n) e ∙ next_is game me n h os is i (sym c) o f
+next_free game me n h os false none is i c e o f = caught_next game me h (sym c)
+
 -- a length of 0 is that of the empty list
 pub empty_is : {X : Type 0} (b : Bool) (xs : List X) → b ≡ (length xs == 0) → b ≡ is_empty xs
 empty_is b [] e = e
@@ -179,6 +195,19 @@ chooses_is game me n k turns h is i clean e f g =
     ends true b = refl
     ends false b = refl
 
+caught_choice : (game : Game) (me : ℕ) (h : List Entry) → is_clean game h ≡ false → false ≡ may_choose game me h
+unfolding may_choose
+caught_choice game me h dirty = rw dirty refl
+
+pub chooses_free : (game : Game) (me n k turns : ℕ) (h : List Entry) (clean none : Bool) → IsSession game → IsHonest game me h → clean ≡ is_clean game h → none ≡ is_empty (needs game me h) →
+    n ≡ made_count h → k ≡ length (chosen me h) → turns ≡ game.turns → chooses (clean && none) n k turns ≡ may_choose game me h
+chooses_free game me n k turns h true none is i c e f g l = ap (λ b. chooses b n k turns) e ∙ chooses_is game me n k turns h is i (sym c) f g l
+chooses_free game me n k turns h false none is i c e f g l = caught_choice game me h (sym c)
+
+-- where a frame is next the log has no finding
+pub next_clean : (game : Game) (me : ℕ) (h : List Entry) (f : TurnFrame) → next_made game me h ≡ Some f → is_clean game h ≡ true
+next_clean game me h f e = (and_parts (is_clean game h) _ (next_made_allowed game me h f e)).0
+
 nothing_next : (x : TurnFrame) → None ≡ Some x → ⊥
 nothing_next x k = cc
 
@@ -194,19 +223,18 @@ next_chosen game me h f is i clean e =
     by_test true (Some p) g k = slice_get_within (chosen me h) (made_count h / 2) p g
     by_test false o g k = absurd (nothing_next f k)
 
-empty_list : {X : Type 0} (xs : List X) → is_empty xs ≡ true → xs ≡ []
-empty_list [] e = refl
-empty_list (x ∷ xs) e = cc
-
 -- how far the peer comes, by the tables
-pub progress_is : (game : Game) (me : ℕ) (h : List Entry) (n : ℕ) (chooses_now none : Bool) → is_clean game h ≡ true → n ≡ advances_by game me h → chooses_now ≡ may_choose game me h →
-    none ≡ is_empty (needs game me h) → progress_of [] n (standing chooses_now none) ≡ progress game me h
-unfolding progress is_clean
-progress_is game me h n chooses_now none clean e f g =
-    let found = empty_list (findings game (h ∷ [])) clean in
-    let stands : Progress → Progress = λ s. progress_of [] (advances_by game me h) s in
-    ap (λ (k : ℕ). progress_of [] k (standing chooses_now none)) e ∙ ap (λ (b : Bool). stands (standing b none)) f ∙ ap (λ (b : Bool). stands (standing (may_choose game me h) b)) g ∙
-    ap (λ (fs : List Finding). progress_of fs (advances_by game me h) (standing (may_choose game me h) (is_empty (needs game me h)))) (sym found)
+pub progress_is : (game : Game) (me : ℕ) (h : List Entry) (found : Option Finding) (n : ℕ) (chooses_now none : Bool) → found ≡ finding_of_log game h → n ≡ advances_by game me h →
+    chooses_now ≡ may_choose game me h → none ≡ is_empty (needs game me h) → progress_by found n (standing chooses_now none) ≡ progress game me h
+unfolding progress
+progress_is game me h found n chooses_now none first e f g =
+    let stands : Progress → Progress = λ s. progress_by (finding_of_log game h) (advances_by game me h) s in
+    ap (λ (o : Option Finding). progress_by o n (standing chooses_now none)) first ∙ ap (λ (k : ℕ). progress_by (finding_of_log game h) k (standing chooses_now none)) e ∙
+    ap (λ (b : Bool). stands (standing b none)) f ∙ ap (λ (b : Bool). stands (standing (may_choose game me h) b)) g ∙ by_findings (findings game (h ∷ [])) (standing (may_choose game me h) (is_empty (needs game me h)))
+  where
+    by_findings : (fs : List Finding) (s : Progress) → progress_by (slice_get fs 0) (advances_by game me h) s ≡ progress_of fs (advances_by game me h) s
+    by_findings [] s = refl
+    by_findings (x ∷ fs) s = refl
 
 -- why a choice is refused
 pub refused_now : (game : Game) (me : ℕ) (h : List Entry) (m : Move) (b : Bool) → b ≡ may_choose game me h → b ≡ false → Some NotNow ≡ choice_fault game me h m

@@ -13,10 +13,10 @@ use Rattle.definitions.specs.Places.{Slot, slot_at}
 use Rattle.definitions.specs.declared.frames.What.{What}
 use Rattle.definitions.specs.declared.frames.What.TheVariants as W
 use Rattle.definitions.specs.Needs.{needs, needs_at, frame_needs}
-use Rattle.peer_core.specs.declared.views.Stream.{Stream}
+use Rattle.log_scan.specs.declared.streams.Stream.{Stream}
 use Rattle.peer_core.specs.declared.waiting.Missing.{Missing}
 use Rattle.peer_core.specs.declared.waiting.Missing.TheVariants.{Commit, Reveal, Rest}
-use Rattle.peer_core.specs.Views.{stream_of}
+use Rattle.log_scan.specs.Streams.{stream_of}
 use Rattle.peer_core.specs.Meeting.{meets_at}
 use Rattle.peer_core.specs.Waiting.{hinders, need_by, need_at, need_step, needs_by, missing_at, missing_for}
 

@@ -1,8 +1,8 @@
 -- Peers: what follows from an honest log for a peer's tables.
-use Rattle.std.proofs.Common.{◌≡◌, ℕ, ◌+◌, ◌-◌, ◌*◌, ◌≤◌, ◌<◌, List, [], ◌∷◌, ◌++◌, refl, true, sym, ◌∙◌, ap, subst, arith, length, get_or, append-nil, length-append}
-use Rattle.std.specs.Prelude.{Option, Some, None, is_none, map, ◌/◌, flat_map}
+use Rattle.std.proofs.Common.{◌≡◌, ℕ, ◌+◌, ◌-◌, ◌*◌, ◌≤◌, ◌<◌, List, [], ◌∷◌, ◌++◌, refl, Bool, true, false, sym, ◌∙◌, ap, subst, arith, length, get_or, set, append-nil, length-append, length-set, get_or-set_same, get_or-set_other}
+use Rattle.std.specs.Prelude.{Option, Some, None, is_none, map, slice_get, not, nat_lt, ◌/◌, ◌==◌, ◌&&◌}
 use Rattle.std.proofs.lemmas.List.{length-map, map-append, take_all}
-use Rattle.std.proofs.lemmas.Bool.{eq-eqb}
+use Rattle.std.proofs.lemmas.Bool.{and_parts, eqb-true, eqb-false, false≢true}
 use Rattle.definitions.specs.declared.world.Move.{Move}
 use Rattle.definitions.specs.declared.world.Track.{Track}
 use Rattle.definitions.specs.declared.world.MoveFault.{MoveFault}
@@ -12,14 +12,28 @@ use Rattle.definitions.specs.declared.frames.TurnFrame.{TurnFrame}
 use Rattle.definitions.specs.declared.logs.Entry.{Entry}
 use Rattle.definitions.specs.declared.logs.Entry.TheVariants.{Chose, Made, Got}
 use Rattle.definitions.specs.declared.answers.Need.{Need}
-use Rattle.definitions.specs.World.{Game, players_of}
+use Rattle.definitions.specs.World.{Game, players_of, is_inside}
 use Rattle.definitions.specs.Moves.{start_track, track_from, track_after, next_track, move_fault, is_legal}
-use Rattle.definitions.specs.Logs.{made, made_in, chosen, chosen_in, got_of, got_in}
+use Rattle.definitions.specs.declared.findings.Finding.{Finding}
+use Rattle.definitions.specs.declared.answers.GotAnswer.{GotAnswer}
+use Rattle.definitions.specs.Logs.{made, made_in, chosen, chosen_in, got_of, player_of}
+use Rattle.definitions.specs.Findings.{is_clean}
+use Rattle.definitions.specs.Answers.{got_answer, is_new, is_of_another, place_of}
 use Rattle.definitions.specs.Held.{known, resolved_count, next_place}
 use Rattle.definitions.specs.Honest.{IsHonest, made_count, chosen_track}
 use Rattle.definitions.specs.Needs.{needs, may_choose}
 use Rattle.definitions.specs.Advance.{next_made}
-use Rattle.definition_laws.proofs.ForPeers.{own_next, own_moves, own_counts, own_counts_plain, honest_empty, honest_push}
+use Rattle.definition_laws.proofs.ForPeers.{own_next, own_moves, own_counts, own_counts_plain, honest_empty, honest_push, clean_without_got}
+use Rattle.definition_laws.proofs.Windows.{known_made, known_chose, known_got_other}
+use Rattle.definition_laws.proofs.Silent.{findings_made, findings_chose}
+use Rattle.log_scan.specs.declared.streams.Stream.{Stream}
+use Rattle.log_scan.specs.Streams.{stream_of}
+use Rattle.log_scan.specs.First.{finding_of_log}
+use Rattle.log_scan.specs.Fits.{room_of}
+use Rattle.log_scan.specs.Replies.{refusal, before_last, IsTaken}
+use Rattle.log_scan.proofs.Replied.{replies, taken_caught, taken_next, taken_stashed}
+use Rattle.log_scan.proofs.Received.{log_stays_honest}
+use Rattle.log_scan.proofs.Counted.{clean_none, logs_fit}
 use Rattle.definition_laws.proofs.Waits.{may_choose_allowed}
 use Rattle.definition_laws.proofs.Advances.{next_made_allowed}
 use Rattle.definition_laws.proofs.Listing.{flat_map_append}
@@ -27,43 +41,25 @@ use Rattle.grid_world.specs.Sessions.{IsSession}
 use Rattle.move_rules.specs.Verdicts.{Size, size_of}
 use Rattle.peer_core.specs.Waiting.{AreOwnTracks, tracks_from}
 use Rattle.peer_core.specs.declared.views.Choice.{Choice}
+use Rattle.move_rules.proofs.OpenGround.{true-lt}
+use Rattle.peer_core.specs.Choosing.{caught_in}
 use Rattle.peer_core.specs.Views.{PeerState, choice_of, player_view}
 use Rattle.peer_core.specs.declared.views.PlayerView.{PlayerView}
 use Rattle.peer_core.specs.Standing.{IsStanding}
-use Rattle.peer_core.specs.Inside.{IsPeer, HasRoom, room}
-use Rattle.peer_core.proofs.OwnTracks.{ahead, tracks-length, tracks-at, tracks-push}
+use Rattle.peer_core.specs.Inside.{IsPeer, HasRoom, AreStreams}
+use Rattle.peer_core.proofs.OwnTracks.{ahead, tracks-length, tracks-at, tracks-push, known_inside, known_few}
 use Rattle.peer_core.proofs.Ready.{made_few}
 
-nothing : {X : Type 0} (x : X) → x ∷ [] ≡ [] → ⊥
-nothing x e = cc
-
-got_here : (p : ℕ) (f : TurnFrame) → got_in p (Got p f) ≡ f ∷ []
-got_here p f = rw (eq-eqb p p refl) refl
-
--- a list is empty where it is so with more at its end
-append_first : {X : Type 0} (xs ys : List X) → xs ++ ys ≡ [] → (xs ≡ []) × (ys ≡ [])
-append_first [] ys e = (refl, e)
-append_first (x ∷ xs) ys e = cc
-
--- a log that got nothing has its owner's own entries alone
-pub own_entries : (me : ℕ) (h : List Entry) → ((q : ℕ) → got_of q h ≡ []) → length h ≡ length (chosen me h) + length (made h)
-unfolding chosen made got_of
-own_entries me [] s = refl
-own_entries me (Chose t m n ∷ es) s = let ih = own_entries me es (λ q. s q) in omega arith
-own_entries me (Made f ∷ es) s = let ih = own_entries me es (λ q. s q) in omega arith
-own_entries me (Got p f ∷ es) s = absurd (nothing f (sym (got_here p f) ∙ (append_first (got_in p (Got p f)) (flat_map (got_in p) es) (s p)).0))
-
 -- a peer's tables, by what the log says
-pub peer_of : (game : Game) (me : ℕ) (h : List Entry) (os : List Opening) (fs : List TurnFrame) (ts : List Track) (ns : List Need) (size : Size) → IsSession game → me < players_of game →
-    game.grid.walls ≡ [] → IsHonest game me h → ((q : ℕ) → got_of q h ≡ []) → os ≡ chosen me h → fs ≡ made h → AreOwnTracks game me h ts → ns ≡ needs game me h → size ≡ size_of game.grid →
-    IsPeer game me h os fs ts ns size
-peer_of game me h os fs ts ns size is lt w i s o f t n z =
+pub peer_of : (game : Game) (me : ℕ) (h : List Entry) (os : List Opening) (fs : List TurnFrame) (ts : List Track) (ss : List Stream) (found : Option Finding) (ns : List Need) (size : Size) → IsSession game →
+    me < players_of game → game.grid.walls ≡ [] → IsHonest game me h → os ≡ chosen me h → fs ≡ made h → AreOwnTracks game me h ts → AreStreams game me h ss → found ≡ finding_of_log game h →
+    ns ≡ needs game me h → size ≡ size_of game.grid → IsPeer game me h os fs ts ss found ns size
+peer_of game me h os fs ts ss found ns size is lt w i o f t s e n z =
     let counts = own_counts game me h (ahead game is) i in
     let plain = own_counts_plain game me h is.ahead i in
     let few = counts.few in
     let made_are = made_few game me h is i in
     let turns = is.turns in
-    let all = own_entries me h s in
     let lo = ap length o in
     let lf = ap length f in
     let lts = ap length t ∙ tracks-length game (start_track game me) (map (λ o. o.mv) (chosen me h)) in
@@ -72,16 +68,16 @@ peer_of game me h os fs ts ns size is lt w i s o f t n z =
       player = lt;
       free = w;
       honest = i;
-      silent = s;
       openings_are = o;
       frames_are = f;
       tracks_are = t;
+      streams_are = s;
+      found_is = e;
       needs_are = n;
       size_is = z;
       few_openings = omega arith;
       few_frames = omega arith;
       few_turns = omega arith;
-      counted = omega arith;
       tracked = omega arith;
       revealed = plain.0 ∙ ap (λ k. k / 2) (sym lf);
     }
@@ -103,10 +99,6 @@ choice_is game me h os ts n t o a e f =
     let here : t ≡ chosen_track game me h = f ∙ ap (λ k. get_or ts k t) e ∙ last_track game me h os ts t o a in
     ap at_turn (sym (e ∙ ap length o)) ∙ ap at_track (sym here)
 
-pub silent_empty : (q : ℕ) → got_of q [] ≡ []
-unfolding got_of
-silent_empty q = refl
-
 pub made_empty : 0 ≡ made_count []
 unfolding made
 made_empty = refl
@@ -123,15 +115,22 @@ pub frames_empty : [] ≡ made []
 unfolding made
 frames_empty = refl
 
+-- a log without entries has no finding
+pub found_empty : (game : Game) → None ≡ finding_of_log game []
+unfolding got_of
+found_empty game = ap (λ (fs : List Finding). slice_get fs 0) (sym (clean_none game [] (clean_without_got game [] (λ q. refl))))
+
 -- a new peer's tables
-pub peer_new : (game copy : Game) (me : ℕ) (h g : List Entry) (os : List Opening) (fs : List TurnFrame) (t : Track) (ts : List Track) (ns : List Need) (size : Size) → IsSession game → me < players_of game →
-    game.grid.walls ≡ [] → copy ≡ game → h ≡ [] → g ≡ h → os ≡ [] → fs ≡ [] → t ≡ start_track game me → ts ≡ t ∷ [] → ns ≡ needs game me g → size ≡ size_of game.grid → IsPeer copy me h os fs ts ns size
-peer_new game copy me h g os fs t ts ns size is lt w same none seen o f e k n z =
-    let IsGame : Game → Type 0 = λ c. IsPeer c me h os fs ts ns size in
-    let IsLog : List Entry → Type 0 = λ l. IsPeer game me l os fs ts ns size in
+pub peer_new : (game copy : Game) (me : ℕ) (h g : List Entry) (os : List Opening) (fs : List TurnFrame) (t : Track) (ts : List Track) (ss : List Stream) (ns : List Need) (size : Size) → IsSession game →
+    me < players_of game → game.grid.walls ≡ [] → copy ≡ game → h ≡ [] → g ≡ h → os ≡ [] → fs ≡ [] → t ≡ start_track game me → ts ≡ t ∷ [] → AreStreams game me g ss → ns ≡ needs game me g →
+    size ≡ size_of game.grid → IsPeer copy me h os fs ts ss None ns size
+peer_new game copy me h g os fs t ts ss ns size is lt w same none seen o f e k s n z =
+    let IsGame : Game → Type 0 = λ c. IsPeer c me h os fs ts ss None ns size in
+    let IsLog : List Entry → Type 0 = λ l. IsPeer game me l os fs ts ss None ns size in
     let needs_are : ns ≡ needs game me [] = n ∙ ap (needs game me) (seen ∙ none) in
+    let Are : List Entry → Type 0 = λ l. AreStreams game me l ss in
     subst IsGame (sym same) (subst IsLog (sym none)
-    (peer_of game me [] os fs ts ns size is lt w (honest_empty game me) silent_empty (o ∙ chosen_empty me) (f ∙ frames_empty) (tracks_empty game me t ts e k) needs_are z))
+    (peer_of game me [] os fs ts ss None ns size is lt w (honest_empty game me) (o ∙ chosen_empty me) (f ∙ frames_empty) (tracks_empty game me t ts e k) (subst Are (seen ∙ none) s) (found_empty game) needs_are z))
 
 -- a new peer's room
 pub room_new : (game copy : Game) (turns others e o f t : ℕ) → copy ≡ game → turns ≡ game.turns → others ≡ players_of game - 1 →
@@ -140,7 +139,7 @@ room_new game copy turns others e o f t same a b p q r s =
     let IsGame : Game → Type 0 = λ g. HasRoom g e o f t in
     let with_turns : ℕ → ℕ = λ n. 3 * n + 2 * n * others + 1 in
     let with_others : ℕ → ℕ = λ n. 3 * game.turns + 2 * game.turns * n + 1 in
-    let all : 3 * turns + 2 * turns * others + 1 ≡ room game = ap with_turns a ∙ ap with_others b in
+    let all : 3 * turns + 2 * turns * others + 1 ≡ room_of game + 1 = ap with_turns a ∙ ap with_others b in
     subst IsGame (sym same) (record {
       entries_fit = omega arith;
       openings_fit = omega arith;
@@ -148,12 +147,95 @@ room_new game copy turns others e o f t same a b p q r s =
       tracks_fit = omega arith;
     })
 
--- what a log got stays where its owner made a frame, or chose
-pub silent_push : (me : ℕ) (h : List Entry) (e : Entry) → ((q : ℕ) → got_in q e ≡ []) → ((q : ℕ) → got_of q h ≡ []) → (q : ℕ) → got_of q (h ++ e ∷ []) ≡ []
-unfolding got_of
-silent_push me h e none s q =
-    let with_end : List TurnFrame → List TurnFrame = λ xs. xs ++ got_of q (e ∷ []) in
-    flat_map_append (got_in q) h (e ∷ []) ∙ ap with_end (s q) ∙ ap (λ xs. xs ++ []) (none q)
+-- there is room for an entry with which the log is honest
+pub entry_room : (game : Game) (me : ℕ) (h : List Entry) (e : Entry) (room : ℕ) → IsSession game → me < players_of game → IsHonest game me (h ++ e ∷ []) → room_of game + 1 ≤ room → length h < room
+entry_room game me h e room is my i fits =
+    let few = logs_fit game me (h ++ e ∷ []) (ahead game is) my i in
+    let more = length-append h (e ∷ []) in
+    omega arith
+
+-- what the table has of another player
+pub stream_at : (game : Game) (me q i : ℕ) (h : List Entry) (ss : List Stream) (d : Stream) → AreStreams game me h ss → q < players_of game → (q ≡ me → ⊥) → i ≡ q →
+    get_or ss i d ≡ stream_of game q (known game me h q)
+stream_at game me q i h ss d s lt other e = ap (λ k. get_or ss k d) e ∙ s.each q d lt other
+
+pub stream_inside : (game : Game) (me q i : ℕ) (h : List Entry) (ss : List Stream) (d : Stream) → IsSession game → AreStreams game me h ss → q < players_of game → (q ≡ me → ⊥) → i ≡ q →
+    is_inside game.grid (get_or ss i d).track.at ≡ true
+stream_inside game me q i h ss d is s lt other e =
+    let Is : Stream → Type 0 = λ x. is_inside game.grid x.track.at ≡ true in
+    subst Is (sym (stream_at game me q i h ss d s lt other e)) (known_inside game me q h is lt)
+
+pub stream_few : (game : Game) (me q i : ℕ) (h : List Entry) (ss : List Stream) (d : Stream) → IsSession game → AreStreams game me h ss → q < players_of game → (q ≡ me → ⊥) → i ≡ q →
+    (get_or ss i d).commits + (get_or ss i d).resolved ≤ 8192
+stream_few game me q i h ss d is s lt other e =
+    let Is : Stream → Type 0 = λ x. x.commits + x.resolved ≤ 8192 in
+    subst Is (sym (stream_at game me q i h ss d s lt other e)) (known_few game me q h is)
+
+-- what is known of the others stays where the owner made a frame, or chose
+pub streams_made : (game : Game) (me : ℕ) (h : List Entry) (f : TurnFrame) (ss : List Stream) → AreStreams game me h ss → AreStreams game me (h ++ Made f ∷ []) ss
+streams_made game me h f ss s = record { count = s.count; each = λ q d lt other. s.each q d lt other ∙ ap (stream_of game q) (sym (known_made game me q h f other)) }
+
+pub streams_chose : (game : Game) (me t : ℕ) (h : List Entry) (m : Move) (n : Nonce) (ss : List Stream) → AreStreams game me h ss → AreStreams game me (h ++ Chose t m n ∷ []) ss
+streams_chose game me t h m n ss s = record { count = s.count; each = λ q d lt other. s.each q d lt other ∙ ap (stream_of game q) (sym (known_chose game me q t h m n)) }
+
+-- and where it got a frame, of all but the frame's player
+pub streams_got : (game : Game) (me p : ℕ) (h : List Entry) (f : TurnFrame) (ss : List Stream) (x : Stream) → p < players_of game → AreStreams game me h ss →
+    x ≡ stream_of game p (known game me (h ++ Got p f ∷ []) p) → AreStreams game me (h ++ Got p f ∷ []) (set ss p x)
+streams_got game me p h f ss x here s is = record {
+  count = length-set ss p x ∙ s.count;
+  each = λ q d lt other. by_player q d lt other (q == p) refl;
+}
+  where
+    by_player : (q : ℕ) (d : Stream) → q < players_of game → (q ≡ me → ⊥) → (b : Bool) → (q == p) ≡ b → get_or (set ss p x) q d ≡ stream_of game q (known game me (h ++ Got p f ∷ []) q)
+    by_player q d lt other true e =
+        let same : q ≡ p = eqb-true q p e in
+        let count = s.count in
+        ap (λ k. get_or (set ss p x) k d) same ∙ get_or-set_same ss p x d (omega arith) ∙ is ∙ ap (λ k. stream_of game k (known game me (h ++ Got p f ∷ []) k)) (sym same)
+    by_player q d lt other false e =
+        let apart : q ≡ p → ⊥ = eqb-false q p e in
+        get_or-set_other ss p q x d apart ∙ s.each q d lt other ∙ ap (stream_of game q) (sym (known_got_other game me q p h f (λ k. apart (sym k))))
+
+-- a frame that is taken in is another player's
+pub taken_from : (game : Game) (me q : ℕ) (h : List Entry) (f : TurnFrame) → refusal game me h q f ≡ None → (q < players_of game) × (q ≡ me → ⊥)
+taken_from game me q h f none =
+    let all = and_parts (is_clean game h && is_of_another game me q f) (is_new game me h q f) ((replies game me q h f).joins.1 none) in
+    let from = (and_parts (is_clean game h) (is_of_another game me q f) all.0).1 in
+    let player = (and_parts (nat_lt q (players_of game) && not (q == me)) (player_of f == q) from).0 in
+    let both = and_parts (nat_lt q (players_of game)) (not (q == me)) player in
+    (true-lt q (players_of game) both.0, apart (q == me) refl both.1)
+  where
+    apart : (b : Bool) → (q == me) ≡ b → not b ≡ true → q ≡ me → ⊥
+    apart true e n same = absurd (false≢true n)
+    apart false e n same = eqb-false q me e same
+
+-- the finding of which the answer tells is the log's first
+pub caught_found : (game : Game) (me q : ℕ) (h : List Entry) (f : TurnFrame) (a : GotAnswer) → refusal game me h q f ≡ None → a ≡ got_answer game me (before_last (h ++ Got q f ∷ [])) q f →
+    caught_in a ≡ finding_of_log game (h ++ Got q f ∷ [])
+caught_found game me q h f a none is = by_finding (finding_of_log game (h ++ Got q f ∷ [])) refl
+  where
+    log : List Entry
+    log = h ++ Got q f ∷ []
+
+    next : Bool
+    next = place_of game f == next_place game me (before_last log) q
+
+    taken : IsTaken game me log q f
+    taken = (replies game me q h f).taken none
+
+    by_place : (b : Bool) → next ≡ b → finding_of_log game log ≡ None → caught_in a ≡ None
+    by_place true e o = ap caught_in (is ∙ sym (taken_next game me q log f next taken (sym o) refl e))
+    by_place false e o = ap caught_in (is ∙ sym (taken_stashed game me q log f next taken (sym o) refl e))
+
+    by_finding : (o : Option Finding) → finding_of_log game log ≡ o → caught_in a ≡ o
+    by_finding None e = by_place next refl e
+    by_finding (Some x) e = ap caught_in (is ∙ sym (taken_caught game me q log f x taken (sym e)))
+
+-- a made frame and a choice leave the first finding
+found_made : (game : Game) (h : List Entry) (f : TurnFrame) → finding_of_log game h ≡ finding_of_log game (h ++ Made f ∷ [])
+found_made game h f = ap (λ (fs : List Finding). slice_get fs 0) (sym (findings_made game h f))
+
+found_chose : (game : Game) (h : List Entry) (t : ℕ) (m : Move) (n : Nonce) → finding_of_log game h ≡ finding_of_log game (h ++ Chose t m n ∷ [])
+found_chose game h t m n = ap (λ (fs : List Finding). slice_get fs 0) (sym (findings_chose game h t m n))
 
 pub chosen_made : (me : ℕ) (h : List Entry) (f : TurnFrame) → chosen me (h ++ Made f ∷ []) ≡ chosen me h
 unfolding chosen
@@ -176,15 +258,15 @@ next_room game me h f fs is i e m =
     omega arith
 
 -- the tables after the next frame
-pub peer_made : (game : Game) (me : ℕ) (h h' : List Entry) (os : List Opening) (fs fs' : List TurnFrame) (ts : List Track) (ns ns' : List Need) (size : Size) (f : TurnFrame) → IsSession game →
-    IsPeer game me h os fs ts ns size → next_made game me h ≡ Some f → h' ≡ h ++ Made f ∷ [] → fs' ≡ fs ++ f ∷ [] → ns' ≡ needs game me h' →
-    IsPeer game me h' os fs' ts ns' size
-peer_made game me h h' os fs fs' ts ns ns' size f is p next e m n =
-    let IsLog : List Entry → Type 0 = λ g. IsPeer game me g os fs' ts ns' size in
+pub peer_made : (game : Game) (me : ℕ) (h h' : List Entry) (os : List Opening) (fs fs' : List TurnFrame) (ts : List Track) (ss : List Stream) (found : Option Finding) (ns ns' : List Need) (size : Size) (f : TurnFrame) → IsSession game →
+    IsPeer game me h os fs ts ss found ns size → next_made game me h ≡ Some f → h' ≡ h ++ Made f ∷ [] → fs' ≡ fs ++ f ∷ [] → ns' ≡ needs game me h' →
+    IsPeer game me h' os fs' ts ss found ns' size
+peer_made game me h h' os fs fs' ts ss found ns ns' size f is p next e m n =
+    let IsLog : List Entry → Type 0 = λ g. IsPeer game me g os fs' ts ss found ns' size in
     let tracks : List Opening → List Track = λ xs. tracks_from game (start_track game me) (map (λ o. o.mv) xs) in
-    subst IsLog (sym e) (peer_of game me (h ++ Made f ∷ []) os fs' ts ns' size is p.player p.free (next_honest game me h f p.honest next)
-    (silent_push me h (Made f) (λ q. refl) p.silent) (p.openings_are ∙ sym (chosen_made me h f)) (m ∙ ap (λ (xs : List TurnFrame). xs ++ f ∷ []) p.frames_are ∙ sym (frames_made h f))
-    (p.tracks_are ∙ ap tracks (sym (chosen_made me h f))) (n ∙ ap (needs game me) e) p.size_is)
+    subst IsLog (sym e) (peer_of game me (h ++ Made f ∷ []) os fs' ts ss found ns' size is p.player p.free (next_honest game me h f p.honest next)
+    (p.openings_are ∙ sym (chosen_made me h f)) (m ∙ ap (λ (xs : List TurnFrame). xs ++ f ∷ []) p.frames_are ∙ sym (frames_made h f))
+    (p.tracks_are ∙ ap tracks (sym (chosen_made me h f))) (streams_made game me h f ss p.streams_are) (p.found_is ∙ found_made game h f) (n ∙ ap (needs game me) e) p.size_is)
 
 -- what is next in the log that is seen is next in the log inside
 pub next_inside : (v w : PeerState) (f : TurnFrame) → w ≡ v → next_made v.game v.me v.entries ≡ Some f → next_made w.game w.me w.entries ≡ Some f
@@ -195,9 +277,9 @@ tracks_made game me h f ts t =
     let tracks : List Opening → List Track = λ xs. tracks_from game (start_track game me) (map (λ o. o.mv) xs) in
     t ∙ ap tracks (sym (chosen_made me h f))
 
-pub standing : (game : Game) (me : ℕ) (h : List Entry) (os : List Opening) (fs : List TurnFrame) (ts : List Track) (ns : List Need) (size : Size) → IsSession game → IsPeer game me h os fs ts ns size →
-    IsStanding (record { game = game; me = me; entries = h })
-standing game me h os fs ts ns size is p =
+pub standing : (game : Game) (me : ℕ) (h : List Entry) (os : List Opening) (fs : List TurnFrame) (ts : List Track) (ss : List Stream) (found : Option Finding) (ns : List Need) (size : Size) → IsSession game →
+    IsPeer game me h os fs ts ss found ns size → IsStanding (record { game = game; me = me; entries = h })
+standing game me h os fs ts ss found ns size is p =
     let counts = own_counts game me h (ahead game is) p.honest in
     let plain = own_counts_plain game me h is.ahead p.honest in
     let sum = counts.sum in
@@ -209,7 +291,6 @@ standing game me h os fs ts ns size is p =
       player = p.player;
       free = p.free;
       honest = p.honest;
-      silent = p.silent;
       made_few = made_are;
       chosen_few = counts.few;
       chosen_next = omega arith;
@@ -223,10 +304,40 @@ state_is a game me h e f g =
     let at_log : List Entry → PeerState = λ x. record { game = game; me = me; entries = x } in
     ap at_game e ∙ ap at_me f ∙ ap at_log g
 
+-- what the log inside doesn't refuse is what the log that is seen doesn't refuse
+pub refused_inside : (v w : PeerState) (q : ℕ) (f : TurnFrame) → w ≡ v → refusal v.game v.me v.entries q f ≡ None → refusal w.game w.me w.entries q f ≡ None
+refused_inside v w q f e n = let Is : PeerState → Type 0 = λ p. refusal p.game p.me p.entries q f ≡ None in subst Is (sym e) n
+
+-- a frame that was got changes nothing of the owner's own
+pub chosen_got : (me q : ℕ) (h : List Entry) (f : TurnFrame) → chosen me (h ++ Got q f ∷ []) ≡ chosen me h
+unfolding chosen
+chosen_got me q h f = flat_map_append (chosen_in me) h (Got q f ∷ []) ∙ append-nil (chosen me h)
+
+pub made_got : (q : ℕ) (h : List Entry) (f : TurnFrame) → made (h ++ Got q f ∷ []) ≡ made h
+unfolding made
+made_got q h f = flat_map_append made_in h (Got q f ∷ []) ∙ append-nil (made h)
+
+pub tracks_got : (game : Game) (me q : ℕ) (h : List Entry) (f : TurnFrame) (ts : List Track) → AreOwnTracks game me h ts → AreOwnTracks game me (h ++ Got q f ∷ []) ts
+tracks_got game me q h f ts t =
+    let tracks : List Opening → List Track = λ xs. tracks_from game (start_track game me) (map (λ o. o.mv) xs) in
+    t ∙ ap tracks (sym (chosen_got me q h f))
+
+-- the tables after a frame was got
+pub peer_got : (game : Game) (me q : ℕ) (h h' : List Entry) (f : TurnFrame) (os : List Opening) (fs : List TurnFrame) (ts : List Track) (ss : List Stream) (found found' : Option Finding)
+    (ns ns' : List Need) (size size' : Size) (x : Stream) → IsSession game → IsPeer game me h os fs ts ss found ns size → refusal game me h q f ≡ None → h' ≡ h ++ Got q f ∷ [] →
+    x ≡ stream_of game q (known game me h' q) → found' ≡ finding_of_log game h' → ns' ≡ needs game me h' → size' ≡ size → IsPeer game me h' os fs ts (set ss q x) found' ns' size'
+peer_got game me q h h' f os fs ts ss found found' ns ns' size size' x is p none e stream first g z =
+    let IsLog : List Entry → Type 0 = λ l. IsPeer game me l os fs ts (set ss q x) found' ns' size' in
+    let from = taken_from game me q h f none in
+    subst IsLog (sym e) (peer_of game me (h ++ Got q f ∷ []) os fs ts (set ss q x) found' ns' size' is p.player p.free (log_stays_honest game me q h f p.honest none)
+    (p.openings_are ∙ sym (chosen_got me q h f)) (p.frames_are ∙ sym (made_got q h f)) (tracks_got game me q h f ts p.tracks_are)
+    (streams_got game me q h f ss x from.0 p.streams_are (stream ∙ ap (λ (l : List Entry). stream_of game q (known game me l q)) e))
+    (first ∙ ap (finding_of_log game) e) (g ∙ ap (needs game me) e) (z ∙ p.size_is))
+
 -- what the tables show of the owner itself
-pub player_me : (game : Game) (me : ℕ) (h : List Entry) (os : List Opening) (fs : List TurnFrame) (ts : List Track) (ns : List Need) (size : Size) (n : ℕ) (t : Track) → IsSession game →
-    IsPeer game me h os fs ts ns size → n ≡ length fs → t ≡ get_or ts (n / 2) t → record { turns = n / 2; track = t; next = n } ≡ player_view game me h me
-player_me game me h os fs ts ns size n t is p e f =
+pub player_me : (game : Game) (me : ℕ) (h : List Entry) (os : List Opening) (fs : List TurnFrame) (ts : List Track) (ss : List Stream) (found : Option Finding) (ns : List Need) (size : Size) (n : ℕ) (t : Track) →
+    IsSession game → IsPeer game me h os fs ts ss found ns size → n ≡ length fs → t ≡ get_or ts (n / 2) t → record { turns = n / 2; track = t; next = n } ≡ player_view game me h me
+player_me game me h os fs ts ss found ns size n t is p e f =
     let r : n / 2 ≡ resolved_count game me h me = ap (λ k. k / 2) e ∙ sym p.revealed in
     let next : n ≡ next_place game me h me = e ∙ ap (λ (xs : List TurnFrame). length xs) p.frames_are ∙ sym (own_next game me h (ahead game is) p.honest) in
     let counts = own_counts game me h (ahead game is) p.honest in
@@ -285,15 +396,15 @@ tracks_chose game me h k m n ts ts' t are next e =
     sym (tracks-push game start (moves (chosen me h)) m) ∙ ap (λ (ms : List Move). tracks_from game start ms) (sym (ap moves (chosen_chose me h k m n) ∙ map-append (λ (o : Opening). o.mv) (chosen me h) (one ∷ [])))
 
 -- the tables after a choice
-pub peer_chose : (game : Game) (me : ℕ) (h h' : List Entry) (os os' : List Opening) (fs : List TurnFrame) (ts ts' : List Track) (ns ns' : List Need) (size : Size) (k : ℕ) (m : Move) (n : Nonce) (t : Track) →
-    IsSession game → IsPeer game me h os fs ts ns size → IsHonest game me (h ++ Chose k m n ∷ []) → t ≡ next_track game (chosen_track game me h) m → h' ≡ h ++ Chose k m n ∷ [] →
-    os' ≡ os ++ record { player = me; turn = k; mv = m; nonce = n } ∷ [] → ts' ≡ ts ++ t ∷ [] → ns' ≡ needs game me h' → IsPeer game me h' os' fs ts' ns' size
-peer_chose game me h h' os os' fs ts ts' ns ns' size k m n t is p i next e o f g =
-    let IsLog : List Entry → Type 0 = λ l. IsPeer game me l os' fs ts' ns' size in
+pub peer_chose : (game : Game) (me : ℕ) (h h' : List Entry) (os os' : List Opening) (fs : List TurnFrame) (ts ts' : List Track) (ss : List Stream) (found : Option Finding) (ns ns' : List Need) (size : Size) (k : ℕ) (m : Move) (n : Nonce) (t : Track) →
+    IsSession game → IsPeer game me h os fs ts ss found ns size → IsHonest game me (h ++ Chose k m n ∷ []) → t ≡ next_track game (chosen_track game me h) m → h' ≡ h ++ Chose k m n ∷ [] →
+    os' ≡ os ++ record { player = me; turn = k; mv = m; nonce = n } ∷ [] → ts' ≡ ts ++ t ∷ [] → ns' ≡ needs game me h' → IsPeer game me h' os' fs ts' ss found ns' size
+peer_chose game me h h' os os' fs ts ts' ss found ns ns' size k m n t is p i next e o f g =
+    let IsLog : List Entry → Type 0 = λ l. IsPeer game me l os' fs ts' ss found ns' size in
     let one : Opening = record { player = me; turn = k; mv = m; nonce = n } in
-    subst IsLog (sym e) (peer_of game me (h ++ Chose k m n ∷ []) os' fs ts' ns' size is p.player p.free i
-    (silent_push me h (Chose k m n) (λ q. refl) p.silent) (o ∙ ap (λ (xs : List Opening). xs ++ one ∷ []) p.openings_are ∙ sym (chosen_chose me h k m n)) (p.frames_are ∙ sym (frames_chose h k m n))
-    (tracks_chose game me h k m n ts ts' t p.tracks_are next f) (g ∙ ap (needs game me) e) p.size_is)
+    subst IsLog (sym e) (peer_of game me (h ++ Chose k m n ∷ []) os' fs ts' ss found ns' size is p.player p.free i
+    (o ∙ ap (λ (xs : List Opening). xs ++ one ∷ []) p.openings_are ∙ sym (chosen_chose me h k m n)) (p.frames_are ∙ sym (frames_chose h k m n))
+    (tracks_chose game me h k m n ts ts' t p.tracks_are next f) (streams_chose game me k h m n ss p.streams_are) (p.found_is ∙ found_chose game h k m n) (g ∙ ap (needs game me) e) p.size_is)
 
 -- what a choice requires of the log that is seen, of the log inside
 pub may_inside : (v w : PeerState) → w ≡ v → may_choose v.game v.me v.entries ≡ true → may_choose w.game w.me w.entries ≡ true

@@ -1,44 +1,51 @@
 -- Inside: what holds of a peer's tables.
-use Rattle.std.specs.Prelude.{◌≡◌, ℕ, ◌+◌, ◌*◌, ◌-◌, ◌/◌, ◌<◌, ◌≤◌, List, [], length}
+use Rattle.std.specs.Prelude.{◌≡◌, ◌≢◌, ℕ, ◌+◌, ◌*◌, ◌/◌, ◌<◌, ◌≤◌, List, [], length, get_or, Option}
 use Rattle.definitions.specs.declared.world.Track.{Track}
 use Rattle.definitions.specs.declared.openings.Opening.{Opening}
 use Rattle.definitions.specs.declared.frames.TurnFrame.{TurnFrame}
 use Rattle.definitions.specs.declared.logs.Entry.{Entry}
 use Rattle.definitions.specs.declared.answers.Need.{Need}
+use Rattle.definitions.specs.declared.findings.Finding.{Finding}
 use Rattle.definitions.specs.World.{Game, players_of}
-use Rattle.definitions.specs.Logs.{made, chosen, got_of}
-use Rattle.definitions.specs.Held.{resolved_count}
+use Rattle.definitions.specs.Logs.{made, chosen}
+use Rattle.definitions.specs.Held.{known, resolved_count}
 use Rattle.definitions.specs.Honest.{IsHonest}
 use Rattle.definitions.specs.Needs.{needs}
 use Rattle.move_rules.specs.Verdicts.{Size, size_of}
+use Rattle.log_scan.specs.declared.streams.Stream.{Stream}
+use Rattle.log_scan.specs.Streams.{stream_of}
+use Rattle.log_scan.specs.First.{finding_of_log}
+use Rattle.log_scan.specs.Fits.{room_of}
 use Rattle.peer_core.specs.Waiting.{AreOwnTracks}
 
--- how many entries a peer's log has at most, and the one past them that makes a finding
-abbrev pub room : Game → ℕ
-room game = 3 * game.turns + 2 * game.turns * (players_of game - 1) + 1
+-- the table has what the log shows of each other player's stream
+pub record AreStreams (game : Game) (me : ℕ) (h : List Entry) (streams : List Stream) : Type 0 where
+  pub count : length streams ≡ players_of game
+  pub each : (q : ℕ) (d : Stream) → q < players_of game → q ≢ me → get_or streams q d ≡ stream_of game q (known game me h q)
 
 -- the log is honest, and the tables beside it are what it says
-pub record IsPeer (game : Game) (me : ℕ) (entries : List Entry) (openings : List Opening) (frames : List TurnFrame) (tracks : List Track) (needs_list : List Need) (size : Size) : Type 0 where
+pub record IsPeer (game : Game) (me : ℕ) (entries : List Entry) (openings : List Opening) (frames : List TurnFrame) (tracks : List Track) (streams : List Stream) (found : Option Finding) (needs_list : List Need) (size : Size) : Type 0 where
   pub player : me < players_of game
   pub free : game.grid.walls ≡ []
   pub honest : IsHonest game me entries
-  pub silent : (q : ℕ) → got_of q entries ≡ []
   pub openings_are : openings ≡ chosen me entries
   pub frames_are : frames ≡ made entries
   pub tracks_are : AreOwnTracks game me entries tracks
+  pub streams_are : AreStreams game me entries streams
+  pub found_is : found ≡ finding_of_log game entries
   pub needs_are : needs_list ≡ needs game me entries
   pub size_is : size ≡ size_of game.grid
   -- what follows of the numbers
   pub few_openings : length openings ≤ game.turns
   pub few_frames : length frames ≤ 2 * game.turns
   pub few_turns : game.turns ≤ 4096
-  pub counted : length entries ≡ length openings + length frames
   pub tracked : length tracks ≡ length openings + 1
   pub revealed : resolved_count game me entries me ≡ length frames / 2
 
 -- there is room for every entry, opening, frame and track of a session
 pub record HasRoom (game : Game) (entries openings frames tracks : ℕ) : Type 0 where
-  pub entries_fit : room game ≤ entries
+  -- one more than an honest log without a finding has, for the entry that makes one
+  pub entries_fit : room_of game + 1 ≤ entries
   pub openings_fit : game.turns ≤ openings
   pub frames_fit : 2 * game.turns ≤ frames
   pub tracks_fit : game.turns + 1 ≤ tracks

@@ -1,7 +1,7 @@
 -- Standing: what holds of every peer.
 use Rattle.std.specs.Prelude.{◌≡◌, ℕ, ◌+◌, ◌/◌, ◌*◌, ◌<◌, ◌≤◌, [], length}
 use Rattle.definitions.specs.World.{players_of}
-use Rattle.definitions.specs.Logs.{chosen, got_of}
+use Rattle.definitions.specs.Logs.{chosen}
 use Rattle.definitions.specs.Honest.{IsHonest, made_count}
 use Rattle.grid_world.specs.Sessions.{IsSession}
 use Rattle.peer_core.specs.Views.{PeerState}
@@ -12,7 +12,6 @@ pub record IsStanding (p : PeerState) : Type 0 where
   pub player : p.me < players_of p.game
   pub free : p.game.grid.walls ≡ []
   pub honest : IsHonest p.game p.me p.entries
-  pub silent : (q : ℕ) → got_of q p.entries ≡ []
   pub made_few : made_count p.entries ≤ 2 * p.game.turns
   pub chosen_few : length (chosen p.me p.entries) ≤ p.game.turns
   pub chosen_next : length (chosen p.me p.entries) ≤ (made_count p.entries + 1) / 2 + 1

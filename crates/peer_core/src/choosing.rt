@@ -1,11 +1,11 @@
 //! The next frame and the next choice, as a peer's tables say.
 
-ghost use Rattle.std.specs.Prelude.{◌≡◌, [], length};
+ghost use Rattle.std.specs.Prelude.{◌≡◌, ◌&&◌};
 ghost use Rattle.definitions.specs.Advance as A;
 ghost use Rattle.peer_core.specs.Choosing as C;
 
 use crate::frames::frame_of;
-use definitions::{Opening, Progress, TurnFrame, What};
+use definitions::{Finding, GotAnswer, Opening, Progress, TurnFrame, What};
 use grid_world::Session;
 
 /// Which frame of a turn stands at this place.
@@ -19,16 +19,17 @@ fn what_at(place: usize) -> What
     }
 }
 
-/// The next frame, where no one is waited for and its turn is chosen.
+/// The next frame, where the log has no finding, no one is waited for, and its turn is chosen.
 pub(crate) fn next_of(
     session: &Session,
+    clean: bool,
     no_needs: bool,
     openings: &[Opening],
     made: usize,
 ) -> Option<TurnFrame>
-    ensures { result ≡ C.next_of session.now no_needs openings.now made }
+    ensures { result ≡ C.next_of session.now (clean && no_needs) openings.now made }
 {
-    if !no_needs {
+    if !clean || !no_needs {
         return None;
     }
     match openings.get(made / 2) {
@@ -38,16 +39,35 @@ pub(crate) fn next_of(
 }
 
 /// Whether a move may be chosen.
-pub(crate) fn chooses(no_needs: bool, made: usize, chosen: usize, turns: usize) -> bool
-    ensures { result ≡ C.chooses no_needs made chosen turns }
+pub(crate) fn chooses(clean: bool, no_needs: bool, made: usize, chosen: usize, turns: usize) -> bool
+    ensures { result ≡ C.chooses (clean && no_needs) made chosen turns }
 {
-    no_needs && made % 2 == 0 && made / 2 < turns && chosen <= made / 2
+    clean && no_needs && made % 2 == 0 && made / 2 < turns && chosen <= made / 2
 }
 
-/// How far a peer came that made so many frames, by whether it might choose and had no one to wait for before.
-pub(crate) fn progress_of(count: u8, chooses: bool, no_needs: bool) -> Progress
-    ensures { result ≡ A.progress_of [] count (A.standing chooses no_needs) }
+/// The finding of which the answer tells, if it does.
+pub(crate) fn caught_in(answer: &GotAnswer) -> Option<Finding>
+    ensures { result ≡ C.caught_in answer.now }
 {
+    match *answer {
+        GotAnswer::Caught(finding) => Some(finding),
+        _ => None,
+    }
+}
+
+/// How far a peer came that made so many frames, by the finding of its log, if there is one, and by whether it might choose
+/// and had no one to wait for before.
+pub(crate) fn progress_of(
+    found: Option<Finding>,
+    count: u8,
+    chooses: bool,
+    no_needs: bool,
+) -> Progress
+    ensures { result ≡ C.progress_by found count (A.standing chooses no_needs) }
+{
+    if let Some(finding) = found {
+        return Progress::Caught(finding);
+    }
     if count > 0 {
         Progress::Made(count)
     } else if chooses {

@@ -15,7 +15,8 @@ mod streams;
 mod views;
 mod waiting;
 
-pub use definitions::{Entry, Need, OwnFault, Progress, What};
+pub use definitions::{Entry, Finding, GotAnswer, Need, OwnFault, Progress, What};
+pub use log_scan::place_of;
 pub use needs::NeedList;
 pub use peer::Peer;
 pub use views::{Choice, PlayerView};

@@ -5,9 +5,9 @@ ghost use Rattle.definitions.specs.World.{players_of, is_inside};
 ghost use Rattle.grid_world.specs.Sessions.{IsSession};
 ghost use Rattle.peer_core.specs.Meeting.{meets_at, radius};
 
-use crate::views::Stream;
 use definitions::{Cell, PlayerId};
 use grid_world::{Session, distance};
+use log_scan::Stream;
 
 /// How far from its cell a player's sphere goes on ground without walls, so many turns after it stood there.
 fn sphere_radius(session: &Session, missed: u32) -> u32

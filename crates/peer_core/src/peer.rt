@@ -1,6 +1,6 @@
 //! A peer, and what it may do.
 
-ghost use Rattle.std.specs.Prelude.{◌≡◌, ◌<◌, ◌≤◌, ◌+◌, ◌*◌, [], ◌∷◌, ◌++◌, length, Some, None, IsTrue, IfOk, OnOk, OnErr, slice_get};
+ghost use Rattle.std.specs.Prelude.{◌≡◌, ◌<◌, ◌≤◌, ◌+◌, ◌*◌, [], ◌∷◌, ◌++◌, length, Some, None, not, IsTrue, IfOk, OnOk, OnErr, slice_get};
 ghost use Rattle.definitions.specs.World.{players_of};
 ghost use Rattle.definitions.specs.Logs as L;
 ghost use Rattle.definitions.specs.Held as H;
@@ -11,23 +11,30 @@ ghost use Rattle.move_rules.specs.Verdicts.{verdict};
 ghost use Rattle.peer_core.specs.Choosing.{fault_of};
 ghost use Rattle.peer_core.specs.Standing.{IsStanding};
 ghost use Rattle.definitions.specs.Advance as A;
+ghost use Rattle.std.specs.Option.{is_some};
+ghost use Rattle.definitions.specs.Findings.{is_clean};
+ghost use Rattle.definitions.specs.Answers.{got_answer};
+ghost use Rattle.log_scan.specs.First.{finding_of_log};
+ghost use Rattle.log_scan.specs.Replies as R;
 ghost use Rattle.peer_core.specs.Views as V;
 
-use crate::choosing::{chooses, next_of, progress_of};
+use crate::choosing::{caught_in, chooses, next_of, progress_of};
 use crate::needs::NeedList;
 use crate::room::add;
-use crate::streams::other_stream;
+use crate::streams::{other_stream, read_streams};
 use crate::views::{Choice, PlayerView};
 use crate::waiting::find_needs;
 use definitions::{
-    Entry, Move, MoveFault, Nonce, Opening, OwnFault, PlayerId, Progress, Track, TurnFrame,
+    Entry, Finding, GotAnswer, Move, MoveFault, Nonce, Opening, OwnFault, PlayerId, Progress,
+    Track, TurnFrame,
 };
 use grid_world::Session;
+use log_scan::{Stream, answer_taken, known_stream, refusal};
 use move_rules::{Walker, start_track};
 use std::alloc::{AllocError, Global};
 use std::marker::Model;
 
-/// The log of one player of a session, with tables of what its own entries say.
+/// The log of one player of a session, with tables of what its entries say.
 #[derive(Drop)]
 pub struct Peer {
     session: Session,
@@ -38,6 +45,9 @@ pub struct Peer {
     openings: Vec<Opening>,
     frames: Vec<TurnFrame>,
     tracks: Vec<Track>,
+    // what the log shows of each other player's stream, and its first finding
+    streams: Vec<Stream>,
+    found: Option<Finding>,
     needs: NeedList,
 }
 
@@ -50,7 +60,7 @@ impl Model for Peer {
 
     ghost view = { λ p. record { game = p.session; me = p.me; entries = p.entries.items } };
 
-    ghost invariant = { λ p. IsPeer p.session p.me p.entries.items p.openings.items p.frames.items p.tracks.items p.needs p.walker
+    ghost invariant = { λ p. IsPeer p.session p.me p.entries.items p.openings.items p.frames.items p.tracks.items p.streams.items p.found p.needs p.walker
         × HasRoom p.session (vec_capacity p.entries) (vec_capacity p.openings) (vec_capacity p.frames) (vec_capacity p.tracks) };
 }
 
@@ -62,7 +72,7 @@ impl Peer {
         ensures { IfOk result (λ p. p ≡ record { game = session.now; me = me; entries = [] }) }
     {
         let copy = session.copy(alloc)?;
-        let walker = Walker::new(alloc, session.grid())?;
+        let mut walker = Walker::new(alloc, session.grid())?;
         let turns = session.turns() as usize;
         let others = usize::from(session.players()) - 1;
         let entries = Vec::with_capacity(alloc, 3 * turns + 2 * turns * others + 1)?;
@@ -70,6 +80,8 @@ impl Peer {
         let frames = Vec::with_capacity(alloc, 2 * turns)?;
         let mut tracks = Vec::with_capacity(alloc, turns + 1)?;
         tracks.push(start_track(session, me))?;
+        let mut streams = Vec::with_capacity(alloc, others + 1)?;
+        read_streams(session, &mut walker, me, entries.as_slice(), &mut streams);
         let mut needs = NeedList::new();
         find_needs(
             session,
@@ -77,6 +89,7 @@ impl Peer {
             entries.as_slice(),
             0,
             tracks.as_slice(),
+            streams.as_slice(),
             &mut needs,
         );
         Ok(Peer {
@@ -87,6 +100,8 @@ impl Peer {
             openings,
             frames,
             tracks,
+            streams,
+            found: None,
             needs,
         })
     }
@@ -117,6 +132,15 @@ impl Peer {
         ensures { result.now ≡ self.now.entries }
     {
         self.entries.as_slice()
+    }
+
+    /// The first finding of the log, if it has one.
+    pub fn finding(&self) -> Option<Finding>
+        ensures first { result ≡ finding_of_log self.now.game self.now.entries }
+        ensures clean { is_some result ≡ not (is_clean self.now.game self.now.entries) }
+    {
+        let _ = &self.session;
+        self.found
     }
 
     /// For whom the peer waits, by rising player.
@@ -163,8 +187,11 @@ impl Peer {
         ensures { result ≡ N.may_choose self.now.game self.now.me self.now.entries }
     {
         self.session.facts();
+        let clean = self.found.is_none();
+        let no_needs = self.needs.as_slice().is_empty();
         chooses(
-            self.needs.as_slice().is_empty(),
+            clean,
+            no_needs,
             self.frames.len(),
             self.openings.len(),
             self.session.turns() as usize,
@@ -177,9 +204,12 @@ impl Peer {
         ensures facts { IsStanding self.now }
     {
         self.session.facts();
+        let clean = self.found.is_none();
+        let no_needs = self.needs.as_slice().is_empty();
         next_of(
             &self.session,
-            self.needs.as_slice().is_empty(),
+            clean,
+            no_needs,
             self.openings.as_slice(),
             self.frames.len(),
         )
@@ -199,6 +229,7 @@ impl Peer {
             self.entries.as_slice(),
             self.frames.len() as u32,
             self.tracks.as_slice(),
+            self.streams.as_slice(),
             &mut self.needs,
         );
     }
@@ -217,7 +248,7 @@ impl Peer {
         count
     }
 
-    /// Makes every frame that the protocol allows by now, and says how far the peer came.
+    /// Makes every frame that the protocol allows by now, and says how far the peer came. Behind a finding nothing is made.
     pub fn advance(&mut self) -> Progress
         ensures progress { result ≡ A.progress self.old.game self.old.me self.old.entries }
         ensures log { self.new ≡ record self.old { entries = A.advance self.old.game self.old.me self.old.entries } }
@@ -225,8 +256,9 @@ impl Peer {
         self.facts();
         let chooses = self.may_choose();
         let no_needs = self.needs.as_slice().is_empty();
+        let found = self.found;
         let count = self.make_all();
-        progress_of(count, chooses, no_needs)
+        progress_of(found, count, chooses, no_needs)
     }
 
     /// Adds a choice that is allowed, after which the owner has this track.
@@ -253,6 +285,7 @@ impl Peer {
             self.entries.as_slice(),
             self.frames.len() as u32,
             self.tracks.as_slice(),
+            self.streams.as_slice(),
             &mut self.needs,
         );
     }
@@ -287,6 +320,71 @@ impl Peer {
         self.walker.legal(&self.session, self.me, track, mv)
     }
 
+    /// The answer to a frame that the log doesn't take in.
+    fn refuse(&mut self, from: PlayerId, frame: &TurnFrame) -> Option<GotAnswer>
+        ensures refusal { result ≡ R.refusal self.old.game self.old.me self.old.entries from frame.now }
+        ensures same { self.new ≡ self.old }
+    {
+        refusal(
+            &self.session,
+            &mut self.walker,
+            self.me,
+            self.entries.as_slice(),
+            self.found.is_none(),
+            from,
+            frame,
+        )
+    }
+
+    /// Takes a frame into the log.
+    fn take(&mut self, from: PlayerId, frame: &TurnFrame) -> GotAnswer
+        requires { R.refusal self.old.game self.old.me self.old.entries from frame.now ≡ None }
+        ensures answer { result ≡ got_answer self.old.game self.old.me self.old.entries from frame.now }
+        ensures log { self.new ≡ record self.old { entries = self.old.entries ++ Entry.Got from frame.now ∷ [] } }
+    {
+        self.session.facts();
+        add(&mut self.entries, Entry::Got(from, *frame));
+        let answer = answer_taken(
+            &self.session,
+            &mut self.walker,
+            self.me,
+            self.entries.as_slice(),
+            from,
+            frame,
+        );
+        self.found = caught_in(&answer);
+        self.streams[usize::from(from)] = known_stream(
+            &self.session,
+            &mut self.walker,
+            self.me,
+            self.entries.as_slice(),
+            from,
+        );
+        find_needs(
+            &self.session,
+            self.me,
+            self.entries.as_slice(),
+            self.frames.len() as u32,
+            self.tracks.as_slice(),
+            self.streams.as_slice(),
+            &mut self.needs,
+        );
+        answer
+    }
+
+    /// Takes a frame that came from a player. It is refused where the log has a finding already, where it is no frame of the
+    /// other player from whom it came, where its place is past the window of that player's next one or past the last turn,
+    /// and where the log has it already; then nothing changes.
+    pub fn got(&mut self, from: PlayerId, frame: &TurnFrame) -> GotAnswer
+        ensures answer { result ≡ got_answer self.old.game self.old.me self.old.entries from frame.now }
+        ensures log { self.new ≡ record self.old { entries = V.with_got self.old.game self.old.me self.old.entries from frame.now } }
+    {
+        match self.refuse(from, frame) {
+            Some(answer) => answer,
+            None => self.take(from, frame),
+        }
+    }
+
     /// What the log shows of a player: how many of its turns are resolved, its track after them, and its next place. For
     /// the peer itself these are its revealed turns, its track after them, and the number of frames that it made.
     pub fn player(&self, player: PlayerId) -> PlayerView
@@ -302,7 +400,13 @@ impl Peer {
                 next: self.frames.len() as u32,
             };
         }
-        let stream = other_stream(&self.session, self.me, self.entries.as_slice(), player);
+        let stream = other_stream(
+            &self.session,
+            self.me,
+            self.entries.as_slice(),
+            self.streams.as_slice(),
+            player,
+        );
         PlayerView {
             turns: stream.resolved,
             track: stream.track,

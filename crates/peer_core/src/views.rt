@@ -17,12 +17,3 @@ pub struct PlayerView {
     pub track: Track,
     pub next: u32,
 }
-
-/// What the log shows of a player's stream: how many commitments are held, how many turns are resolved, and the track
-/// after these.
-#[derive(Clone, Copy)]
-pub(crate) struct Stream {
-    pub commits: u32,
-    pub resolved: u32,
-    pub track: Track,
-}

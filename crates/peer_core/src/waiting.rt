@@ -1,25 +1,24 @@
 //! Whom a peer waits for.
 
-ghost use Rattle.std.specs.Prelude.{◌≡◌, ◌≢◌, ◌<◌, ◌≤◌, ◌*◌, ◌+◌, ◌++◌, [], ℕ, List, length, map, filter, IsTrue};
+ghost use Rattle.std.specs.Prelude.{◌≡◌, ◌≢◌, ◌<◌, ◌≤◌, ◌*◌, ◌+◌, ◌++◌, [], length, map, filter, IsTrue};
 ghost use Rattle.definitions.specs.World.{players_of, is_inside};
-ghost use Rattle.definitions.specs.declared.logs.Entry.{Entry};
 ghost use Rattle.definitions.specs.Places.{slot_at};
-ghost use Rattle.definitions.specs.Logs.{got_of};
 ghost use Rattle.definitions.specs.Held.{known, resolved_count};
 ghost use Rattle.definitions.specs.Honest.{IsHonest, made_count, others};
 ghost use Rattle.definitions.specs.Meets.{cell_before};
 ghost use Rattle.definitions.specs.Meets as D;
 ghost use Rattle.definitions.specs.Needs as N;
-ghost use Rattle.peer_core.specs.Views.{stream_of};
+ghost use Rattle.log_scan.specs.Streams.{stream_of};
+ghost use Rattle.peer_core.specs.Inside.{AreStreams};
 ghost use Rattle.peer_core.specs.Waiting as W;
 ghost use Rattle.peer_core.specs.Waiting.{AreOwnTracks};
 
 use crate::meeting::meets;
 use crate::needs::NeedList;
 use crate::streams::other_stream;
-use crate::views::Stream;
 use definitions::{Cell, Entry, Need, PlayerId, Track, What};
 use grid_world::Session;
+use log_scan::Stream;
 
 /// What the owner's next frame misses of each other player that could meet it: the commitment of a turn, the reveal of a
 /// turn, or, once all own frames are made, whatever is left.
@@ -141,6 +140,7 @@ fn add_need(
     me: PlayerId,
     entries: &[Entry],
     tracks: &[Track],
+    streams: &[Stream],
     missing: Missing,
     q: PlayerId,
     out: &mut NeedList,
@@ -149,8 +149,8 @@ fn add_need(
     requires owner { me < players_of session.now }
     requires player { q < players_of session.now }
     requires honest { IsHonest session.now me entries.now }
-    requires silent { got_of q entries.now ≡ [] }
     requires tracks { AreOwnTracks session.now me entries.now tracks.now }
+    requires streams { AreStreams session.now me entries.now streams.now }
     requires turn { W.turn_in missing ≤ resolved_count session.now me entries.now me }
     requires room { length out.old < 64 }
     ensures { out.new ≡ out.old ++ W.need_step session.now me entries.now missing q }
@@ -158,7 +158,7 @@ fn add_need(
     if q == me {
         return;
     }
-    let stream = other_stream(session, me, entries, q);
+    let stream = other_stream(session, me, entries, streams, q);
     if hinders(session, me, entries, tracks, missing, q, &stream) {
         out.push(need_by(session, missing, q, &stream));
     }
@@ -170,20 +170,21 @@ fn add_needs(
     me: PlayerId,
     entries: &[Entry],
     tracks: &[Track],
+    streams: &[Stream],
     missing: Missing,
     out: &mut NeedList,
 )
     requires free { session.now.grid.walls ≡ [] }
     requires owner { me < players_of session.now }
     requires honest { IsHonest session.now me entries.now }
-    requires silent { (q : ℕ) → got_of q entries.now ≡ [] }
     requires tracks { AreOwnTracks session.now me entries.now tracks.now }
+    requires streams { AreStreams session.now me entries.now streams.now }
     requires turn { W.turn_in missing ≤ resolved_count session.now me entries.now me }
     requires none { out.old ≡ [] }
     ensures { out.new ≡ W.needs_by session.now me entries.now (Some missing) }
 {
     for q in 0..session.players() {
-        add_need(session, me, entries, tracks, missing, q, out);
+        add_need(session, me, entries, tracks, streams, missing, q, out);
     }
 }
 
@@ -194,19 +195,20 @@ pub(crate) fn find_needs(
     entries: &[Entry],
     made: u32,
     tracks: &[Track],
+    streams: &[Stream],
     out: &mut NeedList,
 )
     requires free { session.now.grid.walls ≡ [] }
     requires owner { me < players_of session.now }
     requires honest { IsHonest session.now me entries.now }
-    requires silent { (q : ℕ) → got_of q entries.now ≡ [] }
     requires made { made ≡ made_count entries.now }
     requires tracks { AreOwnTracks session.now me entries.now tracks.now }
+    requires streams { AreStreams session.now me entries.now streams.now }
     ensures { out.new ≡ N.needs session.now me entries.now }
 {
     session.facts();
     out.clear();
     if let Some(missing) = next_missing(session, made) {
-        add_needs(session, me, entries, tracks, missing, out);
+        add_needs(session, me, entries, tracks, streams, missing, out);
     }
 }

@@ -4,6 +4,9 @@ use Rattle.drive_script.proofs.playing.answer.Goals as goal
 pub put_choice-requires : goal.put_choice-requires
 put_choice-requires g c = rw c.peer.ensures c.in-Choice.ensures.counts.2
 
+pub put_received-requires : goal.put_received-requires
+put_received-requires g c = rw c.peer-in-Received.ensures c.in-Received.ensures.counts.2
+
 pub returns-in-Nothing-clause-text : goal.returns-in-Nothing-clause-text
 returns-in-Nothing-clause-text g c = λ t lines. onward_same _ _ _ (c.in-Nothing.ensures.answers lines)
 

@@ -1,4 +1,4 @@
-use Rattle.drive_script.specs.Drive.{drive}
+use Rattle.drive_script.specs.Drive.{drive, start_text}
 use Rattle.drive_script.proofs.Choices.{advance_longer}
 use Rattle.drive_script.proofs.playing.play.Goals as goal
 
@@ -6,5 +6,5 @@ pub follow-requires : goal.follow-requires
 follow-requires g c = rw (c.new-driver.ensures, c.entries-entries.ensures) (advance_longer _ _ _)
 
 pub returns-clause-text : goal.returns-clause-text
-unfolding drive
+unfolding drive start_text
 returns-clause-text g c = λ t u. rw (c.new-driver.ensures, c.entries-entries.ensures) at (c.follow.ensures.text t u)

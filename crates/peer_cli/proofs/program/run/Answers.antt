@@ -1,4 +1,4 @@
-use Rattle.std.proofs.Common.{[], arith, ap, rules, inl, inr, ◌∙◌, ◌⊎◌, ◌≡◌, ◌≤◌}
+use Rattle.std.proofs.Common.{Bool, true, [], arith, ap, rules, inl, inr, ◌∙◌, ◌⊎◌, ◌≡◌, ◌≤◌}
 use Rattle.station.specs.Outside.{known}
 use Rattle.text_io.specs.Frame.{Answer, line_by_line}
 use Rattle.text_io.specs.declared.statuses.Status.{Status}
@@ -6,6 +6,8 @@ use Rattle.text_io.specs.declared.statuses.Status.TheVariants.{Done, NoMemory}
 use Rattle.text_io.proofs.Finish.{finished}
 use Rattle.grid_world.proofs.Found.{game_found}
 use Rattle.definition_laws.proofs.ForPeers.{honest_empty}
+use Rattle.text_io.specs.Lines.{lines_of}
+use Rattle.drive_script.specs.Drive.{bad_line, status_for}
 use Rattle.drive_script.proofs.Ends.{drive_status}
 use Rattle.drive_script.proofs.Fair.{drive_fair}
 use Rattle.drive_script.proofs.Tellings.{drive_tells}
@@ -34,8 +36,9 @@ pub returns-clause-cause : goal.returns-clause-cause
 returns-clause-cause g c = search rules
 
 pub returns-clause-complete : goal.returns-clause-complete
-returns-clause-complete g c = λ ti to th game player set script ni ns no.
-    let due = ap (λ (a : Answer). a.status) (set_answer _ _ _ game player set) ∙ drive_status game player [] (known (g.I.Source.left c.args.input.now)) ∙ script in
+returns-clause-complete g c = λ ti to th game player set lines clean ni ns no.
+    let due = ap (λ (a : Answer). a.status) (set_answer _ _ _ game player set) ∙ drive_status game player [] (known (g.I.Source.left c.args.input.now)) ∙
+    ap (λ (b : Bool). status_for b (bad_line 0 (lines_of (known (g.I.Source.left c.args.input.now))))) clean ∙ ap (status_for true) lines in
     done_or_memory _ _ due (completed RunEnds _ _ _ _ _ _ c.refuse.result (returns-clause-text g c ti to th) (returns-clause-cause g c) (neither _ _ ni ns) no)
 
 pub returns-clause-tells : goal.returns-clause-tells

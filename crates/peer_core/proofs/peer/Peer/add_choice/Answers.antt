@@ -1,14 +1,27 @@
-use Rattle.std.proofs.Common.{◌≡◌, ◌∙◌, ℕ, List, [], ◌∷◌, ◌++◌, ap, sym, subst, length, rules, arith, refl}
+use Rattle.std.proofs.Common.{◌≡◌, ◌∙◌, ℕ, List, [], ◌∷◌, ◌++◌, ap, sym, subst, length, rules, arith, refl, vec_len}
 use Rattle.definitions.specs.declared.openings.Opening.{Opening}
 use Rattle.definitions.specs.declared.frames.TurnFrame.{TurnFrame}
 use Rattle.definitions.specs.declared.logs.Entry.{Entry}
 use Rattle.definitions.specs.declared.logs.Entry.TheVariants.{Chose}
 use Rattle.definitions.specs.Honest.{IsHonest, made_count}
-use Rattle.definitions.specs.Logs.{chosen, got_of}
+use Rattle.definitions.specs.Logs.{chosen}
 use Rattle.definitions.specs.Needs.{needs}
+use Rattle.log_scan.specs.declared.streams.Stream.{Stream}
+use Rattle.peer_core.specs.Inside.{AreStreams}
 use Rattle.peer_core.specs.Waiting.{AreOwnTracks}
-use Rattle.peer_core.proofs.Peers.{may_inside, legal_inside, track_inside, choice_honest, choice_room, silent_push, frames_chose, tracks_chose, peer_chose}
+use Rattle.peer_core.proofs.Peers.{entry_room, streams_chose, may_inside, legal_inside, track_inside, choice_honest, choice_room, frames_chose, tracks_chose, peer_chose}
 use Rattle.peer_core.proofs.peer.Peer.add_choice.Goals as goal
+
+pub add-requires : goal.add-requires
+add-requires c =
+    let inv = c.self.invariant.0 in
+    let count : c.len-turn.result ≡ length c.self.inside.openings.items = search rules in
+    let turn : c.len-turn.result ≡ length (chosen c.self.inside.me c.self.inside.entries.items) = count ∙ ap (λ (os : List Opening). length os) inv.openings_are in
+    let honest = choice_honest c.self.inside.session c.self.inside.me c.self.inside.entries.items c.len-turn.result c.args.mv c.args.nonce c.facts.ensures inv.honest
+    (may_inside _ _ c.self.view_is c.requires.chooses) (legal_inside _ _ _ c.self.view_is c.requires.legal) turn in
+    let len : vec_len c.self.inside.entries ≡ length c.self.inside.entries.items = search rules in
+    let few = entry_room c.self.inside.session c.self.inside.me c.self.inside.entries.items (Chose c.len-turn.result c.args.mv c.args.nonce) _ c.facts.ensures inv.player honest c.self.invariant.1.entries_fit in
+    omega arith
 
 pub add-requires-2 : goal.add-requires-2
 add-requires-2 c =
@@ -43,12 +56,6 @@ find_needs-requires-clause-honest c =
     let Is : List Entry → Type 0 = λ h. IsHonest c.self.inside.session c.self.inside.me h in
     subst Is (sym log) honest
 
-pub find_needs-requires-clause-silent : goal.find_needs-requires-clause-silent
-find_needs-requires-clause-silent c =
-    let log : c.as_slice.result.now ≡ c.self.inside.entries.items ++ Chose c.len-turn.result c.args.mv c.args.nonce ∷ [] = c.as_slice.ensures.value ∙ c.add.ensures.items in
-    let Is : List Entry → Type 0 = λ h. (q : ℕ) → got_of q h ≡ [] in
-    subst Is (sym log) (silent_push c.self.inside.me c.self.inside.entries.items (Chose c.len-turn.result c.args.mv c.args.nonce) (λ q. refl) c.self.invariant.0.silent)
-
 pub find_needs-requires-clause-made : goal.find_needs-requires-clause-made
 find_needs-requires-clause-made c =
     let log : c.as_slice.result.now ≡ c.self.inside.entries.items ++ Chose c.len-turn.result c.args.mv c.args.nonce ∷ [] = c.as_slice.ensures.value ∙ c.add.ensures.items in
@@ -62,6 +69,14 @@ find_needs-requires-clause-tracks c =
     subst IsLog (sym log) (tracks_chose c.self.inside.session c.self.inside.me c.self.inside.entries.items c.len-turn.result c.args.mv c.args.nonce c.self.inside.tracks.items c.as_slice-2.result.now c.args.track
     c.self.invariant.0.tracks_are (track_inside _ _ _ _ c.self.view_is c.requires.track) (c.as_slice-2.ensures.value ∙ c.add-3.ensures.items))
 
+pub find_needs-requires-clause-streams : goal.find_needs-requires-clause-streams
+find_needs-requires-clause-streams c =
+    let inv = c.self.invariant.0 in
+    let log : c.as_slice.result.now ≡ c.self.inside.entries.items ++ Chose c.len-turn.result c.args.mv c.args.nonce ∷ [] = c.as_slice.ensures.value ∙ c.add.ensures.items in
+    let IsLog : List Entry → Type 0 = λ h. AreStreams c.self.inside.session c.self.inside.me h c.as_slice-3.result.now in
+    let Are : List Stream → Type 0 = λ ss. AreStreams c.self.inside.session c.self.inside.me (c.self.inside.entries.items ++ Chose c.len-turn.result c.args.mv c.args.nonce ∷ []) ss in
+    subst IsLog (sym log) (subst Are (sym c.as_slice-3.ensures.value) (streams_chose c.self.inside.session c.self.inside.me c.len-turn.result c.self.inside.entries.items c.args.mv c.args.nonce c.self.inside.streams.items inv.streams_are))
+
 pub invariant_of-self : goal.invariant_of-self
 invariant_of-self c =
     let inv = c.self.invariant.0 in
@@ -70,7 +85,7 @@ invariant_of-self c =
     let honest = choice_honest c.self.inside.session c.self.inside.me c.self.inside.entries.items c.len-turn.result c.args.mv c.args.nonce c.facts.ensures inv.honest
     (may_inside _ _ c.self.view_is c.requires.chooses) (legal_inside _ _ _ c.self.view_is c.requires.legal) turn in
     let rooms = c.self.invariant.1 in (
-      peer_chose c.self.inside.session c.self.inside.me c.self.inside.entries.items _ _ _ _ _ _ _ _ _ c.len-turn.result c.args.mv c.args.nonce c.args.track c.facts.ensures inv honest
+      peer_chose c.self.inside.session c.self.inside.me c.self.inside.entries.items _ _ _ _ _ _ _ _ _ _ _ c.len-turn.result c.args.mv c.args.nonce c.args.track c.facts.ensures inv honest
           (track_inside _ _ _ _ c.self.view_is c.requires.track) c.add.ensures.items c.add-2.ensures.items c.add-3.ensures.items
           (c.find_needs.ensures ∙ ap (λ (h : List Entry). needs c.self.inside.session c.self.inside.me h) c.as_slice.ensures.value),
       record {

@@ -1,16 +1,26 @@
-use Rattle.std.proofs.Common.{◌≡◌, ◌∙◌, ℕ, List, [], ◌∷◌, ◌++◌, ap, sym, subst, length, rules, arith, refl}
+use Rattle.std.proofs.Common.{◌≡◌, ◌∙◌, ℕ, List, [], ◌∷◌, ◌++◌, ap, sym, subst, length, rules, arith, refl, vec_len}
 use Rattle.std.specs.Prelude.{Some}
 use Rattle.definitions.specs.declared.world.Track.{Track}
 use Rattle.definitions.specs.declared.frames.TurnFrame.{TurnFrame}
 use Rattle.definitions.specs.declared.logs.Entry.{Entry}
 use Rattle.definitions.specs.declared.logs.Entry.TheVariants.{Made}
 use Rattle.definitions.specs.Honest.{IsHonest, made_count}
-use Rattle.definitions.specs.Logs.{made, got_of}
+use Rattle.definitions.specs.Logs.{made}
 use Rattle.definitions.specs.Advance.{next_made}
 use Rattle.definitions.specs.Needs.{needs}
+use Rattle.log_scan.specs.declared.streams.Stream.{Stream}
+use Rattle.peer_core.specs.Inside.{AreStreams}
 use Rattle.peer_core.specs.Waiting.{AreOwnTracks}
-use Rattle.peer_core.proofs.Peers.{next_inside, next_room, next_honest, silent_push, frames_made, tracks_made, peer_made}
+use Rattle.peer_core.proofs.Peers.{entry_room, streams_made, next_inside, next_room, next_honest, frames_made, tracks_made, peer_made}
 use Rattle.peer_core.proofs.peer.Peer.make.Goals as goal
+
+pub add-requires : goal.add-requires
+add-requires c =
+    let next : next_made c.self.inside.session c.self.inside.me c.self.inside.entries.items ≡ Some c.args.frame = next_inside _ _ _ c.self.view_is c.requires in
+    let inv = c.self.invariant.0 in
+    let len : vec_len c.self.inside.entries ≡ length c.self.inside.entries.items = search rules in
+    let few = entry_room c.self.inside.session c.self.inside.me c.self.inside.entries.items (Made c.args.frame) _ c.facts.ensures inv.player (next_honest _ _ _ _ inv.honest next) c.self.invariant.1.entries_fit in
+    omega arith
 
 pub add-requires-2 : goal.add-requires-2
 add-requires-2 c =
@@ -27,13 +37,6 @@ find_needs-requires-clause-honest c =
     let log : c.as_slice.result.now ≡ c.self.inside.entries.items ++ Made c.args.frame ∷ [] = c.as_slice.ensures.value ∙ c.add.ensures.items in
     let Is : List Entry → Type 0 = λ h. IsHonest c.self.inside.session c.self.inside.me h in
     subst Is (sym log) (next_honest _ _ _ _ inv.honest next)
-
-pub find_needs-requires-clause-silent : goal.find_needs-requires-clause-silent
-find_needs-requires-clause-silent c =
-    let inv = c.self.invariant.0 in
-    let log : c.as_slice.result.now ≡ c.self.inside.entries.items ++ Made c.args.frame ∷ [] = c.as_slice.ensures.value ∙ c.add.ensures.items in
-    let Is : List Entry → Type 0 = λ h. (q : ℕ) → got_of q h ≡ [] in
-    subst Is (sym log) (silent_push c.self.inside.me c.self.inside.entries.items (Made c.args.frame) (λ q. refl) inv.silent)
 
 pub find_needs-requires-clause-made : goal.find_needs-requires-clause-made
 find_needs-requires-clause-made c =
@@ -52,12 +55,20 @@ find_needs-requires-clause-tracks c =
     let Are : List Track → Type 0 = λ ts. AreOwnTracks c.self.inside.session c.self.inside.me (c.self.inside.entries.items ++ Made c.args.frame ∷ []) ts in
     subst IsLog (sym log) (subst Are (sym c.as_slice-2.ensures.value) (tracks_made c.self.inside.session c.self.inside.me c.self.inside.entries.items c.args.frame c.self.inside.tracks.items inv.tracks_are))
 
+pub find_needs-requires-clause-streams : goal.find_needs-requires-clause-streams
+find_needs-requires-clause-streams c =
+    let inv = c.self.invariant.0 in
+    let log : c.as_slice.result.now ≡ c.self.inside.entries.items ++ Made c.args.frame ∷ [] = c.as_slice.ensures.value ∙ c.add.ensures.items in
+    let IsLog : List Entry → Type 0 = λ h. AreStreams c.self.inside.session c.self.inside.me h c.as_slice-3.result.now in
+    let Are : List Stream → Type 0 = λ ss. AreStreams c.self.inside.session c.self.inside.me (c.self.inside.entries.items ++ Made c.args.frame ∷ []) ss in
+    subst IsLog (sym log) (subst Are (sym c.as_slice-3.ensures.value) (streams_made c.self.inside.session c.self.inside.me c.self.inside.entries.items c.args.frame c.self.inside.streams.items inv.streams_are))
+
 pub invariant_of-self : goal.invariant_of-self
 invariant_of-self c =
     let next : next_made c.self.inside.session c.self.inside.me c.self.inside.entries.items ≡ Some c.args.frame = next_inside _ _ _ c.self.view_is c.requires in
     let inv = c.self.invariant.0 in
     let rooms = c.self.invariant.1 in (
-      peer_made _ _ _ _ _ _ _ _ _ _ _ c.args.frame c.facts.ensures inv next c.add.ensures.items c.add-2.ensures.items
+      peer_made _ _ _ _ _ _ _ _ _ _ _ _ _ c.args.frame c.facts.ensures inv next c.add.ensures.items c.add-2.ensures.items
           (c.find_needs.ensures ∙ ap (λ (h : List Entry). needs c.self.inside.session c.self.inside.me h) c.as_slice.ensures.value),
       record {
         entries_fit = omega (arith, rooms.entries_fit, c.add.ensures.capacity);

@@ -8,11 +8,11 @@ use Rattle.definitions.specs.declared.logs.Entry.TheVariants.{Made}
 use Rattle.definitions.specs.Honest.{made_count}
 use Rattle.definitions.specs.Logs.{chosen, made}
 use Rattle.definitions.specs.Advance.{next_made, advance}
-use Rattle.definition_laws.proofs.ForPeers.{advance_step, advance_still, clean_without_got}
+use Rattle.definition_laws.proofs.ForPeers.{advance_step, advance_still}
 use Rattle.peer_core.specs.Views.{PeerState}
 use Rattle.peer_core.proofs.OwnTracks.{ahead}
 use Rattle.peer_core.proofs.Peers.{chosen_made, frames_made, state_is}
-use Rattle.peer_core.proofs.Choices.{next_chosen}
+use Rattle.peer_core.proofs.Choices.{next_chosen, next_clean}
 use Rattle.peer_core.proofs.peer.Peer.make_all.Goals as goal
 
 -- one more frame is made than before
@@ -28,7 +28,7 @@ loop-frame-smaller c =
     let game : c.make.new.self.game ≡ c.loop-frame.self.game = ap (λ (p : PeerState). p.game) c.make.ensures in
     let one = more_made _ _ c.in-Some.frame log in
     let ready = next_chosen c.loop-frame.self.game c.loop-frame.self.me c.loop-frame.self.entries c.in-Some.frame stands.session stands.honest
-    (clean_without_got c.loop-frame.self.game c.loop-frame.self.entries stands.silent) next in
+    (next_clean c.loop-frame.self.game c.loop-frame.self.me c.loop-frame.self.entries c.in-Some.frame next) next in
     let few = stands.chosen_few in
     let turns : c.make.new.self.game.turns ≡ c.loop-frame.self.game.turns = ap (λ (g : Game). g.turns) game in
     omega arith
@@ -42,7 +42,7 @@ loop-frame-preserved c =
     let game : c.make.new.self.game ≡ c.loop-frame.self.game = ap (λ (p : PeerState). p.game) c.make.ensures in
     let one = more_made _ _ c.in-Some.frame log in
     let ready = next_chosen c.loop-frame.self.game c.loop-frame.self.me c.loop-frame.self.entries c.in-Some.frame stands.session stands.honest
-    (clean_without_got c.loop-frame.self.game c.loop-frame.self.entries stands.silent) next in
+    (next_clean c.loop-frame.self.game c.loop-frame.self.me c.loop-frame.self.entries c.in-Some.frame next) next in
     let first : next_made c.args.self.now.game c.args.self.now.me c.loop-frame.self.entries ≡ Some c.in-Some.frame
     = ap (λ (g : Game). next_made g c.args.self.now.me c.loop-frame.self.entries) (sym inv.game) ∙ ap (λ m. next_made c.loop-frame.self.game m c.loop-frame.self.entries) (sym inv.me) ∙ next in
     let mine : length (chosen c.loop-frame.self.me c.loop-frame.self.entries) ≡ length (chosen c.args.self.now.me c.args.self.now.entries)
