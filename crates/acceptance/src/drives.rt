@@ -3,6 +3,7 @@
 use crate::received::RECEIVED;
 use crate::rows::{ROWS, Row};
 use crate::runs::{NONE, run_drive};
+use crate::walled::WALLED;
 use std::alloc::{AllocError, Global};
 use std::test::Fail;
 
@@ -24,6 +25,15 @@ fn choices_print_their_texts(rt: HostRuntime) -> Result<(), Fail> {
 #[test]
 fn frames_that_come_print_their_texts(rt: HostRuntime) -> Result<(), Fail> {
     for row in &RECEIVED {
+        let agrees = agrees(rt.alloc(), row)?;
+        assert!(rt; agrees, "{}", row.name);
+    }
+    Ok(())
+}
+
+#[test]
+fn walls_are_walked_around(rt: HostRuntime) -> Result<(), Fail> {
+    for row in &WALLED {
         let agrees = agrees(rt.alloc(), row)?;
         assert!(rt; agrees, "{}", row.name);
     }

@@ -9,7 +9,11 @@ mod drives;
 #[cfg(test)]
 mod faults;
 #[cfg(test)]
+mod grounds;
+#[cfg(test)]
 mod matches;
+#[cfg(test)]
+mod plain;
 #[cfg(test)]
 mod received;
 #[cfg(test)]
@@ -18,3 +22,7 @@ mod refusals;
 mod rows;
 #[cfg(test)]
 mod runs;
+#[cfg(test)]
+mod spheres;
+#[cfg(test)]
+mod walled;

@@ -11,7 +11,7 @@ pub struct Row {
 }
 
 /// The runs.
-pub static ROWS: [Row; 35] = [
+pub static ROWS: [Row; 34] = [
     Row {
         name: "an empty script",
         session: b"playout 1\ngrid 12 1\nrules 1 1 0\ncharge 1 2 1\nturns 8\nplayers 2\nplayer 0 0 0\nplayer 1 9 0\nend\n",
@@ -245,20 +245,12 @@ pub static ROWS: [Row; 35] = [
         status: 11,
     },
     Row {
-        name: "walls",
-        session: b"playout 1\ngrid 12 1\nrules 1 1 0\ncharge 1 2 1\nturns 8\nplayers 2\nplayer 0 0 0\nplayer 1 9 0\nwall 5 0\nend\n",
-        player: b"0",
-        script: b"choose 0 0 0000000000000000000000000000000000000000000000000000000000000000\n",
-        text: b"unbuilt\n",
-        status: 13,
-    },
-    Row {
-        name: "walls before the player",
+        name: "walls and a player past the last",
         session: b"playout 1\ngrid 12 1\nrules 1 1 0\ncharge 1 2 1\nturns 8\nplayers 2\nplayer 0 0 0\nplayer 1 9 0\nwall 5 0\nend\n",
         player: b"7",
         script: b"choose 0 0 0000000000000000000000000000000000000000000000000000000000000000\n",
-        text: b"unbuilt\n",
-        status: 13,
+        text: b"usage\n",
+        status: 2,
     },
     Row {
         name: "a player too many",

@@ -6,3 +6,4 @@ pub mod Grown
 pub mod SetCells
 pub mod FirstCommon
 pub mod Columns
+pub mod SameRows

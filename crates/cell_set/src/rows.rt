@@ -1,6 +1,6 @@
 //! Steps on the rows of a set: row by row, a bit for each cell.
 
-ghost use Rattle.std.specs.Prelude.{◌≡◌, ◌+◌, ◌-◌, ◌*◌, ◌<◌, ◌≤◌, ℕ, bit_or, bit_and, length, slice_index, List, [], ◌&&◌, not, IfSome, IfNone};
+ghost use Rattle.std.specs.Prelude.{◌≡◌, ◌+◌, ◌-◌, ◌*◌, ◌<◌, ◌≤◌, ℕ, bit_or, bit_and, length, slice_index, List, [], ◌&&◌, not, IfSome, IfNone, IsTrue, ◌↔◌};
 ghost use Rattle.definitions.specs.World.{is_wall};
 ghost use Rattle.definitions.specs.Walk.{stepped};
 ghost use Rattle.definitions.specs.Sphere.{spread};
@@ -135,6 +135,16 @@ pub(crate) fn join_rows(rows: &mut [u64], others: &[u64])
     for k in 0..rows.len() {
         rows[k] |= others[k];
     }
+}
+
+/// Whether the same cells stand in both.
+pub(crate) fn same_rows(rows: &[u64], others: &[u64], width: u16, height: u16) -> bool
+    requires rows { IsRows width height rows.now }
+    requires others { IsRows width height others.now }
+    ensures { IsTrue result ↔ (cells_lit rows.now width height ≡ cells_lit others.now width height) }
+{
+    let _ = (width, height);
+    rows == others
 }
 
 /// The first place at which the words of both have a bit in common.

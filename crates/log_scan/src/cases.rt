@@ -1,6 +1,6 @@
 //! A player's turn, and what two frames show of it.
 
-ghost use Rattle.std.specs.Prelude.{◌≡◌, ◌<◌, ◌+◌, ◌*◌, [], ◌||◌, IsTrue};
+ghost use Rattle.std.specs.Prelude.{◌≡◌, ◌<◌, ◌+◌, ◌*◌, ◌||◌, IsTrue};
 ghost use Rattle.definitions.specs.World.{players_of, is_open};
 ghost use Rattle.definitions.specs.Logs.{got_of};
 ghost use Rattle.definitions.specs.Held.{known_to};
@@ -89,7 +89,6 @@ fn is_illegal_from(
     frame: &TurnFrame,
 ) -> bool
     requires size { walker.old ≡ size_of session.now.grid }
-    requires free { session.now.grid.walls ≡ [] }
     requires player { q < players_of session.now }
     requires track { IsTrue (is_open session.now.grid track.now.at) }
     ensures illegal { result ≡ C.is_illegal_from session.now q track.now frame.now }
@@ -110,7 +109,6 @@ fn is_illegal(
     second: &Seen,
 ) -> bool
     requires size { walker.old ≡ size_of session.now.grid }
-    requires free { session.now.grid.walls ≡ [] }
     requires player { case.now.player < players_of session.now }
     requires track { IsTrue (is_open session.now.grid case.now.track.at) }
     ensures illegal { result ≡ C.illegal_by session.now case.now (C.sighting_of first.now) (C.sighting_of second.now) }
@@ -136,7 +134,6 @@ pub(crate) fn shows(
     second: &Seen,
 ) -> bool
     requires size { walker.old ≡ size_of session.now.grid }
-    requires free { session.now.grid.walls ≡ [] }
     requires player { case.now.player < players_of session.now }
     requires track { IsTrue (is_open session.now.grid case.now.track.at) }
     ensures shown { result ≡ C.show_by session.now case.now kind (C.sighting_of first.now) (C.sighting_of second.now) }

@@ -37,7 +37,6 @@ fn shows_with(
     at: usize,
 ) -> bool
     requires size { walker.old ≡ size_of session.now.grid }
-    requires free { session.now.grid.walls ≡ [] }
     requires player { case.now.player < players_of session.now }
     requires track { IsTrue (is_open session.now.grid case.now.track.at) }
     ensures shown { result ≡ list_any (C.show_by session.now case.now kind (C.sighting_of first.now)) (D.sighting_at case.now.player case.now.turn 0 at entry.now) }
@@ -59,7 +58,6 @@ fn spot_after(
     first: &Seen,
 ) -> Option<Spot>
     requires size { walker.old ≡ size_of session.now.grid }
-    requires free { session.now.grid.walls ≡ [] }
     requires player { case.now.player < players_of session.now }
     requires track { IsTrue (is_open session.now.grid case.now.track.at) }
     requires few { length entries.now < 2 ^ 32 }
@@ -89,7 +87,6 @@ fn second_spot(
     at: usize,
 ) -> Option<Spot>
     requires size { walker.old ≡ size_of session.now.grid }
-    requires free { session.now.grid.walls ≡ [] }
     requires player { case.now.player < players_of session.now }
     requires track { IsTrue (is_open session.now.grid case.now.track.at) }
     requires few { length entries.now < 2 ^ 32 }
@@ -112,7 +109,6 @@ fn finding_of_kind(
     kind: Kind,
 ) -> Option<Finding>
     requires size { walker.old ≡ size_of session.now.grid }
-    requires free { session.now.grid.walls ≡ [] }
     requires player { case.now.player < players_of session.now }
     requires case { C.IsCase session.now entries.now case.now }
     requires few { length entries.now < 2 ^ 32 }
@@ -144,7 +140,6 @@ fn finding_of_case(
     case: &Case,
 ) -> Option<Finding>
     requires size { walker.old ≡ size_of session.now.grid }
-    requires free { session.now.grid.walls ≡ [] }
     requires player { case.now.player < players_of session.now }
     requires case { C.IsCase session.now entries.now case.now }
     requires few { length entries.now < 2 ^ 32 }
@@ -171,7 +166,6 @@ fn finding_of_turn(
     stream: &mut Stream,
 ) -> Option<Finding>
     requires size { walker.old ≡ size_of session.now.grid }
-    requires free { session.now.grid.walls ≡ [] }
     requires player { q < players_of session.now }
     requires other { q ≢ me }
     requires few { length entries.now < 2 ^ 32 }
@@ -196,7 +190,6 @@ pub fn first_finding(
     q: PlayerId,
 ) -> Option<Finding>
     requires size { walker.old ≡ size_of session.now.grid }
-    requires free { session.now.grid.walls ≡ [] }
     requires player { q < players_of session.now }
     requires other { q ≢ me }
     requires few { length entries.now < 2 ^ 32 }

@@ -1,6 +1,6 @@
 //! The frames of a player's stream in a log.
 
-ghost use Rattle.std.specs.Prelude.{◌≡◌, ◌<◌, [], IsTrue, Option, option_map};
+ghost use Rattle.std.specs.Prelude.{◌≡◌, ◌<◌, IsTrue, Option, option_map};
 ghost use Rattle.definitions.specs.World.{players_of, is_open};
 ghost use Rattle.definitions.specs.Moves.{next_track};
 ghost use Rattle.definitions.specs.Logs.{frames_of};
@@ -108,7 +108,6 @@ fn opening_at(
     frame: &TurnFrame,
 ) -> Option<Track>
     requires size { walker.old ≡ size_of session.now.grid }
-    requires free { session.now.grid.walls ≡ [] }
     requires player { q < players_of session.now }
     requires track { IsTrue (is_open session.now.grid track.now.at) }
     ensures track { result ≡ option_map (next_track session.now track.now) (F.opening_at session.now q track.now digest.now turn frame.now) }
@@ -137,7 +136,6 @@ fn opening_in(
     entry: &Entry,
 ) -> Option<Track>
     requires size { walker.old ≡ size_of session.now.grid }
-    requires free { session.now.grid.walls ≡ [] }
     requires player { q < players_of session.now }
     requires track { IsTrue (is_open session.now.grid track.now.at) }
     ensures track { result ≡ option_map (next_track session.now track.now) (F.opening_in session.now me q track.now digest.now turn entry.now) }
@@ -161,7 +159,6 @@ pub(crate) fn first_opening(
     turn: Turn,
 ) -> Option<Track>
     requires size { walker.old ≡ size_of session.now.grid }
-    requires free { session.now.grid.walls ≡ [] }
     requires player { q < players_of session.now }
     requires track { IsTrue (is_open session.now.grid track.now.at) }
     ensures track { result ≡ option_map (next_track session.now track.now) (first_of (F.opening_at session.now q track.now digest.now turn) (frames_of me q entries.now)) }

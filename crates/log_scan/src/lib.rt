@@ -2,7 +2,7 @@
 //!
 //! The crate promises that its answers are those of the definitions: as far as a player's stream is known, whether a frame
 //! is new, the first finding of a log, and the answer to a frame. It reads the plain list of entries from its front at each
-//! call and keeps nothing, so it takes no memory and touches nothing outside. Moves are judged on grids without walls.
+//! call and keeps nothing, so it takes no memory and touches nothing outside.
 #![tactic(auto)]
 
 mod cases;

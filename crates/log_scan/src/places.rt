@@ -1,6 +1,6 @@
 //! Whose frame it is, at which place of its stream, and whether the log has it.
 
-ghost use Rattle.std.specs.Prelude.{◌≡◌, ◌<◌, ◌+◌, []};
+ghost use Rattle.std.specs.Prelude.{◌≡◌, ◌<◌, ◌+◌};
 ghost use Rattle.definitions.specs.World.{players_of};
 ghost use Rattle.definitions.specs.Logs as L;
 ghost use Rattle.definitions.specs.Answers as A;
@@ -37,7 +37,6 @@ pub fn is_far(
     frame: &TurnFrame,
 ) -> bool
     requires size { walker.old ≡ size_of session.now.grid }
-    requires free { session.now.grid.walls ≡ [] }
     requires player { q < players_of session.now }
     ensures far { result ≡ A.is_far session.now me entries.now q frame.now }
     ensures walker { walker.new ≡ walker.old }

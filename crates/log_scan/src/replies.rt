@@ -1,6 +1,6 @@
 //! What becomes of a frame that comes.
 
-ghost use Rattle.std.specs.Prelude.{◌≡◌, ◌<◌, ◌^◌, [], length, ◌==◌};
+ghost use Rattle.std.specs.Prelude.{◌≡◌, ◌<◌, ◌^◌, length, ◌==◌};
 ghost use Rattle.definitions.specs.World.{players_of};
 ghost use Rattle.definitions.specs.Findings.{is_clean};
 ghost use Rattle.definitions.specs.Held.{next_place};
@@ -28,7 +28,6 @@ pub fn refusal(
     frame: &TurnFrame,
 ) -> Option<GotAnswer>
     requires size { walker.old ≡ size_of session.now.grid }
-    requires free { session.now.grid.walls ≡ [] }
     requires clean { clean ≡ is_clean session.now entries.now }
     ensures refusal { result ≡ R.refusal session.now me entries.now q frame.now }
     ensures walker { walker.new ≡ walker.old }
@@ -56,7 +55,6 @@ fn is_next(
     frame: &TurnFrame,
 ) -> bool
     requires size { walker.old ≡ size_of session.now.grid }
-    requires free { session.now.grid.walls ≡ [] }
     requires player { q < players_of session.now }
     ensures next { result ≡ (A.place_of session.now frame.now == next_place session.now me entries.now q) }
     ensures walker { walker.new ≡ walker.old }
@@ -75,7 +73,6 @@ pub fn answer_taken(
     frame: &TurnFrame,
 ) -> GotAnswer
     requires size { walker.old ≡ size_of session.now.grid }
-    requires free { session.now.grid.walls ≡ [] }
     requires few { length entries.now < 2 ^ 32 }
     requires taken { R.IsTaken session.now me entries.now q frame.now }
     ensures answer { result ≡ got_answer session.now me (R.before_last entries.now) q frame.now }

@@ -1,6 +1,6 @@
 //! What a log shows of a player's stream.
 
-ghost use Rattle.std.specs.Prelude.{◌≡◌, ◌<◌, ◌+◌, ◌*◌, List, [], Some, None, IsTrue};
+ghost use Rattle.std.specs.Prelude.{◌≡◌, ◌<◌, ◌+◌, ◌*◌, List, Some, None, IsTrue};
 ghost use Rattle.definitions.specs.World.{players_of, is_inside};
 ghost use Rattle.definitions.specs.declared.frames.TurnFrame.{TurnFrame};
 ghost use Rattle.definitions.specs.Logs.{frames_of};
@@ -62,7 +62,6 @@ fn with_reveal(
     digest: &Digest,
 ) -> Option<Stream>
     requires size { walker.old ≡ size_of session.now.grid }
-    requires free { session.now.grid.walls ≡ [] }
     requires player { q < players_of session.now }
     requires stream { IsReadFrom session.now q (frames_of me q entries.now) stream.now }
     requires due { stream.now.due ≡ Some digest.now }
@@ -100,7 +99,6 @@ fn next_stream(
     stream: &Stream,
 ) -> Option<Stream>
     requires size { walker.old ≡ size_of session.now.grid }
-    requires free { session.now.grid.walls ≡ [] }
     requires player { q < players_of session.now }
     requires stream { IsReadFrom session.now q (frames_of me q entries.now) stream.now }
     ensures next { IsNext session.now q (frames_of me q entries.now) stream.now result }
@@ -122,7 +120,6 @@ pub(crate) fn further(
     stream: &Stream,
 ) -> Stream
     requires size { walker.old ≡ size_of session.now.grid }
-    requires free { session.now.grid.walls ≡ [] }
     requires player { q < players_of session.now }
     requires stream { IsReadFrom session.now q (frames_of me q entries.now) stream.now }
     ensures stream { result ≡ stream_of session.now q (next_known session.now q (frames_of me q entries.now) (known_to session.now q (frames_of me q entries.now) (places_of stream.now))) }
@@ -156,7 +153,6 @@ pub fn known_stream(
     q: PlayerId,
 ) -> Stream
     requires size { walker.old ≡ size_of session.now.grid }
-    requires free { session.now.grid.walls ≡ [] }
     requires player { q < players_of session.now }
     ensures stream { result ≡ stream_of session.now q (known session.now me entries.now q) }
     ensures facts { IsStream session.now result }

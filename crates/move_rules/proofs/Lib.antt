@@ -1,1 +1,3 @@
 pub mod OpenGround
+pub mod WindowBits
+pub mod Reaching

@@ -2,11 +2,14 @@
 //!
 //! The crate promises that a move is legal exactly where none of the six faults holds, that the fault named is the first
 //! in their order, and that the next track is that of the rules. Legality rests on the mover's own earlier moves alone.
-//! It touches nothing outside. Today it judges moves on grids without walls, where a walk is as long as the distance.
+//! Walks go around walls, over open cells alone, and may cut corners: they are followed in a window of as many cells on
+//! each side as the player's speed, so a judgement takes time by the square of the speed, and none by the size of the
+//! grid. It takes no memory, and touches nothing outside.
 #![tactic(auto)]
 
 pub mod tracks;
 pub mod walker;
+mod window;
 
 pub use definitions::{Move, MoveFault, Track};
 pub use tracks::start_track;

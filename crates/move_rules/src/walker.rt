@@ -1,12 +1,13 @@
 //! Which moves are legal.
 
-ghost use Rattle.std.specs.Prelude.{◌≡◌, ◌<◌, ◌≤◌, [], IsTrue, IfOk, IfNone, IfSome};
-ghost use Rattle.definitions.specs.World.{players_of, is_open, is_inside};
+ghost use Rattle.std.specs.Prelude.{◌≡◌, ◌<◌, ◌≤◌, IsTrue, IfOk, IfNone, IfSome};
+ghost use Rattle.definitions.specs.World.{players_of, is_open};
 ghost use Rattle.definitions.specs.Walk.{in_reach};
 ghost use Rattle.definitions.specs.Moves as M;
 ghost use Rattle.move_rules.specs.Verdicts.{size_of, verdict};
 
 use crate::tracks::next_track;
+use crate::window::leads;
 use definitions::{Cell, Move, MoveFault, PlayerId, Track};
 use grid_world::{Grid, Session, distance};
 use std::alloc::{AllocError, Global};
@@ -29,13 +30,11 @@ impl Model for Walker {
 
 /// Whether a player that stands at `from` reaches `to` within a turn.
 fn is_near(session: &Session, player: PlayerId, from: Cell, to: Cell) -> bool
-    requires free { session.now.grid.walls ≡ [] }
     requires player { player < players_of session.now }
     requires from { IsTrue (is_open session.now.grid from) }
-    requires to { IsTrue (is_inside session.now.grid to) }
     ensures { result ≡ in_reach session.now player from to }
 {
-    distance(from, to) <= u16::from(session.rules().speed)
+    leads(session.grid(), from, to, u16::from(session.rules().speed))
 }
 
 /// Why the strike isn't allowed from this track to this target, by the first cause.
@@ -63,7 +62,6 @@ fn strike_fault(
 
 /// Why the move isn't legal from this track, by the first cause.
 fn move_fault(session: &Session, player: PlayerId, track: &Track, mv: &Move) -> Option<MoveFault>
-    requires free { session.now.grid.walls ≡ [] }
     requires player { player < players_of session.now }
     requires track { IsTrue (is_open session.now.grid track.now.at) }
     ensures fault { result ≡ M.move_fault session.now player track.now mv.now }
@@ -96,6 +94,9 @@ impl Walker {
     }
 
     /// The player's track after the move, or the first of the faults that the move has from this track.
+    ///
+    /// The player walks over open cells, as many king steps as its speed at most, and may cut corners between walls. A
+    /// strike may be aimed at a wall. The call takes no memory, and time by the square of the speed whatever the grid.
     pub fn legal(
         &mut self,
         session: &Session,
@@ -104,7 +105,6 @@ impl Walker {
         mv: &Move,
     ) -> Result<Track, MoveFault>
         requires size { self.old ≡ size_of session.now.grid }
-        requires free { session.now.grid.walls ≡ [] }
         requires player { player < players_of session.now }
         requires track { IsTrue (is_open session.now.grid track.now.at) }
         ensures verdict { result ≡ verdict session.now player track.now mv.now }

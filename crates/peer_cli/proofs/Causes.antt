@@ -1,16 +1,13 @@
 -- Causes: each status has its cause.
-use Rattle.std.proofs.Common.{Bool, List, None, Option, Some, [], ap, arith, false, inl, inr, refl, subst, sym, true, ℕ, ◌+◌, ◌∙◌, ◌∷◌, ◌≡◌, ◌⊎◌}
+use Rattle.std.proofs.Common.{Bool, List, None, Option, Some, [], ap, arith, false, inl, inr, refl, subst, sym, true, ℕ, ◌∙◌, ◌≡◌, ◌⊎◌}
 use Rattle.std.specs.Prelude.{Err, Ok, Result, nat_lt, if◌then◌else◌}
 use Rattle.std.proofs.lemmas.Bool.{lt-ltb, ltb-true}
-use Rattle.definitions.specs.declared.world.Cell.{Cell}
-use Rattle.definitions.specs.Lists.{is_empty}
 use Rattle.definitions.specs.World.{Game, players_of}
 use Rattle.text_io.specs.Ends.{Finished}
 use Rattle.text_io.specs.Frame.{Answer, EndCause, line_by_line}
 use Rattle.text_io.specs.Lines.{lines_of}
 use Rattle.text_io.specs.declared.statuses.Status.{Status}
-use Rattle.text_io.specs.declared.statuses.Status.TheVariants.{BadLine, Done, InputFault, NoMemory, OutputFault, Unbuilt, Usage}
-use Rattle.text_io.specs.declared.statuses.TextName.TheVariants.{Script}
+use Rattle.text_io.specs.declared.statuses.Status.TheVariants.{InputFault, NoMemory, OutputFault, Usage}
 use Rattle.grid_world.specs.declared.fault.SessionFault.{SessionFault}
 use Rattle.grid_world.specs.declared.fault.SessionFault.TheVariants.{At, Memory}
 use Rattle.grid_world.specs.Lines as L
@@ -19,7 +16,7 @@ use Rattle.definitions.specs.Findings.{is_clean}
 use Rattle.drive_script.specs.Drive.{bad_line, drive, drive_log, status_for}
 use Rattle.drive_script.proofs.Ends.{drive_status}
 use Rattle.peer_cli.specs.Causes.{HasCause, IsNamed, IsSet}
-use Rattle.peer_cli.specs.Games.{built, front_of, with_player}
+use Rattle.peer_cli.specs.Games.{ended_by, front_of, with_player}
 use Rattle.peer_cli.specs.Program.{answer_of, answer_to, playing}
 use Rattle.peer_cli.specs.Words.{Command, Drive, command_of}
 
@@ -27,8 +24,7 @@ use Rattle.peer_cli.specs.Words.{Command, Drive, command_of}
 pub set_answer : (words : List (List ℕ)) (files : List ℕ → Option (List ℕ)) (input : List ℕ) (game : Game) (player : ℕ) → IsSet words files game player → answer_to words files input ≡ drive game player [] input
 set_answer words files input game player s =
     ap (λ (o : Option Command). answer_of o files input) s.named.command ∙
-    ap (λ (r : Result Game SessionFault). playing player (with_player player (built r)) input) s.named.read ∙
-    ap (λ (b : Bool). playing player (with_player player (if b then Ok game else Err Unbuilt)) input) (ap (λ (cs : List Cell). is_empty cs) s.free) ∙
+    ap (λ (r : Result Game SessionFault). playing player (with_player player (ended_by r)) input) s.named.read ∙
     ap (λ (b : Bool). playing player (if b then Ok game else Err Usage) input) (lt-ltb player (players_of game) s.player_is)
 
 -- a fault that is not of what is made last is of what came before
@@ -48,23 +44,18 @@ module _ (words : List (List ℕ)) (files : List ℕ → Option (List ℕ)) (inp
   played game player set true e None l = record { game = game; player = player; set = set; clean = e; lines = l }
   played game player set true e (Some n) l = record { game = game; player = player; set = set; clean = e; lines = l }
 
-  -- a session that this version plays
-  seated : (game : Game) (player : ℕ) → IsNamed words files game player → game.grid.walls ≡ [] → (b : Bool) → nat_lt player (players_of game) ≡ b →
+  -- a session of which the player may be one
+  seated : (game : Game) (player : ℕ) → IsNamed words files game player → (b : Bool) → nat_lt player (players_of game) ≡ b →
       HasCause words files input (playing player (if b then Ok game else Err Usage) input).status
-  seated game player named free true e =
-      let set : IsSet words files game player = record { named = named; free = free; player_is = ltb-true player (players_of game) e } in
+  seated game player named true e =
+      let set : IsSet words files game player = record { named = named; player_is = ltb-true player (players_of game) e } in
       subst (λ (s : Status). HasCause words files input s) (sym (drive_status game player [] input))
       (played game player set (is_clean game (drive_log game player [] input)) refl (bad_line 0 (lines_of input)) refl)
-  seated game player named free false e = inr (record { game = game; player = player; named = named; free = free; past = grind (arith, e) })
-
-  walled : (game : Game) (player : ℕ) → IsNamed words files game player → (walls : List Cell) → game.grid.walls ≡ walls →
-      HasCause words files input (playing player (with_player player (if is_empty walls then Ok game else Err Unbuilt)) input).status
-  walled game player named [] e = seated game player named e (nat_lt player (players_of game)) refl
-  walled game player named (c ∷ cs) e = record { game = game; player = player; named = named; walled = λ f. let g : [] ≡ c ∷ cs = sym f ∙ e in cc }
+  seated game player named false e = inr (record { game = game; player = player; named = named; past = grind (arith, e) })
 
   read : (session : List ℕ) (player : ℕ) → command_of words ≡ Some (Drive session player) → (r : Result Game SessionFault) → game_at (front_of (files session)) ≡ r →
-      HasCause words files input (playing player (with_player player (built r)) input).status
-  read session player e (Ok game) f = walled game player (record { session = session; command = e; read = f }) game.grid.walls refl
+      HasCause words files input (playing player (with_player player (ended_by r)) input).status
+  read session player e (Ok game) f = seated game player (record { session = session; command = e; read = f }) (nat_lt player (players_of game)) refl
   read session player e (Err Memory) f = tt
   read session player e (Err (At line what)) f =
       record { session = session; player = player; command = e; fault_is = fault_said (front_of (files session)) (At line what) f }

@@ -3,7 +3,7 @@ use Rattle.std.specs.Prelude.{◌≡◌, ◌⊎◌, ℕ, false, ◌<◌, ◌≤�
 use Rattle.definitions.specs.World.{Game, players_of}
 use Rattle.text_io.specs.Lines.{lines_of}
 use Rattle.text_io.specs.declared.statuses.Status.{Status}
-use Rattle.text_io.specs.declared.statuses.Status.TheVariants.{Done, NoMemory, Usage, BadSession, InputFault, OutputFault, Caught, BadLine, Unbuilt}
+use Rattle.text_io.specs.declared.statuses.Status.TheVariants.{Done, NoMemory, Usage, BadSession, InputFault, OutputFault, Caught, BadLine}
 use Rattle.text_io.specs.declared.statuses.TextName.TheVariants.{Script}
 use Rattle.grid_world.specs.declared.fault.SessionFault.{SessionFault}
 use Rattle.grid_world.specs.declared.fault.SessionFault.TheVariants.{At}
@@ -19,26 +19,17 @@ pub record IsNamed (words : List (List ℕ)) (files : List ℕ → Option (List 
   pub command : command_of words ≡ Some (Drive session player)
   pub read : game_at (front_of (files session)) ≡ Ok game
 
--- and this version plays it, and the player is one of it
+-- and the player is one of it
 pub record IsSet (words : List (List ℕ)) (files : List ℕ → Option (List ℕ)) (game : Game) (player : ℕ) : Type 0 where
   pub named : IsNamed words files game player
-  pub free : game.grid.walls ≡ []
   pub player_is : player < players_of game
 
--- the words name a player past those of a session that this version plays
+-- the words name a player past those of the session
 pub record IsPast (words : List (List ℕ)) (files : List ℕ → Option (List ℕ)) : Type 0 where
   pub game : Game
   pub player : ℕ
   pub named : IsNamed words files game player
-  pub free : game.grid.walls ≡ []
   pub past : players_of game ≤ player
-
--- the words name a session with walls, which this version doesn't play
-pub record IsWalled (words : List (List ℕ)) (files : List ℕ → Option (List ℕ)) : Type 0 where
-  pub game : Game
-  pub player : ℕ
-  pub named : IsNamed words files game player
-  pub walled : game.grid.walls ≡ [] → ⊥
 
 -- the words name a file that has no session, and what is the first fault in it
 pub record IsFaulty (words : List (List ℕ)) (files : List ℕ → Option (List ℕ)) (fault : SessionFault) : Type 0 where
@@ -66,7 +57,6 @@ pub record IsCaught (words : List (List ℕ)) (files : List ℕ → Option (List
 abbrev pub HasCause : List (List ℕ) → (List ℕ → Option (List ℕ)) → List ℕ → Status → Type 0
 HasCause words files input Usage = (command_of words ≡ None) ⊎ IsPast words files
 HasCause words files input (BadSession line what) = IsFaulty words files (At line what)
-HasCause words files input Unbuilt = IsWalled words files
 HasCause words files input (BadLine Script n) = IsPlayed words files input (Some n)
 HasCause words files input Caught = IsCaught words files input
 HasCause words files input Done = IsPlayed words files input None

@@ -1,10 +1,9 @@
--- Games: the session that a file has, or how the run ends where it has none that is played.
+-- Games: the session that a file has, or how the run ends where it has none.
 use Rattle.std.specs.Prelude.{◌≡◌, ℕ, List, [], take, Result, Ok, Err, Option, nat_lt, if◌then◌else◌}
-use Rattle.definitions.specs.Lists.{is_empty}
 use Rattle.definitions.specs.World.{Game, players_of}
 use Rattle.station.specs.Outside.{known}
 use Rattle.text_io.specs.declared.statuses.Status.{Status}
-use Rattle.text_io.specs.declared.statuses.Status.TheVariants.{NoMemory, Usage, BadSession, InputFault, Unbuilt}
+use Rattle.text_io.specs.declared.statuses.Status.TheVariants.{NoMemory, Usage, BadSession, InputFault}
 use Rattle.grid_world.specs.declared.fault.SessionFault.{SessionFault}
 use Rattle.grid_world.specs.declared.fault.SessionFault.TheVariants.{At, Memory}
 use Rattle.grid_world.specs.Reading.{game_at}
@@ -14,11 +13,11 @@ use Rattle.peer_core.specs.Views.{PeerState}
 unfoldable pub front_of : Option (List ℕ) → List ℕ
 front_of content = take 1048576 (known content)
 
--- the session that is read, where this version plays it: one without walls
-abbrev pub built : Result Game SessionFault → Result Game Status
-built (Err (At line what)) = Err (BadSession line what)
-built (Err Memory) = Err NoMemory
-built (Ok game) = if is_empty game.grid.walls then Ok game else Err Unbuilt
+-- the session that is read, or how the run ends where none is
+abbrev pub ended_by : Result Game SessionFault → Result Game Status
+ended_by (Err (At line what)) = Err (BadSession line what)
+ended_by (Err Memory) = Err NoMemory
+ended_by (Ok game) = Ok game
 
 -- the session, where the player is one of it
 abbrev pub with_player : ℕ → Result Game Status → Result Game Status
@@ -27,7 +26,7 @@ with_player player (Ok game) = if nat_lt player (players_of game) then Ok game e
 
 -- the session of a file
 abbrev pub session_in : Option (List ℕ) → Result Game Status
-session_in content = built (game_at (front_of content))
+session_in content = ended_by (game_at (front_of content))
 
 -- the session of a file that the player plays
 abbrev pub game_for : ℕ → Option (List ℕ) → Result Game Status

@@ -1,10 +1,10 @@
 //! The session of a file, and a peer for it.
 
-ghost use Rattle.std.specs.Prelude.{◌≡◌, ◌≤◌, [], IfOk};
+ghost use Rattle.std.specs.Prelude.{◌≡◌, ◌≤◌};
 ghost use Rattle.station.specs.Outside.{Rose};
 ghost use Rattle.text_io.specs.Frame.{StartCause, StartSteady};
 ghost use Rattle.peer_cli.specs.Ends.{SessionEnds, StartEnds};
-ghost use Rattle.peer_cli.specs.Games.{IsDue, IsPeerFor, built, session_in, game_for, with_player};
+ghost use Rattle.peer_cli.specs.Games.{IsDue, IsPeerFor, ended_by, session_in, game_for, with_player};
 ghost use Rattle.grid_world.specs.Reading.{game_at};
 
 use definitions::PlayerId;
@@ -17,30 +17,22 @@ use text_io::{FrontFault, Status, read_front};
 /// The most bytes that are read of a session's file.
 const FRONT: usize = 1_048_576;
 
-/// The session of a text, where this version plays it.
+/// The session of a text.
 fn session_of(alloc: Global, text: &[u8]) -> Result<Session, Status>
-    ensures due { IsDue (built (game_at text.now)) result }
-    ensures free { IfOk result (λ s. s.grid.walls ≡ []) }
+    ensures due { IsDue (ended_by (game_at text.now)) result }
     ensures cause { StartCause SessionEnds ⊥ result }
 {
     match read_session(alloc, text) {
         Err(SessionFault::Memory) => Err(Status::NoMemory),
         Err(SessionFault::At { line, what }) => Err(Status::BadSession { line, what }),
-        Ok(session) => {
-            if session.grid().is_wall_free() {
-                Ok(session)
-            } else {
-                Err(Status::Unbuilt)
-            }
-        }
+        Ok(session) => Ok(session),
     }
 }
 
-/// The session of a file, where this version plays it.
+/// The session of a file.
 #[tactic(auto, unfolding(crate::specs::Games::front_of))]
 fn open_session<H: Shelf>(alloc: Global, shelf: &mut H, name: &[u8]) -> Result<Session, Status>
     ensures due { H.told shelf.old → IsDue (session_in (H.content shelf.old name.now)) result }
-    ensures free { IfOk result (λ s. s.grid.walls ≡ []) }
     ensures later { H.faults shelf.old ≤ H.faults shelf.new }
     ensures cause { StartCause SessionEnds (Rose (H.faults shelf.old) (H.faults shelf.new)) result }
     ensures steady { StartSteady result (H.faults shelf.new ≡ H.faults shelf.old) }
@@ -54,7 +46,6 @@ fn open_session<H: Shelf>(alloc: Global, shelf: &mut H, name: &[u8]) -> Result<S
 
 /// A peer for the player of the session, with an empty log.
 fn peer_of(alloc: Global, session: &Session, player: PlayerId) -> Result<Peer, Status>
-    requires { session.now.grid.walls ≡ [] }
     ensures due { IsPeerFor player (with_player player (Ok session.now)) result }
     ensures cause { StartCause StartEnds ⊥ result }
 {

@@ -1,7 +1,6 @@
-pub mod Boxes
 pub mod OwnTracks
 pub mod Places
-pub mod Hindering
 pub mod Ready
+pub mod Tables
 pub mod Peers
 pub mod Choices

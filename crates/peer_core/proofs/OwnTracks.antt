@@ -21,7 +21,7 @@ use Rattle.definition_laws.proofs.OwnLog.{own_honest}
 use Rattle.definition_laws.proofs.ForPeers.{own_moves, own_counts}
 use Rattle.grid_world.specs.Sessions.{IsSession}
 use Rattle.grid_world.proofs.Facts.{seat_open}
-use Rattle.peer_core.specs.Waiting.{tracks_from, AreOwnTracks}
+use Rattle.peer_core.specs.OwnTracks.{tracks_from, AreOwnTracks}
 
 pub tracks-length : (game : Game) (track : Track) (ms : List Move) → length (tracks_from game track ms) ≡ length ms + 1
 tracks-length game track [] = refl

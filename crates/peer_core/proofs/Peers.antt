@@ -1,8 +1,8 @@
 -- Peers: what follows from an honest log for a peer's tables.
-use Rattle.std.proofs.Common.{◌≡◌, ℕ, ◌+◌, ◌-◌, ◌*◌, ◌≤◌, ◌<◌, List, [], ◌∷◌, ◌++◌, refl, Bool, true, false, sym, ◌∙◌, ap, subst, arith, length, get_or, set, append-nil, length-append, length-set, get_or-set_same, get_or-set_other}
+use Rattle.std.proofs.Common.{◌≡◌, ℕ, ◌+◌, ◌-◌, ◌*◌, ◌≤◌, ◌<◌, List, [], ◌∷◌, ◌++◌, refl, Bool, true, false, sym, ◌∙◌, ap, subst, arith, length, get_or, set, append-nil, length-append}
 use Rattle.std.specs.Prelude.{Option, Some, None, is_none, map, slice_get, not, nat_lt, ◌/◌, ◌==◌, ◌&&◌}
 use Rattle.std.proofs.lemmas.List.{length-map, map-append, take_all}
-use Rattle.std.proofs.lemmas.Bool.{and_parts, eqb-true, eqb-false, false≢true}
+use Rattle.std.proofs.lemmas.Bool.{and_parts, eqb-false, false≢true}
 use Rattle.definitions.specs.declared.world.Move.{Move}
 use Rattle.definitions.specs.declared.world.Track.{Track}
 use Rattle.definitions.specs.declared.world.MoveFault.{MoveFault}
@@ -12,7 +12,7 @@ use Rattle.definitions.specs.declared.frames.TurnFrame.{TurnFrame}
 use Rattle.definitions.specs.declared.logs.Entry.{Entry}
 use Rattle.definitions.specs.declared.logs.Entry.TheVariants.{Chose, Made, Got}
 use Rattle.definitions.specs.declared.answers.Need.{Need}
-use Rattle.definitions.specs.World.{Game, players_of, is_inside}
+use Rattle.definitions.specs.World.{Game, players_of}
 use Rattle.definitions.specs.Moves.{start_track, track_from, track_after, next_track, move_fault, is_legal}
 use Rattle.definitions.specs.declared.findings.Finding.{Finding}
 use Rattle.definitions.specs.declared.answers.GotAnswer.{GotAnswer}
@@ -24,7 +24,6 @@ use Rattle.definitions.specs.Honest.{IsHonest, made_count, chosen_track}
 use Rattle.definitions.specs.Needs.{needs, may_choose}
 use Rattle.definitions.specs.Advance.{next_made}
 use Rattle.definition_laws.proofs.ForPeers.{own_next, own_moves, own_counts, own_counts_plain, honest_empty, honest_push, clean_without_got}
-use Rattle.definition_laws.proofs.Windows.{known_made, known_chose, known_got_other}
 use Rattle.definition_laws.proofs.Silent.{findings_made, findings_chose}
 use Rattle.log_scan.specs.declared.streams.Stream.{Stream}
 use Rattle.log_scan.specs.Streams.{stream_of}
@@ -39,22 +38,27 @@ use Rattle.definition_laws.proofs.Advances.{next_made_allowed}
 use Rattle.definition_laws.proofs.Listing.{flat_map_append}
 use Rattle.grid_world.specs.Sessions.{IsSession}
 use Rattle.move_rules.specs.Verdicts.{Size, size_of}
-use Rattle.peer_core.specs.Waiting.{AreOwnTracks, tracks_from}
+use Rattle.definitions.specs.declared.world.Cell.{Cell}
+use Rattle.wait_rule.specs.declared.views.View.{View}
+use Rattle.wait_rule.specs.Shown.{Standing}
+use Rattle.peer_core.specs.OwnTracks.{AreOwnTracks, tracks_from}
+use Rattle.peer_core.specs.Others.{AreOthers, view_of}
+use Rattle.peer_core.proofs.Tables.{others_made, others_chose, others_got}
 use Rattle.peer_core.specs.declared.views.Choice.{Choice}
 use Rattle.move_rules.proofs.OpenGround.{true-lt}
 use Rattle.peer_core.specs.Choosing.{caught_in}
 use Rattle.peer_core.specs.Views.{PeerState, choice_of, player_view}
 use Rattle.peer_core.specs.declared.views.PlayerView.{PlayerView}
 use Rattle.peer_core.specs.Standing.{IsStanding}
-use Rattle.peer_core.specs.Inside.{IsPeer, HasRoom, AreStreams}
-use Rattle.peer_core.proofs.OwnTracks.{ahead, tracks-length, tracks-at, tracks-push, known_inside, known_few}
+use Rattle.peer_core.specs.Inside.{IsPeer, HasRoom}
+use Rattle.peer_core.proofs.OwnTracks.{ahead, tracks-length, tracks-at, tracks-push}
 use Rattle.peer_core.proofs.Ready.{made_few}
 
 -- a peer's tables, by what the log says
-pub peer_of : (game : Game) (me : ℕ) (h : List Entry) (os : List Opening) (fs : List TurnFrame) (ts : List Track) (ss : List Stream) (found : Option Finding) (ns : List Need) (size : Size) → IsSession game →
-    me < players_of game → game.grid.walls ≡ [] → IsHonest game me h → os ≡ chosen me h → fs ≡ made h → AreOwnTracks game me h ts → AreStreams game me h ss → found ≡ finding_of_log game h →
-    ns ≡ needs game me h → size ≡ size_of game.grid → IsPeer game me h os fs ts ss found ns size
-peer_of game me h os fs ts ss found ns size is lt w i o f t s e n z =
+pub peer_of : (game : Game) (me : ℕ) (h : List Entry) (os : List Opening) (fs : List TurnFrame) (ts : List Track) (ss : List Stream) (vs : List View) (rule : Standing) (found : Option Finding) (ns : List Need) (size : Size) → IsSession game →
+    me < players_of game → IsHonest game me h → os ≡ chosen me h → fs ≡ made h → AreOwnTracks game me h ts → AreOthers game me h ss vs rule.cells → rule.game ≡ game → found ≡ finding_of_log game h →
+    ns ≡ needs game me h → size ≡ size_of game.grid → IsPeer game me h os fs ts ss vs rule found ns size
+peer_of game me h os fs ts ss vs rule found ns size is lt i o f t s r e n z =
     let counts = own_counts game me h (ahead game is) i in
     let plain = own_counts_plain game me h is.ahead i in
     let few = counts.few in
@@ -66,12 +70,12 @@ peer_of game me h os fs ts ss found ns size is lt w i o f t s e n z =
     let lm = length-map (chosen me h) (λ o. o.mv) in
     record {
       player = lt;
-      free = w;
       honest = i;
       openings_are = o;
       frames_are = f;
       tracks_are = t;
-      streams_are = s;
+      others_are = s;
+      rule_is = r;
       found_is = e;
       needs_are = n;
       size_is = z;
@@ -121,16 +125,16 @@ unfolding got_of
 found_empty game = ap (λ (fs : List Finding). slice_get fs 0) (sym (clean_none game [] (clean_without_got game [] (λ q. refl))))
 
 -- a new peer's tables
-pub peer_new : (game copy : Game) (me : ℕ) (h g : List Entry) (os : List Opening) (fs : List TurnFrame) (t : Track) (ts : List Track) (ss : List Stream) (ns : List Need) (size : Size) → IsSession game →
-    me < players_of game → game.grid.walls ≡ [] → copy ≡ game → h ≡ [] → g ≡ h → os ≡ [] → fs ≡ [] → t ≡ start_track game me → ts ≡ t ∷ [] → AreStreams game me g ss → ns ≡ needs game me g →
-    size ≡ size_of game.grid → IsPeer copy me h os fs ts ss None ns size
-peer_new game copy me h g os fs t ts ss ns size is lt w same none seen o f e k s n z =
-    let IsGame : Game → Type 0 = λ c. IsPeer c me h os fs ts ss None ns size in
-    let IsLog : List Entry → Type 0 = λ l. IsPeer game me l os fs ts ss None ns size in
+pub peer_new : (game copy : Game) (me : ℕ) (h g : List Entry) (os : List Opening) (fs : List TurnFrame) (t : Track) (ts : List Track) (ss : List Stream) (vs : List View) (rule : Standing) (ns : List Need)
+    (size : Size) → IsSession game → me < players_of game → copy ≡ game → h ≡ [] → g ≡ h → os ≡ [] → fs ≡ [] → t ≡ start_track game me → ts ≡ t ∷ [] → AreOthers game me g ss vs rule.cells → rule.game ≡ game →
+    ns ≡ needs game me g → size ≡ size_of game.grid → IsPeer copy me h os fs ts ss vs rule None ns size
+peer_new game copy me h g os fs t ts ss vs rule ns size is lt same none seen o f e k s r n z =
+    let IsGame : Game → Type 0 = λ c. IsPeer c me h os fs ts ss vs rule None ns size in
+    let IsLog : List Entry → Type 0 = λ l. IsPeer game me l os fs ts ss vs rule None ns size in
     let needs_are : ns ≡ needs game me [] = n ∙ ap (needs game me) (seen ∙ none) in
-    let Are : List Entry → Type 0 = λ l. AreStreams game me l ss in
+    let Are : List Entry → Type 0 = λ l. AreOthers game me l ss vs rule.cells in
     subst IsGame (sym same) (subst IsLog (sym none)
-    (peer_of game me [] os fs ts ss None ns size is lt w (honest_empty game me) (o ∙ chosen_empty me) (f ∙ frames_empty) (tracks_empty game me t ts e k) (subst Are (seen ∙ none) s) (found_empty game) needs_are z))
+    (peer_of game me [] os fs ts ss vs rule None ns size is lt (honest_empty game me) (o ∙ chosen_empty me) (f ∙ frames_empty) (tracks_empty game me t ts e k) (subst Are (seen ∙ none) s) r (found_empty game) needs_are z))
 
 -- a new peer's room
 pub room_new : (game copy : Game) (turns others e o f t : ℕ) → copy ≡ game → turns ≡ game.turns → others ≡ players_of game - 1 →
@@ -153,47 +157,6 @@ entry_room game me h e room is my i fits =
     let few = logs_fit game me (h ++ e ∷ []) (ahead game is) my i in
     let more = length-append h (e ∷ []) in
     omega arith
-
--- what the table has of another player
-pub stream_at : (game : Game) (me q i : ℕ) (h : List Entry) (ss : List Stream) (d : Stream) → AreStreams game me h ss → q < players_of game → (q ≡ me → ⊥) → i ≡ q →
-    get_or ss i d ≡ stream_of game q (known game me h q)
-stream_at game me q i h ss d s lt other e = ap (λ k. get_or ss k d) e ∙ s.each q d lt other
-
-pub stream_inside : (game : Game) (me q i : ℕ) (h : List Entry) (ss : List Stream) (d : Stream) → IsSession game → AreStreams game me h ss → q < players_of game → (q ≡ me → ⊥) → i ≡ q →
-    is_inside game.grid (get_or ss i d).track.at ≡ true
-stream_inside game me q i h ss d is s lt other e =
-    let Is : Stream → Type 0 = λ x. is_inside game.grid x.track.at ≡ true in
-    subst Is (sym (stream_at game me q i h ss d s lt other e)) (known_inside game me q h is lt)
-
-pub stream_few : (game : Game) (me q i : ℕ) (h : List Entry) (ss : List Stream) (d : Stream) → IsSession game → AreStreams game me h ss → q < players_of game → (q ≡ me → ⊥) → i ≡ q →
-    (get_or ss i d).commits + (get_or ss i d).resolved ≤ 8192
-stream_few game me q i h ss d is s lt other e =
-    let Is : Stream → Type 0 = λ x. x.commits + x.resolved ≤ 8192 in
-    subst Is (sym (stream_at game me q i h ss d s lt other e)) (known_few game me q h is)
-
--- what is known of the others stays where the owner made a frame, or chose
-pub streams_made : (game : Game) (me : ℕ) (h : List Entry) (f : TurnFrame) (ss : List Stream) → AreStreams game me h ss → AreStreams game me (h ++ Made f ∷ []) ss
-streams_made game me h f ss s = record { count = s.count; each = λ q d lt other. s.each q d lt other ∙ ap (stream_of game q) (sym (known_made game me q h f other)) }
-
-pub streams_chose : (game : Game) (me t : ℕ) (h : List Entry) (m : Move) (n : Nonce) (ss : List Stream) → AreStreams game me h ss → AreStreams game me (h ++ Chose t m n ∷ []) ss
-streams_chose game me t h m n ss s = record { count = s.count; each = λ q d lt other. s.each q d lt other ∙ ap (stream_of game q) (sym (known_chose game me q t h m n)) }
-
--- and where it got a frame, of all but the frame's player
-pub streams_got : (game : Game) (me p : ℕ) (h : List Entry) (f : TurnFrame) (ss : List Stream) (x : Stream) → p < players_of game → AreStreams game me h ss →
-    x ≡ stream_of game p (known game me (h ++ Got p f ∷ []) p) → AreStreams game me (h ++ Got p f ∷ []) (set ss p x)
-streams_got game me p h f ss x here s is = record {
-  count = length-set ss p x ∙ s.count;
-  each = λ q d lt other. by_player q d lt other (q == p) refl;
-}
-  where
-    by_player : (q : ℕ) (d : Stream) → q < players_of game → (q ≡ me → ⊥) → (b : Bool) → (q == p) ≡ b → get_or (set ss p x) q d ≡ stream_of game q (known game me (h ++ Got p f ∷ []) q)
-    by_player q d lt other true e =
-        let same : q ≡ p = eqb-true q p e in
-        let count = s.count in
-        ap (λ k. get_or (set ss p x) k d) same ∙ get_or-set_same ss p x d (omega arith) ∙ is ∙ ap (λ k. stream_of game k (known game me (h ++ Got p f ∷ []) k)) (sym same)
-    by_player q d lt other false e =
-        let apart : q ≡ p → ⊥ = eqb-false q p e in
-        get_or-set_other ss p q x d apart ∙ s.each q d lt other ∙ ap (stream_of game q) (sym (known_got_other game me q p h f (λ k. apart (sym k))))
 
 -- a frame that is taken in is another player's
 pub taken_from : (game : Game) (me q : ℕ) (h : List Entry) (f : TurnFrame) → refusal game me h q f ≡ None → (q < players_of game) × (q ≡ me → ⊥)
@@ -258,15 +221,15 @@ next_room game me h f fs is i e m =
     omega arith
 
 -- the tables after the next frame
-pub peer_made : (game : Game) (me : ℕ) (h h' : List Entry) (os : List Opening) (fs fs' : List TurnFrame) (ts : List Track) (ss : List Stream) (found : Option Finding) (ns ns' : List Need) (size : Size) (f : TurnFrame) → IsSession game →
-    IsPeer game me h os fs ts ss found ns size → next_made game me h ≡ Some f → h' ≡ h ++ Made f ∷ [] → fs' ≡ fs ++ f ∷ [] → ns' ≡ needs game me h' →
-    IsPeer game me h' os fs' ts ss found ns' size
-peer_made game me h h' os fs fs' ts ss found ns ns' size f is p next e m n =
-    let IsLog : List Entry → Type 0 = λ g. IsPeer game me g os fs' ts ss found ns' size in
+pub peer_made : (game : Game) (me : ℕ) (h h' : List Entry) (os : List Opening) (fs fs' : List TurnFrame) (ts : List Track) (ss : List Stream) (vs : List View) (rule : Standing) (found : Option Finding) (ns ns' : List Need) (size : Size) (f : TurnFrame) → IsSession game →
+    IsPeer game me h os fs ts ss vs rule found ns size → next_made game me h ≡ Some f → h' ≡ h ++ Made f ∷ [] → fs' ≡ fs ++ f ∷ [] → ns' ≡ needs game me h' →
+    IsPeer game me h' os fs' ts ss vs rule found ns' size
+peer_made game me h h' os fs fs' ts ss vs rule found ns ns' size f is p next e m n =
+    let IsLog : List Entry → Type 0 = λ g. IsPeer game me g os fs' ts ss vs rule found ns' size in
     let tracks : List Opening → List Track = λ xs. tracks_from game (start_track game me) (map (λ o. o.mv) xs) in
-    subst IsLog (sym e) (peer_of game me (h ++ Made f ∷ []) os fs' ts ss found ns' size is p.player p.free (next_honest game me h f p.honest next)
+    subst IsLog (sym e) (peer_of game me (h ++ Made f ∷ []) os fs' ts ss vs rule found ns' size is p.player (next_honest game me h f p.honest next)
     (p.openings_are ∙ sym (chosen_made me h f)) (m ∙ ap (λ (xs : List TurnFrame). xs ++ f ∷ []) p.frames_are ∙ sym (frames_made h f))
-    (p.tracks_are ∙ ap tracks (sym (chosen_made me h f))) (streams_made game me h f ss p.streams_are) (p.found_is ∙ found_made game h f) (n ∙ ap (needs game me) e) p.size_is)
+    (p.tracks_are ∙ ap tracks (sym (chosen_made me h f))) (others_made game me h f ss vs rule.cells p.others_are) p.rule_is (p.found_is ∙ found_made game h f) (n ∙ ap (needs game me) e) p.size_is)
 
 -- what is next in the log that is seen is next in the log inside
 pub next_inside : (v w : PeerState) (f : TurnFrame) → w ≡ v → next_made v.game v.me v.entries ≡ Some f → next_made w.game w.me w.entries ≡ Some f
@@ -277,9 +240,9 @@ tracks_made game me h f ts t =
     let tracks : List Opening → List Track = λ xs. tracks_from game (start_track game me) (map (λ o. o.mv) xs) in
     t ∙ ap tracks (sym (chosen_made me h f))
 
-pub standing : (game : Game) (me : ℕ) (h : List Entry) (os : List Opening) (fs : List TurnFrame) (ts : List Track) (ss : List Stream) (found : Option Finding) (ns : List Need) (size : Size) → IsSession game →
-    IsPeer game me h os fs ts ss found ns size → IsStanding (record { game = game; me = me; entries = h })
-standing game me h os fs ts ss found ns size is p =
+pub standing : (game : Game) (me : ℕ) (h : List Entry) (os : List Opening) (fs : List TurnFrame) (ts : List Track) (ss : List Stream) (vs : List View) (rule : Standing) (found : Option Finding) (ns : List Need) (size : Size) → IsSession game →
+    IsPeer game me h os fs ts ss vs rule found ns size → IsStanding (record { game = game; me = me; entries = h })
+standing game me h os fs ts ss vs rule found ns size is p =
     let counts = own_counts game me h (ahead game is) p.honest in
     let plain = own_counts_plain game me h is.ahead p.honest in
     let sum = counts.sum in
@@ -289,7 +252,6 @@ standing game me h os fs ts ss found ns size is p =
     record {
       session = is;
       player = p.player;
-      free = p.free;
       honest = p.honest;
       made_few = made_are;
       chosen_few = counts.few;
@@ -323,21 +285,24 @@ tracks_got game me q h f ts t =
     t ∙ ap tracks (sym (chosen_got me q h f))
 
 -- the tables after a frame was got
-pub peer_got : (game : Game) (me q : ℕ) (h h' : List Entry) (f : TurnFrame) (os : List Opening) (fs : List TurnFrame) (ts : List Track) (ss : List Stream) (found found' : Option Finding)
-    (ns ns' : List Need) (size size' : Size) (x : Stream) → IsSession game → IsPeer game me h os fs ts ss found ns size → refusal game me h q f ≡ None → h' ≡ h ++ Got q f ∷ [] →
-    x ≡ stream_of game q (known game me h' q) → found' ≡ finding_of_log game h' → ns' ≡ needs game me h' → size' ≡ size → IsPeer game me h' os fs ts (set ss q x) found' ns' size'
-peer_got game me q h h' f os fs ts ss found found' ns ns' size size' x is p none e stream first g z =
-    let IsLog : List Entry → Type 0 = λ l. IsPeer game me l os fs ts (set ss q x) found' ns' size' in
+pub peer_got : (game : Game) (me q : ℕ) (h h' : List Entry) (f : TurnFrame) (os : List Opening) (fs : List TurnFrame) (ts : List Track) (ss : List Stream) (vs : List View) (rule rule' : Standing)
+    (found found' : Option Finding) (ns ns' : List Need) (size size' : Size) (x : Stream) → IsSession game → IsPeer game me h os fs ts ss vs rule found ns size → refusal game me h q f ≡ None →
+    h' ≡ h ++ Got q f ∷ [] → x ≡ stream_of game q (known game me h' q) → length rule.cells ≡ players_of game → rule' ≡ record rule { cells = set rule.cells q x.track.at } →
+    found' ≡ finding_of_log game h' → ns' ≡ needs game me h' → size' ≡ size → IsPeer game me h' os fs ts (set ss q x) (set vs q (view_of x)) rule' found' ns' size'
+peer_got game me q h h' f os fs ts ss vs rule rule' found found' ns ns' size size' x is p none e stream seen told first g z =
+    let IsLog : List Entry → Type 0 = λ l. IsPeer game me l os fs ts (set ss q x) (set vs q (view_of x)) rule' found' ns' size' in
     let from = taken_from game me q h f none in
-    subst IsLog (sym e) (peer_of game me (h ++ Got q f ∷ []) os fs ts (set ss q x) found' ns' size' is p.player p.free (log_stays_honest game me q h f p.honest none)
+    let Are : List Cell → Type 0 = λ cells. AreOthers game me (h ++ Got q f ∷ []) (set ss q x) (set vs q (view_of x)) cells in
+    let others = others_got game me q h f ss vs rule.cells x from.0 seen p.others_are (stream ∙ ap (λ (l : List Entry). stream_of game q (known game me l q)) e) in
+    subst IsLog (sym e) (peer_of game me (h ++ Got q f ∷ []) os fs ts (set ss q x) (set vs q (view_of x)) rule' found' ns' size' is p.player (log_stays_honest game me q h f p.honest none)
     (p.openings_are ∙ sym (chosen_got me q h f)) (p.frames_are ∙ sym (made_got q h f)) (tracks_got game me q h f ts p.tracks_are)
-    (streams_got game me q h f ss x from.0 p.streams_are (stream ∙ ap (λ (l : List Entry). stream_of game q (known game me l q)) e))
+    (subst Are (ap (λ (r : Standing). r.cells) (sym told)) others) (ap (λ (r : Standing). r.game) told ∙ p.rule_is)
     (first ∙ ap (finding_of_log game) e) (g ∙ ap (needs game me) e) (z ∙ p.size_is))
 
 -- what the tables show of the owner itself
-pub player_me : (game : Game) (me : ℕ) (h : List Entry) (os : List Opening) (fs : List TurnFrame) (ts : List Track) (ss : List Stream) (found : Option Finding) (ns : List Need) (size : Size) (n : ℕ) (t : Track) →
-    IsSession game → IsPeer game me h os fs ts ss found ns size → n ≡ length fs → t ≡ get_or ts (n / 2) t → record { turns = n / 2; track = t; next = n } ≡ player_view game me h me
-player_me game me h os fs ts ss found ns size n t is p e f =
+pub player_me : (game : Game) (me : ℕ) (h : List Entry) (os : List Opening) (fs : List TurnFrame) (ts : List Track) (ss : List Stream) (vs : List View) (rule : Standing) (found : Option Finding) (ns : List Need) (size : Size) (n : ℕ) (t : Track) →
+    IsSession game → IsPeer game me h os fs ts ss vs rule found ns size → n ≡ length fs → t ≡ get_or ts (n / 2) t → record { turns = n / 2; track = t; next = n } ≡ player_view game me h me
+player_me game me h os fs ts ss vs rule found ns size n t is p e f =
     let r : n / 2 ≡ resolved_count game me h me = ap (λ k. k / 2) e ∙ sym p.revealed in
     let next : n ≡ next_place game me h me = e ∙ ap (λ (xs : List TurnFrame). length xs) p.frames_are ∙ sym (own_next game me h (ahead game is) p.honest) in
     let counts = own_counts game me h (ahead game is) p.honest in
@@ -396,15 +361,15 @@ tracks_chose game me h k m n ts ts' t are next e =
     sym (tracks-push game start (moves (chosen me h)) m) ∙ ap (λ (ms : List Move). tracks_from game start ms) (sym (ap moves (chosen_chose me h k m n) ∙ map-append (λ (o : Opening). o.mv) (chosen me h) (one ∷ [])))
 
 -- the tables after a choice
-pub peer_chose : (game : Game) (me : ℕ) (h h' : List Entry) (os os' : List Opening) (fs : List TurnFrame) (ts ts' : List Track) (ss : List Stream) (found : Option Finding) (ns ns' : List Need) (size : Size) (k : ℕ) (m : Move) (n : Nonce) (t : Track) →
-    IsSession game → IsPeer game me h os fs ts ss found ns size → IsHonest game me (h ++ Chose k m n ∷ []) → t ≡ next_track game (chosen_track game me h) m → h' ≡ h ++ Chose k m n ∷ [] →
-    os' ≡ os ++ record { player = me; turn = k; mv = m; nonce = n } ∷ [] → ts' ≡ ts ++ t ∷ [] → ns' ≡ needs game me h' → IsPeer game me h' os' fs ts' ss found ns' size
-peer_chose game me h h' os os' fs ts ts' ss found ns ns' size k m n t is p i next e o f g =
-    let IsLog : List Entry → Type 0 = λ l. IsPeer game me l os' fs ts' ss found ns' size in
+pub peer_chose : (game : Game) (me : ℕ) (h h' : List Entry) (os os' : List Opening) (fs : List TurnFrame) (ts ts' : List Track) (ss : List Stream) (vs : List View) (rule : Standing) (found : Option Finding) (ns ns' : List Need) (size : Size) (k : ℕ) (m : Move) (n : Nonce) (t : Track) →
+    IsSession game → IsPeer game me h os fs ts ss vs rule found ns size → IsHonest game me (h ++ Chose k m n ∷ []) → t ≡ next_track game (chosen_track game me h) m → h' ≡ h ++ Chose k m n ∷ [] →
+    os' ≡ os ++ record { player = me; turn = k; mv = m; nonce = n } ∷ [] → ts' ≡ ts ++ t ∷ [] → ns' ≡ needs game me h' → IsPeer game me h' os' fs ts' ss vs rule found ns' size
+peer_chose game me h h' os os' fs ts ts' ss vs rule found ns ns' size k m n t is p i next e o f g =
+    let IsLog : List Entry → Type 0 = λ l. IsPeer game me l os' fs ts' ss vs rule found ns' size in
     let one : Opening = record { player = me; turn = k; mv = m; nonce = n } in
-    subst IsLog (sym e) (peer_of game me (h ++ Chose k m n ∷ []) os' fs ts' ss found ns' size is p.player p.free i
+    subst IsLog (sym e) (peer_of game me (h ++ Chose k m n ∷ []) os' fs ts' ss vs rule found ns' size is p.player i
     (o ∙ ap (λ (xs : List Opening). xs ++ one ∷ []) p.openings_are ∙ sym (chosen_chose me h k m n)) (p.frames_are ∙ sym (frames_chose h k m n))
-    (tracks_chose game me h k m n ts ts' t p.tracks_are next f) (streams_chose game me k h m n ss p.streams_are) (p.found_is ∙ found_chose game h k m n) (g ∙ ap (needs game me) e) p.size_is)
+    (tracks_chose game me h k m n ts ts' t p.tracks_are next f) (others_chose game me k h m n ss vs rule.cells p.others_are) p.rule_is (p.found_is ∙ found_chose game h k m n) (g ∙ ap (needs game me) e) p.size_is)
 
 -- what a choice requires of the log that is seen, of the log inside
 pub may_inside : (v w : PeerState) → w ≡ v → may_choose v.game v.me v.entries ≡ true → may_choose w.game w.me w.entries ≡ true

@@ -1,33 +1,25 @@
--- Ready: what the owner's next frame misses is of a turn that the owner has come to.
-use Rattle.std.proofs.Common.{◌≡◌, ℕ, ◌-◌, ◌*◌, ◌≤◌, ◌⊎◌, inl, inr, List, refl, Bool, true, false, sym, ◌∙◌, ap, subst, arith}
-use Rattle.std.specs.Prelude.{Option, Some, None, nat_lt, if◌then◌else◌}
+-- Ready: the stage that the owner's frames have come to.
+use Rattle.std.proofs.Common.{◌≡◌, ℕ, ◌+◌, ◌-◌, ◌*◌, ◌≤◌, ◌<◌, List, sym, ◌∙◌, ap, subst, arith, get_or, length, true}
+use Rattle.std.specs.Prelude.{◌/◌}
+use Rattle.definitions.specs.declared.world.Cell.{Cell}
+use Rattle.definitions.specs.declared.world.Track.{Track}
 use Rattle.definitions.specs.declared.logs.Entry.{Entry}
-use Rattle.definitions.specs.declared.frames.What.{What}
-use Rattle.definitions.specs.declared.frames.What.TheVariants as W
-use Rattle.definitions.specs.World.{Game}
-use Rattle.definitions.specs.Places.{Slot, slot_at}
+use Rattle.definitions.specs.World.{Game, players_of, is_open}
+use Rattle.definitions.specs.Places.{slot_at}
 use Rattle.definitions.specs.Logs.{frames_of}
 use Rattle.definitions.specs.Held.{known, resolved_count}
+use Rattle.definitions.specs.Meets.{cell_before}
 use Rattle.definitions.specs.Honest.{IsHonest, made_count}
-use Rattle.definition_laws.proofs.Order.{slot_at_commit_is, slot_at_reveal_is}
-use Rattle.definition_laws.proofs.OwnLog.{resolved_count_at_commit, resolved_count_at_reveal}
 use Rattle.definition_laws.proofs.Knowing.{places_in_le}
-use Rattle.definition_laws.proofs.ForPeers.{own_next}
+use Rattle.definition_laws.proofs.ForPeers.{own_next, own_counts_plain}
 use Rattle.grid_world.specs.Sessions.{IsSession}
-use Rattle.peer_core.specs.declared.waiting.Missing.{Missing}
-use Rattle.peer_core.specs.declared.waiting.Missing.TheVariants.{Commit, Reveal, Rest}
-use Rattle.peer_core.specs.Waiting.{missing_at, missing_for, turn_in}
-use Rattle.peer_core.proofs.OwnTracks.{ahead}
-
-some_same : {X : Type 0} (x y : X) → Some x ≡ Some y → x ≡ y
-some_same x y h = cc
-
-chosen : {X : Type 0} (b : Bool) (x y z : X) → (if b then x else y) ≡ z → ((b ≡ true) × (x ≡ z)) ⊎ ((b ≡ false) × (y ≡ z))
-chosen true x y z h = inl (refl, h)
-chosen false x y z h = inr (refl, h)
-
-none_some : {X : Type 0} (x : X) → None ≡ Some x → ⊥
-none_some x h = cc
+use Rattle.grid_world.proofs.Facts.{seat_open}
+use Rattle.wait_rule.specs.Shown.{IsStageOf}
+use Rattle.wait_rule.specs.Waiting.{IsStage}
+use Rattle.wait_rule.specs.declared.views.Stage.TheVariants.{Commit, Reveal, After}
+use Rattle.peer_core.specs.OwnTracks.{AreOwnTracks}
+use Rattle.peer_core.proofs.OwnTracks.{ahead, own_track_at, own_cell_open, own_tracks_reach}
+use Rattle.peer_core.proofs.Places.{slot_even, slot_odd, slot_end}
 
 -- no more frames are made than the stream has places
 pub made_few : (game : Game) (me : ℕ) (h : List Entry) → IsSession game → IsHonest game me h → made_count h ≤ 2 * game.turns
@@ -37,41 +29,50 @@ made_few game me h is i =
     let same = own_next game me h (ahead game is) i in
     omega arith
 
-turn_of_commit : (game : Game) (me t : ℕ) (h : List Entry) (m : Missing) → IsSession game → IsHonest game me h →
-    slot_at game (made_count h) ≡ Some (record { what = W.Commit; turn = t }) → missing_for game W.Commit t ≡ Some m → turn_in m ≤ resolved_count game me h me
-turn_of_commit game me t h m is i e f =
-    let at = slot_at_commit_is game (made_count h) t e in
-    let n = resolved_count_at_commit game me t h (ahead game is) i at.0 (sym at.1) in
-    let P : Missing → Type 0 = λ k. turn_in k ≤ resolved_count game me h me in
-    elim (chosen (nat_lt t game.ahead) None (Some (Reveal (t - game.ahead))) (Some m) f) [
-      | inl a ↦ absurd (none_some m a.1)
-      | inr b ↦ subst P (some_same (Reveal (t - game.ahead)) m b.1) (omega arith)
-    ]
+-- half of the frames made are revealed
+revealed : (game : Game) (me n : ℕ) (h : List Entry) → IsSession game → IsHonest game me h → n ≡ made_count h → resolved_count game me h me ≡ n / 2
+revealed game me n h is i e = (own_counts_plain game me h is.ahead i).0 ∙ ap (λ k. k / 2) (sym e)
 
-turn_of_reveal : (game : Game) (me t : ℕ) (h : List Entry) (m : Missing) → IsSession game → IsHonest game me h →
-    slot_at game (made_count h) ≡ Some (record { what = W.Reveal; turn = t }) → missing_for game W.Reveal t ≡ Some m → turn_in m ≤ resolved_count game me h me
-turn_of_reveal game me t h m is i e f =
-    let at = slot_at_reveal_is game (made_count h) t e in
-    let n = resolved_count_at_reveal game me t h (ahead game is) i at.0 (sym at.1) in
-    let P : Missing → Type 0 = λ k. turn_in k ≤ resolved_count game me h me in
-    subst P (some_same (Commit t) m f) (omega arith)
+-- a turn that the owner has come to has a track
+pub stage_track : (game : Game) (me n t : ℕ) (h : List Entry) (ts : List Track) → IsSession game → IsHonest game me h → n ≡ made_count h → AreOwnTracks game me h ts → t ≤ n / 2 → t < length ts
+stage_track game me n t h ts is i e are le = let r = revealed game me n h is i e in own_tracks_reach game me t h ts (ahead game is) i are (omega arith)
 
-by_what : (game : Game) (me : ℕ) (w : What) (t : ℕ) (h : List Entry) (m : Missing) → IsSession game → IsHonest game me h →
-    slot_at game (made_count h) ≡ Some (record { what = w; turn = t }) → missing_for game w t ≡ Some m → turn_in m ≤ resolved_count game me h me
-by_what game me W.Commit t h m is i e f = turn_of_commit game me t h m is i e f
-by_what game me W.Reveal t h m is i e f = turn_of_reveal game me t h m is i e f
+-- the cell of that track is the owner's before the turn, and it is open
+stage_cell : (game : Game) (me n t : ℕ) (h : List Entry) (ts : List Track) (d : Track) → IsSession game → IsHonest game me h → n ≡ made_count h → AreOwnTracks game me h ts → t ≤ n / 2 →
+    (get_or ts t d).at ≡ cell_before game me h me t
+stage_cell game me n t h ts d is i e are le = let r = revealed game me n h is i e in own_track_at game me t h ts d (ahead game is) i are (omega arith)
 
-by_slot : (game : Game) (me : ℕ) (s : Option Slot) (h : List Entry) (m : Missing) → IsSession game → IsHonest game me h →
-    slot_at game (made_count h) ≡ s → missing_at game s ≡ Some m → turn_in m ≤ resolved_count game me h me
-by_slot game me None h m is i e f =
-    let P : Missing → Type 0 = λ k. turn_in k ≤ resolved_count game me h me in
-    subst P (some_same Rest m f) (omega arith)
-by_slot game me (Some s) h m is i e f = by_what game me s.what s.turn h m is i e f
+stage_open : (game : Game) (me n t : ℕ) (h : List Entry) (ts : List Track) (d : Track) → IsSession game → me < players_of game → IsHonest game me h → n ≡ made_count h → AreOwnTracks game me h ts →
+    t ≤ n / 2 → is_open game.grid (get_or ts t d).at ≡ true
+stage_open game me n t h ts d is lt i e are le =
+    let r = revealed game me n h is i e in
+    let Is : Cell → Type 0 = λ c. is_open game.grid c ≡ true in
+    subst Is (sym (stage_cell game me n t h ts d is i e are le)) (own_cell_open game me t h (ahead game is) i (seat_open game me is lt) (omega arith))
 
-pub turn_ready : (game : Game) (me : ℕ) (h : List Entry) (m : Missing) → IsSession game → IsHonest game me h →
-    missing_at game (slot_at game (made_count h)) ≡ Some m → turn_in m ≤ resolved_count game me h me
-turn_ready game me h m is i f = by_slot game me (slot_at game (made_count h)) h m is i refl f
+-- the commitment to a turn comes next
+pub commit_stage : (game : Game) (me n t last : ℕ) (h : List Entry) (ts : List Track) (d : Track) → IsSession game → me < players_of game → IsHonest game me h → n ≡ made_count h → AreOwnTracks game me h ts →
+    t < game.turns → n ≡ 2 * t → last ≡ t - 1 → IsStage game (Commit t (get_or ts last d).at) × IsStageOf game me h (Commit t (get_or ts last d).at)
+commit_stage game me n t last h ts d is lt i e are within even l =
+    let one = is.ahead in
+    let back : last ≡ t - game.ahead = omega arith in (
+      (within, λ le. stage_open game me n last h ts d is lt i e are (omega arith)),
+      record {
+        slot = ap (slot_at game) (sym e) ∙ slot_even game n t is.ahead even within;
+        cell = λ le. stage_cell game me n last h ts d is i e are (omega arith) ∙ ap (cell_before game me h me) back;
+      },
+    )
 
-pub missing_is : (game : Game) (h : List Entry) (n : ℕ) (r s : Option Missing) → n ≡ made_count h → r ≡ missing_at game (slot_at game n) → r ≡ s →
-    missing_at game (slot_at game (made_count h)) ≡ s
-missing_is game h n r s e f g = ap (λ k. missing_at game (slot_at game k)) (sym e) ∙ sym f ∙ g
+-- the reveal of a turn comes next
+pub reveal_stage : (game : Game) (me n t : ℕ) (h : List Entry) (ts : List Track) (d : Track) → IsSession game → me < players_of game → IsHonest game me h → n ≡ made_count h → AreOwnTracks game me h ts →
+    t < game.turns → n ≡ 2 * t + 1 → IsStage game (Reveal t (get_or ts t d).at) × IsStageOf game me h (Reveal t (get_or ts t d).at)
+reveal_stage game me n t h ts d is lt i e are within odd = (
+  (within, stage_open game me n t h ts d is lt i e are (omega arith)),
+  record {
+    slot = ap (slot_at game) (sym e) ∙ slot_odd game n t is.ahead odd within;
+    cell = stage_cell game me n t h ts d is i e are (omega arith);
+  },
+)
+
+-- none comes any more
+pub after_stage : (game : Game) (me n : ℕ) (h : List Entry) → IsSession game → n ≡ made_count h → 2 * game.turns ≤ n → IsStageOf game me h After
+after_stage game me n h is e past = record { slot = ap (slot_at game) (sym e) ∙ slot_end game n is.ahead past; cell = tt }

@@ -1,5 +1,5 @@
 -- Inside: what holds of a peer's tables.
-use Rattle.std.specs.Prelude.{◌≡◌, ◌≢◌, ℕ, ◌+◌, ◌*◌, ◌/◌, ◌<◌, ◌≤◌, List, [], length, get_or, Option}
+use Rattle.std.specs.Prelude.{◌≡◌, ℕ, ◌+◌, ◌*◌, ◌/◌, ◌<◌, ◌≤◌, List, length, Option}
 use Rattle.definitions.specs.declared.world.Track.{Track}
 use Rattle.definitions.specs.declared.openings.Opening.{Opening}
 use Rattle.definitions.specs.declared.frames.TurnFrame.{TurnFrame}
@@ -8,30 +8,27 @@ use Rattle.definitions.specs.declared.answers.Need.{Need}
 use Rattle.definitions.specs.declared.findings.Finding.{Finding}
 use Rattle.definitions.specs.World.{Game, players_of}
 use Rattle.definitions.specs.Logs.{made, chosen}
-use Rattle.definitions.specs.Held.{known, resolved_count}
+use Rattle.definitions.specs.Held.{resolved_count}
 use Rattle.definitions.specs.Honest.{IsHonest}
 use Rattle.definitions.specs.Needs.{needs}
 use Rattle.move_rules.specs.Verdicts.{Size, size_of}
 use Rattle.log_scan.specs.declared.streams.Stream.{Stream}
-use Rattle.log_scan.specs.Streams.{stream_of}
 use Rattle.log_scan.specs.First.{finding_of_log}
 use Rattle.log_scan.specs.Fits.{room_of}
-use Rattle.peer_core.specs.Waiting.{AreOwnTracks}
-
--- the table has what the log shows of each other player's stream
-pub record AreStreams (game : Game) (me : ℕ) (h : List Entry) (streams : List Stream) : Type 0 where
-  pub count : length streams ≡ players_of game
-  pub each : (q : ℕ) (d : Stream) → q < players_of game → q ≢ me → get_or streams q d ≡ stream_of game q (known game me h q)
+use Rattle.wait_rule.specs.declared.views.View.{View}
+use Rattle.wait_rule.specs.Shown.{Standing}
+use Rattle.peer_core.specs.OwnTracks.{AreOwnTracks}
+use Rattle.peer_core.specs.Others.{AreOthers}
 
 -- the log is honest, and the tables beside it are what it says
-pub record IsPeer (game : Game) (me : ℕ) (entries : List Entry) (openings : List Opening) (frames : List TurnFrame) (tracks : List Track) (streams : List Stream) (found : Option Finding) (needs_list : List Need) (size : Size) : Type 0 where
+pub record IsPeer (game : Game) (me : ℕ) (entries : List Entry) (openings : List Opening) (frames : List TurnFrame) (tracks : List Track) (streams : List Stream) (views : List View) (rule : Standing) (found : Option Finding) (needs_list : List Need) (size : Size) : Type 0 where
   pub player : me < players_of game
-  pub free : game.grid.walls ≡ []
   pub honest : IsHonest game me entries
   pub openings_are : openings ≡ chosen me entries
   pub frames_are : frames ≡ made entries
   pub tracks_are : AreOwnTracks game me entries tracks
-  pub streams_are : AreStreams game me entries streams
+  pub others_are : AreOthers game me entries streams views rule.cells
+  pub rule_is : rule.game ≡ game
   pub found_is : found ≡ finding_of_log game entries
   pub needs_are : needs_list ≡ needs game me entries
   pub size_is : size ≡ size_of game.grid

@@ -1,6 +1,6 @@
 pub mod Views
-pub mod Meeting
-pub mod Waiting
+pub mod OwnTracks
+pub mod Others
 pub mod Choosing
 pub mod Standing
 pub mod Inside

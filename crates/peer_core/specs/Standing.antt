@@ -1,5 +1,5 @@
 -- Standing: what holds of every peer.
-use Rattle.std.specs.Prelude.{◌≡◌, ℕ, ◌+◌, ◌/◌, ◌*◌, ◌<◌, ◌≤◌, [], length}
+use Rattle.std.specs.Prelude.{◌+◌, ◌/◌, ◌*◌, ◌<◌, ◌≤◌, length}
 use Rattle.definitions.specs.World.{players_of}
 use Rattle.definitions.specs.Logs.{chosen}
 use Rattle.definitions.specs.Honest.{IsHonest, made_count}
@@ -10,7 +10,6 @@ use Rattle.peer_core.specs.Views.{PeerState}
 pub record IsStanding (p : PeerState) : Type 0 where
   pub session : IsSession p.game
   pub player : p.me < players_of p.game
-  pub free : p.game.grid.walls ≡ []
   pub honest : IsHonest p.game p.me p.entries
   pub made_few : made_count p.entries ≤ 2 * p.game.turns
   pub chosen_few : length (chosen p.me p.entries) ≤ p.game.turns

@@ -7,16 +7,14 @@
 
 mod choosing;
 mod frames;
-mod meeting;
-mod needs;
+mod others;
 mod peer;
 mod room;
-mod streams;
+mod stages;
 mod views;
-mod waiting;
 
 pub use definitions::{Entry, Finding, GotAnswer, Need, OwnFault, Progress, What};
 pub use log_scan::place_of;
-pub use needs::NeedList;
 pub use peer::Peer;
 pub use views::{Choice, PlayerView};
+pub use wait_rule::NeedList;

@@ -19,11 +19,9 @@ ghost use Rattle.log_scan.specs.Replies as R;
 ghost use Rattle.peer_core.specs.Views as V;
 
 use crate::choosing::{caught_in, chooses, next_of, progress_of};
-use crate::needs::NeedList;
+use crate::others::{find_needs, other_stream, read_others, view_of};
 use crate::room::add;
-use crate::streams::{other_stream, read_streams};
 use crate::views::{Choice, PlayerView};
-use crate::waiting::find_needs;
 use definitions::{
     Entry, Finding, GotAnswer, Move, MoveFault, Nonce, Opening, OwnFault, PlayerId, Progress,
     Track, TurnFrame,
@@ -33,6 +31,7 @@ use log_scan::{Stream, answer_taken, known_stream, refusal};
 use move_rules::{Walker, start_track};
 use std::alloc::{AllocError, Global};
 use std::marker::Model;
+use wait_rule::{NeedList, View, WaitRule};
 
 /// The log of one player of a session, with tables of what its entries say.
 #[derive(Drop)]
@@ -47,6 +46,8 @@ pub struct Peer {
     tracks: Vec<Track>,
     // what the log shows of each other player's stream, and its first finding
     streams: Vec<Stream>,
+    views: Vec<View>,
+    rule: WaitRule,
     found: Option<Finding>,
     needs: NeedList,
 }
@@ -60,7 +61,7 @@ impl Model for Peer {
 
     ghost view = { λ p. record { game = p.session; me = p.me; entries = p.entries.items } };
 
-    ghost invariant = { λ p. IsPeer p.session p.me p.entries.items p.openings.items p.frames.items p.tracks.items p.streams.items p.found p.needs p.walker
+    ghost invariant = { λ p. IsPeer p.session p.me p.entries.items p.openings.items p.frames.items p.tracks.items p.streams.items p.views.items p.rule p.found p.needs p.walker
         × HasRoom p.session (vec_capacity p.entries) (vec_capacity p.openings) (vec_capacity p.frames) (vec_capacity p.tracks) };
 }
 
@@ -68,7 +69,6 @@ impl Peer {
     /// A peer with an empty log, for this player of the session. It takes all the memory that the peer will need.
     pub fn new(alloc: Global, session: &Session, me: PlayerId) -> Result<Peer, AllocError>
         requires player { me < players_of session.now }
-        requires free { session.now.grid.walls ≡ [] }
         ensures { IfOk result (λ p. p ≡ record { game = session.now; me = me; entries = [] }) }
     {
         let copy = session.copy(alloc)?;
@@ -81,15 +81,27 @@ impl Peer {
         let mut tracks = Vec::with_capacity(alloc, turns + 1)?;
         tracks.push(start_track(session, me))?;
         let mut streams = Vec::with_capacity(alloc, others + 1)?;
-        read_streams(session, &mut walker, me, entries.as_slice(), &mut streams);
+        let mut views = Vec::with_capacity(alloc, others + 1)?;
+        let mut rule = WaitRule::new(alloc, session)?;
+        read_others(
+            session,
+            &mut walker,
+            me,
+            entries.as_slice(),
+            &mut streams,
+            &mut views,
+            &mut rule,
+        );
         let mut needs = NeedList::new();
         find_needs(
             session,
+            &mut rule,
             me,
             entries.as_slice(),
             0,
             tracks.as_slice(),
             streams.as_slice(),
+            views.as_slice(),
             &mut needs,
         );
         Ok(Peer {
@@ -101,6 +113,8 @@ impl Peer {
             frames,
             tracks,
             streams,
+            views,
+            rule,
             found: None,
             needs,
         })
@@ -225,11 +239,13 @@ impl Peer {
         add(&mut self.frames, frame);
         find_needs(
             &self.session,
+            &mut self.rule,
             self.me,
             self.entries.as_slice(),
             self.frames.len() as u32,
             self.tracks.as_slice(),
             self.streams.as_slice(),
+            self.views.as_slice(),
             &mut self.needs,
         );
     }
@@ -281,11 +297,13 @@ impl Peer {
         add(&mut self.tracks, track);
         find_needs(
             &self.session,
+            &mut self.rule,
             self.me,
             self.entries.as_slice(),
             self.frames.len() as u32,
             self.tracks.as_slice(),
             self.streams.as_slice(),
+            self.views.as_slice(),
             &mut self.needs,
         );
     }
@@ -353,20 +371,26 @@ impl Peer {
             frame,
         );
         self.found = caught_in(&answer);
-        self.streams[usize::from(from)] = known_stream(
+        let stream = known_stream(
             &self.session,
             &mut self.walker,
             self.me,
             self.entries.as_slice(),
             from,
         );
+        self.rule.facts();
+        self.streams[usize::from(from)] = stream;
+        self.views[usize::from(from)] = view_of(&stream);
+        self.rule.resolved(from, stream.track.at);
         find_needs(
             &self.session,
+            &mut self.rule,
             self.me,
             self.entries.as_slice(),
             self.frames.len() as u32,
             self.tracks.as_slice(),
             self.streams.as_slice(),
+            self.views.as_slice(),
             &mut self.needs,
         );
         answer
@@ -405,6 +429,8 @@ impl Peer {
             self.me,
             self.entries.as_slice(),
             self.streams.as_slice(),
+            self.views.as_slice(),
+            &self.rule,
             player,
         );
         PlayerView {

@@ -7,7 +7,7 @@ use Rattle.definitions.specs.declared.answers.LogWhy.TheVariants.{TooLong, Torn,
 use Rattle.text_io.specs.declared.statuses.TextName.{TextName}
 use Rattle.text_io.specs.declared.statuses.TextName.TheVariants.{Script, Roster, Moves, Evidence, Seed, Roots}
 use Rattle.text_io.specs.declared.statuses.Status.{Status}
-use Rattle.text_io.specs.declared.statuses.Status.TheVariants.{Done, NoMemory, Usage, BadSession, InputFault, OutputFault, Caught, GaveUp, KeepFault, PollFault, BadLog, BadLine, OwnMove, Unbuilt}
+use Rattle.text_io.specs.declared.statuses.Status.TheVariants.{Done, NoMemory, Usage, BadSession, InputFault, OutputFault, Caught, GaveUp, KeepFault, PollFault, BadLog, BadLine, OwnMove}
 
 -- the exit status of a run that ends so
 abbrev pub code_of : Status → ℕ
@@ -24,7 +24,6 @@ code_of PollFault = 9
 code_of (BadLog log at why) = 10
 code_of (BadLine text line) = 11
 code_of (OwnMove turn fault) = 12
-code_of Unbuilt = 13
 
 -- the name of a rule of session texts
 abbrev pub rule_name : SessionRule → List ℕ
@@ -83,4 +82,3 @@ refusal_of PollFault = []
 refusal_of (BadLog log at why) = bad_log_line log at why
 refusal_of (BadLine text line) = bad_line_line text line
 refusal_of (OwnMove turn fault) = []
-refusal_of Unbuilt = codes "unbuilt\n"

@@ -129,7 +129,6 @@ fn refusal(status: Status) -> RefusalLine
         Status::InputFault => line_of(b"input fault\n"),
         Status::BadLog { log, at, why } => line_of_bad_log(log, at, why),
         Status::BadLine { text, line } => line_of_bad_line(text, line),
-        Status::Unbuilt => line_of(b"unbuilt\n"),
         Status::Done
         | Status::OutputFault
         | Status::Caught

@@ -52,12 +52,10 @@ pub enum Status {
     BadLine { text: TextName, line: u32 },
     /// The move given for a turn, counted from 0, is not legal, and why.
     OwnMove { turn: Turn, fault: MoveFault },
-    /// The words are a command that this program doesn't have yet.
-    Unbuilt,
 }
 
 impl Status {
-    /// The exit status, from 0 for Done to 13 for Unbuilt, in the order of the variants.
+    /// The exit status, from 0 for Done to 12 for OwnMove, in the order of the variants.
     pub fn code(&self) -> u8
         ensures { result ≡ code_of self.now }
     {
@@ -75,7 +73,6 @@ impl Status {
             Status::BadLog { .. } => 10,
             Status::BadLine { .. } => 11,
             Status::OwnMove { .. } => 12,
-            Status::Unbuilt => 13,
         }
     }
 }

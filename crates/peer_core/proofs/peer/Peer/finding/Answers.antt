@@ -1,4 +1,4 @@
-use Rattle.std.proofs.Common.{Bool, Option, Some, None, ap, refl, subst, sym, ◌≡◌, ◌∙◌}
+use Rattle.std.proofs.Common.{Option, Some, None, ap, refl, subst, sym, ◌≡◌, ◌∙◌}
 use Rattle.std.specs.Prelude.{is_none, not}
 use Rattle.std.specs.Option.{is_some}
 use Rattle.definitions.specs.declared.findings.Finding.{Finding}

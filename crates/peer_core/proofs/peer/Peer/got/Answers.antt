@@ -1,4 +1,4 @@
-use Rattle.std.proofs.Common.{◌≡◌, ◌∙◌, sym}
+use Rattle.std.proofs.Common.{◌∙◌, sym}
 use Rattle.log_scan.proofs.Replied.{replies}
 use Rattle.peer_core.proofs.peer.Peer.got.Goals as goal
 

@@ -1,4 +1,4 @@
-use Rattle.std.proofs.Common.{◌≡◌, ◌∙◌, ℕ, List, [], ◌∷◌, ◌++◌, ap, sym, subst, length, rules, arith, refl, vec_len}
+use Rattle.std.proofs.Common.{◌≡◌, ◌∙◌, List, [], ◌∷◌, ◌++◌, ap, sym, subst, length, rules, arith, vec_len}
 use Rattle.std.specs.Prelude.{Some}
 use Rattle.definitions.specs.declared.world.Track.{Track}
 use Rattle.definitions.specs.declared.frames.TurnFrame.{TurnFrame}
@@ -9,9 +9,13 @@ use Rattle.definitions.specs.Logs.{made}
 use Rattle.definitions.specs.Advance.{next_made}
 use Rattle.definitions.specs.Needs.{needs}
 use Rattle.log_scan.specs.declared.streams.Stream.{Stream}
-use Rattle.peer_core.specs.Inside.{AreStreams}
-use Rattle.peer_core.specs.Waiting.{AreOwnTracks}
-use Rattle.peer_core.proofs.Peers.{entry_room, streams_made, next_inside, next_room, next_honest, frames_made, tracks_made, peer_made}
+use Rattle.wait_rule.specs.declared.views.View.{View}
+use Rattle.wait_rule.specs.Shown.{Standing}
+use Rattle.peer_core.specs.Inside.{IsPeer}
+use Rattle.peer_core.specs.Others.{AreOthers}
+use Rattle.peer_core.proofs.Tables.{others_made}
+use Rattle.peer_core.specs.OwnTracks.{AreOwnTracks}
+use Rattle.peer_core.proofs.Peers.{entry_room, next_inside, next_room, next_honest, frames_made, tracks_made, peer_made}
 use Rattle.peer_core.proofs.peer.Peer.make.Goals as goal
 
 pub add-requires : goal.add-requires
@@ -55,21 +59,25 @@ find_needs-requires-clause-tracks c =
     let Are : List Track → Type 0 = λ ts. AreOwnTracks c.self.inside.session c.self.inside.me (c.self.inside.entries.items ++ Made c.args.frame ∷ []) ts in
     subst IsLog (sym log) (subst Are (sym c.as_slice-2.ensures.value) (tracks_made c.self.inside.session c.self.inside.me c.self.inside.entries.items c.args.frame c.self.inside.tracks.items inv.tracks_are))
 
-pub find_needs-requires-clause-streams : goal.find_needs-requires-clause-streams
-find_needs-requires-clause-streams c =
+pub find_needs-requires-clause-others : goal.find_needs-requires-clause-others
+find_needs-requires-clause-others c =
     let inv = c.self.invariant.0 in
     let log : c.as_slice.result.now ≡ c.self.inside.entries.items ++ Made c.args.frame ∷ [] = c.as_slice.ensures.value ∙ c.add.ensures.items in
-    let IsLog : List Entry → Type 0 = λ h. AreStreams c.self.inside.session c.self.inside.me h c.as_slice-3.result.now in
-    let Are : List Stream → Type 0 = λ ss. AreStreams c.self.inside.session c.self.inside.me (c.self.inside.entries.items ++ Made c.args.frame ∷ []) ss in
-    subst IsLog (sym log) (subst Are (sym c.as_slice-3.ensures.value) (streams_made c.self.inside.session c.self.inside.me c.self.inside.entries.items c.args.frame c.self.inside.streams.items inv.streams_are))
+    let IsLog : List Entry → Type 0 = λ h. AreOthers c.self.inside.session c.self.inside.me h c.as_slice-3.result.now c.as_slice-4.result.now c.self.inside.rule.cells in
+    let Streams : List Stream → Type 0 = λ ss. AreOthers c.self.inside.session c.self.inside.me (c.self.inside.entries.items ++ Made c.args.frame ∷ []) ss c.as_slice-4.result.now c.self.inside.rule.cells in
+    let Views : List View → Type 0 = λ vs. AreOthers c.self.inside.session c.self.inside.me (c.self.inside.entries.items ++ Made c.args.frame ∷ []) c.self.inside.streams.items vs c.self.inside.rule.cells in
+    subst IsLog (sym log) (subst Streams (sym c.as_slice-3.ensures.value) (subst Views (sym c.as_slice-4.ensures.value)
+    (others_made c.self.inside.session c.self.inside.me c.self.inside.entries.items c.args.frame c.self.inside.streams.items c.self.inside.views.items c.self.inside.rule.cells inv.others_are)))
 
 pub invariant_of-self : goal.invariant_of-self
 invariant_of-self c =
     let next : next_made c.self.inside.session c.self.inside.me c.self.inside.entries.items ≡ Some c.args.frame = next_inside _ _ _ c.self.view_is c.requires in
     let inv = c.self.invariant.0 in
+    let IsRule : Standing → Type 0 = λ r. IsPeer c.self.inside.session c.self.inside.me c.add.new.list.items c.self.inside.openings.items c.add-2.new.list.items c.self.inside.tracks.items
+    c.self.inside.streams.items c.self.inside.views.items r c.self.inside.found c.find_needs.new.out c.self.inside.walker in
     let rooms = c.self.invariant.1 in (
-      peer_made _ _ _ _ _ _ _ _ _ _ _ _ _ c.args.frame c.facts.ensures inv next c.add.ensures.items c.add-2.ensures.items
-          (c.find_needs.ensures ∙ ap (λ (h : List Entry). needs c.self.inside.session c.self.inside.me h) c.as_slice.ensures.value),
+      subst IsRule (sym c.find_needs.ensures.rule) (peer_made _ _ _ _ _ _ _ _ _ _ _ _ _ _ _ c.args.frame c.facts.ensures inv next c.add.ensures.items c.add-2.ensures.items
+          (c.find_needs.ensures.needs ∙ ap (λ (h : List Entry). needs c.self.inside.session c.self.inside.me h) c.as_slice.ensures.value)),
       record {
         entries_fit = omega (arith, rooms.entries_fit, c.add.ensures.capacity);
         openings_fit = rooms.openings_fit;

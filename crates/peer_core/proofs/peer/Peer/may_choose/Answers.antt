@@ -8,7 +8,6 @@ use Rattle.definitions.specs.Needs.{needs, may_choose}
 use Rattle.definitions.specs.Honest.{made_count}
 use Rattle.log_scan.proofs.First.{clean_is_none}
 use Rattle.peer_core.specs.Views.{PeerState}
-use Rattle.peer_core.specs.Choosing.{chooses}
 use Rattle.peer_core.proofs.Choices.{chooses_free, empty_is}
 use Rattle.peer_core.proofs.peer.Peer.may_choose.Goals as goal
 

@@ -1,0 +1,24 @@
+use Rattle.std.proofs.Common.{◌∙◌, ◌+◌, ap, sym, arith}
+use Rattle.definitions.specs.World as world
+use Rattle.influence.proofs.Grown.{grown_none, with_cells, size_kept, open_kept, step_more, sphere_is}
+use Rattle.influence.proofs.sphere.sphere_of.Goals as goal
+
+pub loop-step-init : goal.loop-step-init
+loop-step-init c = c.copy_from.ensures ∙ ap (with_cells c.args.from.now) (sym (grown_none c.args.session.now.grid c.args.from.now.cells))
+
+pub grow_walk-requires-clause-size : goal.grow_walk-requires-clause-size
+grow_walk-requires-clause-size c = size_kept _ _ _ _ _ c.requires.size c.grid.ensures.value c.loop-step.invariant
+
+pub grow_walk-requires-clause-open : goal.grow_walk-requires-clause-open
+grow_walk-requires-clause-open c = open_kept _ _ _ _ _ c.requires.open c.grid.ensures.value c.loop-step.invariant
+
+pub loop-step-preserved : goal.loop-step-preserved
+loop-step-preserved c = step_more _ _ _ _ _ _ c.grid.ensures.value c.loop-step.invariant c.grow_walk.ensures
+
+pub returns : goal.returns
+returns c =
+    λ q player.
+    sphere_is c.args.session.now q c.loop-step._step _ c.args.from.now c.args.out.now _ _ c.rules-rules.ensures.session player c.requires.size c.requires.out_size
+    (let e = ap (λ (r : world.Rules). r.speed) c.rules-rules.ensures.value in omega arith)
+    (let e = ap (λ (r : world.Rules). r.reach + r.blast) c.rules-rules.ensures.value in omega arith)
+    c.loop-step.invariant c.grow_square.ensures

@@ -1,0 +1,81 @@
+-- ForPeers: how the cells at which the players were last seen follow a log as it grows, and which stage a log has come to.
+use Rattle.std.proofs.Common.{◌≡◌, ℕ, zero, suc, ◌-◌, ◌*◌, ◌+◌, ◌≤◌, ◌<◌, List, [], ◌∷◌, length, refl, sym, ap, ◌∙◌, arith, inl, inr, subst}
+use Rattle.std.specs.Prelude.{map, slice_set, Some, None}
+use Rattle.std.proofs.lemmas.Bool.{cases_eq}
+use Rattle.definitions.specs.declared.world.Cell.{Cell}
+use Rattle.definitions.specs.declared.world.Move.{Move}
+use Rattle.definitions.specs.declared.logs.Entry.{Entry}
+use Rattle.definitions.specs.Lists.{item_or}
+use Rattle.definitions.specs.World.{Game, players_of, no_seat}
+use Rattle.definitions.specs.Moves.{track_after}
+use Rattle.definitions.specs.Places.{slot_at}
+use Rattle.definitions.specs.Held.{known}
+use Rattle.definitions.specs.Meets.{cell_before}
+use Rattle.definitions.specs.Honest.{made_count}
+use Rattle.definitions.specs.declared.frames.What.TheVariants as F
+use Rattle.definitions.proofs.Streams.{commit_place-plain, reveal_place-plain, slot_at-commit, slot_at-reveal, slot_at-past}
+use Rattle.dilation.specs.Dilated.{cell_of, starts_of}
+use Rattle.wait_rule.specs.declared.views.Stage.TheVariants.{Commit, Reveal, After}
+use Rattle.wait_rule.specs.Shown.{AreLastCells, last_cell, IsStageOf}
+
+item_map : {X Y : Type 0} (f : X → Y) (xs : List X) (i : ℕ) (d : X) → item_or (map f xs) i (f d) ≡ f (item_or xs i d)
+item_map f [] i d = refl
+item_map f (x ∷ xs) zero d = refl
+item_map f (x ∷ xs) (suc i) d = item_map f xs i d
+
+-- where no turn is resolved each player was last seen at its start
+pub last_cells_start : (game : Game) (me : ℕ) (h : List Entry) → ((q : ℕ) → (q ≡ me → ⊥) → (known game me h q).moves ≡ []) → AreLastCells game me h (starts_of game)
+last_cells_start game me h none q lt other =
+    item_map (λ s. s.start) game.seats q no_seat ∙ ap (λ (ms : List Move). (track_after game q ms).at) (sym (none q other))
+
+item_set_same : {X : Type 0} (xs : List X) (i : ℕ) (x d : X) → i < length xs → item_or (slice_set xs i x) i d ≡ x
+item_set_same [] i x d lt = absurd (omega arith)
+item_set_same (y ∷ ys) zero x d lt = refl
+item_set_same (y ∷ ys) (suc i) x d lt = item_set_same ys i x d (omega arith)
+
+item_set_other : {X : Type 0} (xs : List X) (i j : ℕ) (x d : X) → (j ≡ i → ⊥) → item_or (slice_set xs i x) j d ≡ item_or xs j d
+item_set_other [] i j x d other = refl
+item_set_other (y ∷ ys) zero zero x d other = absurd (other refl)
+item_set_other (y ∷ ys) zero (suc j) x d other = refl
+item_set_other (y ∷ ys) (suc i) zero x d other = refl
+item_set_other (y ∷ ys) (suc i) (suc j) x d other = item_set_other ys i j x d (λ e. other (ap suc e))
+
+-- where a turn of one player is resolved, only its cell is another one
+pub last_cells_set : (game : Game) (me : ℕ) (h later : List Entry) (cells : List Cell) (p : ℕ) (cell : Cell) → AreLastCells game me h cells → length cells ≡ players_of game → p < players_of game →
+    cell ≡ last_cell game me later p → ((q : ℕ) → (q ≡ p → ⊥) → (q ≡ me → ⊥) → last_cell game me later q ≡ last_cell game me h q) → AreLastCells game me later (slice_set cells p cell)
+last_cells_set game me h later cells p cell seen all player here others q lt other =
+    elim (cases_eq q p) [
+      | inl same ↦
+          let P : ℕ → Type 0 = λ n. cell_of (slice_set cells p cell) n ≡ last_cell game me later n in
+          subst P (sym same) (item_set_same cells p cell no_seat.start (omega arith) ∙ here)
+      | inr differs ↦ item_set_other cells p q cell no_seat.start differs ∙ seen q lt other ∙ sym (others q differs other)
+    ]
+
+-- where no turn is resolved anew the cells are the same
+pub last_cells_same : (game : Game) (me : ℕ) (h later : List Entry) (cells : List Cell) → AreLastCells game me h cells → ((q : ℕ) → (q ≡ me → ⊥) → last_cell game me later q ≡ last_cell game me h q) → AreLastCells game me later cells
+last_cells_same game me h later cells seen same q lt other = seen q lt other ∙ sym (same q other)
+
+-- the slot of an even place, of an odd one, and past the end, one turn ahead
+pub slot_even : (game : Game) (n t : ℕ) → game.ahead ≡ 1 → n ≡ 2 * t → t < game.turns → slot_at game n ≡ Some (record { what = F.Commit; turn = t })
+slot_even game n t a e lt = ap (slot_at game) (e ∙ sym (commit_place-plain game t a)) ∙ slot_at-commit game t (omega arith) lt
+
+pub slot_odd : (game : Game) (n t : ℕ) → game.ahead ≡ 1 → n ≡ 2 * t + 1 → t < game.turns → slot_at game n ≡ Some (record { what = F.Reveal; turn = t })
+slot_odd game n t a e lt = ap (slot_at game) (e ∙ sym (reveal_place-plain game t a)) ∙ slot_at-reveal game t (omega arith) lt
+
+pub slot_end : (game : Game) (n : ℕ) → game.ahead ≡ 1 → 2 * game.turns ≤ n → slot_at game n ≡ None
+slot_end game n a le = slot_at-past game n (omega arith) le
+
+-- the stage of a log with so many made frames
+pub stage_commit : (game : Game) (me t : ℕ) (h : List Entry) (last : Cell) → game.ahead ≡ 1 → made_count h ≡ 2 * t → t < game.turns → (1 ≤ t → last ≡ cell_before game me h me (t - 1)) →
+    IsStageOf game me h (Commit t last)
+stage_commit game me t h last one made lt at = record {
+  slot = slot_even game (made_count h) t one made lt;
+  cell = λ le. at (omega arith) ∙ ap (λ n. cell_before game me h me (t - n)) (sym one);
+}
+
+pub stage_reveal : (game : Game) (me t : ℕ) (h : List Entry) (at : Cell) → game.ahead ≡ 1 → made_count h ≡ 2 * t + 1 → t < game.turns → at ≡ cell_before game me h me t →
+    IsStageOf game me h (Reveal t at)
+stage_reveal game me t h at one made lt is = record { slot = slot_odd game (made_count h) t one made lt; cell = is }
+
+pub stage_after : (game : Game) (me : ℕ) (h : List Entry) → game.ahead ≡ 1 → 2 * game.turns ≤ made_count h → IsStageOf game me h After
+stage_after game me h one made = record { slot = slot_end game (made_count h) one made; cell = tt }

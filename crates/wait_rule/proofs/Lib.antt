@@ -1,0 +1,4 @@
+pub mod Lists
+pub mod Hindering
+pub mod Sights
+pub mod ForPeers

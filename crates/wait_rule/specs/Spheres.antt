@@ -1,0 +1,27 @@
+-- Spheres: what holds of the two sets that are compared.
+use Rattle.std.specs.Prelude.{◌≡◌, ℕ, List, [], ◌∷◌}
+use Rattle.definitions.specs.declared.world.Cell.{Cell}
+use Rattle.definitions.specs.World.{Game}
+use Rattle.definitions.specs.Sphere.{sphere_of}
+use Rattle.cell_set.specs.Regions.{IsSizeOf}
+use Rattle.wait_rule.specs.declared.views.Stage.{Stage}
+use Rattle.wait_rule.specs.declared.views.Stage.TheVariants.{Commit, Reveal, After}
+use Rattle.wait_rule.specs.declared.meeting.Meeting.{Meeting}
+
+-- the cells are of this game, and the sets have its grid's size
+pub record IsMeeting (game : Game) (m : Meeting) : Type 0 where
+  pub same : m.dilation.game ≡ game
+  pub size : IsSizeOf game.grid m.own
+  pub size_theirs : IsSizeOf game.grid m.theirs
+
+-- where the players were last seen and the own sphere are the same
+pub record Stays (game : Game) (before after : Meeting) : Type 0 where
+  pub cells : after.dilation.cells ≡ before.dilation.cells
+  pub own : after.own ≡ before.own
+  pub meeting : IsMeeting game after
+
+-- the own sphere, by the stage's cell
+abbrev pub IsSight : Game → ℕ → Stage → List Cell → Type 0
+IsSight game me (Commit t last) cells = cells ≡ sphere_of game me (last ∷ [])
+IsSight game me (Reveal t at) cells = cells ≡ sphere_of game me (at ∷ [])
+IsSight game me After cells = Unit {0}

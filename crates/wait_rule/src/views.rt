@@ -1,0 +1,24 @@
+//! What is known of the players, and what the own frames have come to.
+
+use definitions::{Cell, Turn};
+
+/// What is known of one player: how many of its turns are resolved, the next place of its stream, counted from 0, and
+/// whether its commitment to the first turn that isn't resolved is held.
+#[derive(Clone, Copy, Debug, PartialEq, Eq)]
+pub struct View {
+    pub resolved: u32,
+    pub next: u32,
+    pub held: bool,
+}
+
+/// Which own frame is to be made next.
+#[derive(Clone, Copy, Debug, PartialEq, Eq)]
+pub enum Stage {
+    /// The commitment to a turn. `last` is the own cell before the turn whose frames it waits for: the one before. The
+    /// first turn's commitment waits for no one, and any cell will do.
+    Commit { turn: Turn, last: Cell },
+    /// The reveal of a turn. `at` is the own cell before that turn.
+    Reveal { turn: Turn, at: Cell },
+    /// None: all own frames are made.
+    After,
+}
