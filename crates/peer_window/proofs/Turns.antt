@@ -1,0 +1,187 @@
+-- Turns: the first clash of a turn, by its two slots and by where the walk ended.
+use Rattle.std.proofs.Common.{◌≡◌, ℕ, ◌+◌, ◌-◌, ◌*◌, ◌<◌, ◌≤◌, List, [], ◌∷◌, refl, Bool, true, false, sym, ◌∙◌, ap, arith, inl, inr, Option, Some, None}
+use Rattle.std.specs.Prelude.{not, ◌&&◌, ◌||◌, ◌==◌, if◌then◌else◌, is_some, max, min, nat_lt}
+use Rattle.std.specs.Option.{option_or}
+use Rattle.std.proofs.lemmas.Bool.{cases_lt, eq-eqb, eqb-true, false≢true, ltb-false, ltb-true}
+use Rattle.definitions.specs.declared.findings.Kind.{Kind}
+use Rattle.definitions.specs.declared.findings.Kind.TheVariants.{TwoCommits, BadOpening, Collision, Illegal}
+use Rattle.definitions.specs.declared.world.Move.{Move}
+use Rattle.definitions.specs.declared.openings.Digest.{Digest}
+use Rattle.definitions.specs.declared.openings.Nonce.{Nonce}
+use Rattle.definitions.specs.declared.frames.TurnFrame.{TurnFrame}
+use Rattle.definitions.specs.declared.frames.TurnFrame.TheVariants.{Commit, Reveal}
+use Rattle.definitions.specs.World.{Game}
+use Rattle.definitions.specs.Logs.{turn_of}
+use Rattle.definitions.specs.Lists.{first_of}
+use Rattle.definitions.specs.Held.{Known, digest_of, known_to}
+use Rattle.definitions.specs.Findings.{is_commit, is_illegal_at, kinds}
+use Rattle.peer_window.specs.declared.received.Received.{Received}
+use Rattle.peer_window.specs.declared.received.Clash.{Clash}
+use Rattle.peer_window.specs.declared.walk.Reach.{Reach}
+use Rattle.peer_window.specs.Clashes.{clash_among, clash_in, illegal_clash, is_first, of_turn, same_digest}
+use Rattle.peer_window.specs.Steps.{IsReach, slot_step, step_from, stop_of}
+use Rattle.peer_window.specs.Slots.{AreSlots, frames_in, in_order, shown, slot}
+use Rattle.peer_window.proofs.OfTurns.{turn_slots}
+use Rattle.peer_window.proofs.Pairs.{among_none, among_one, among_two, digest_sym, kinds_are}
+use Rattle.peer_window.proofs.Judging.{later_unjudged, resolved_legal, stopped_illegal}
+use Rattle.peer_window.proofs.Stretches.{is_commitment}
+use Rattle.peer_window.proofs.Stretches as S
+
+-- what the frames of a turn's two slots show by their digests
+abbrev pub pair_clash : Game → ℕ → Option Received → Option Received → Option Clash
+pair_clash game t None o = None
+pair_clash game t (Some c) None = None
+pair_clash game t (Some c) (Some g) =
+    if same_digest game c g then None else Some (record { turn = t; kind = BadOpening; first = min c.entry g.entry; second = max c.entry g.entry })
+
+-- what the walk's end shows of the turn
+abbrev pub end_clash : ℕ → ℕ → Option Clash → Option Clash
+end_clash t n x = if (2 * t + 1) == n then x else None
+
+pub stop_empty : (game : Game) (ss : List (Option Received)) (at : Reach) (x : Option Clash) → stop_of (step_from game ss at) ≡ Some x → slot ss at.next ≡ None → x ≡ None
+stop_empty game ss at x h e = let g = ap (λ (o : Option Received). stop_of (slot_step game at.track (slot ss (at.next - 1)) o)) (sym e) ∙ h in got g
+  where
+    got : Some None ≡ Some x → x ≡ None
+    got g = cc
+
+pub clash_same : (a b : Clash) → a.turn ≡ b.turn → a.kind ≡ b.kind → a.first ≡ b.first → a.second ≡ b.second → a ≡ b
+clash_same a b e f g h =
+    let at_turn : ℕ → Clash = λ x. record { turn = x; kind = a.kind; first = a.first; second = a.second } in
+    let at_kind : Kind → Clash = λ x. record { turn = b.turn; kind = x; first = a.first; second = a.second } in
+    let at_first : ℕ → Clash = λ x. record { turn = b.turn; kind = b.kind; first = x; second = a.second } in
+    let at_second : ℕ → Clash = λ x. record { turn = b.turn; kind = b.kind; first = b.first; second = x } in
+    ap at_turn e ∙ ap at_kind f ∙ ap at_first g ∙ ap at_second h
+
+when : (a s : Bool) → a ≡ true → (a && not s) ≡ not s
+when true s h = refl
+when false s h = absurd (false≢true h)
+
+never : (a : Bool) → (a && false) ≡ false
+never true = refl
+never false = refl
+
+or_false : (a : Bool) → (a || false) ≡ a
+or_false true = refl
+or_false false = refl
+
+-- a commitment is never illegal
+commit_legal : (game : Game) (q t : ℕ) (k : Known) (f : TurnFrame) (p u : ℕ) (d : Digest) → f ≡ Commit p u d → is_illegal_at game q t k f ≡ false
+commit_legal game q t k f p u d e = ap (is_illegal_at game q t k) e ∙ never _
+
+first_here : (c : Received) (rs : List Received) (p u : ℕ) (d : Digest) → c.frame ≡ Commit p u d → is_first (c ∷ rs) c ≡ true
+first_here c rs p u d e = ap (λ (f : TurnFrame). if is_commit f then c.entry == c.entry else is_first rs c) e ∙ eq-eqb c.entry c.entry refl
+
+first_next : (g : Received) (a : Received) (rs : List Received) (p u : ℕ) (m : Move) (o : Nonce) → g.frame ≡ Reveal p u m o → is_first (g ∷ rs) a ≡ is_first rs a
+first_next g a rs p u m o e = ap (λ (f : TurnFrame). if is_commit f then g.entry == a.entry else is_first rs a) e
+
+-- the values of the four kinds, joined
+joined : (bad ill : Option Clash) → option_or None (option_or bad (option_or None (option_or ill None))) ≡ option_or bad ill
+joined None None = refl
+joined None (Some x) = refl
+joined (Some y) ill = refl
+
+bad_if : (t x y : ℕ) (s : Bool) (a : Clash) → (if not s then Some a else None) ≡ (if s then None else Some a)
+bad_if t x y true a = refl
+bad_if t x y false a = refl
+
+-- a commitment and then a reveal
+first_then : (game : Game) (q t : ℕ) (k : Known) (c g : Received) (d : Digest) (m : Move) (o : Nonce) → c.frame ≡ Commit q t d → g.frame ≡ Reveal q t m o → c.entry < g.entry →
+    first_of (clash_among game q t k (c ∷ g ∷ [])) kinds ≡ option_or (pair_clash game t (Some c) (Some g)) (if is_illegal_at game q t k g.frame then Some (illegal_clash c g) else None)
+first_then game q t k c g d m o e f lt =
+    kinds_are (clash_among game q t k (c ∷ g ∷ [])) None (pair_clash game t (Some c) (Some g)) None (if is_illegal_at game q t k g.frame then Some (illegal_clash c g) else None)
+    (among_two game q t k c g TwoCommits false (rw (e, f) refl))
+    (among_two game q t k c g BadOpening (not (same_digest game c g)) (when _ _ (rw (e, f) refl))
+    ∙ ap (λ (x : Clash). if not (same_digest game c g) then Some x else None) (clash_same _ (record { turn = t; kind = BadOpening; first = min c.entry g.entry; second = max c.entry g.entry }) refl refl (omega arith) (omega arith))
+    ∙ bad_if t 0 0 (same_digest game c g) _)
+    (among_two game q t k c g Collision false (rw e refl))
+    (among_two game q t k c g Illegal (is_illegal_at game q t k g.frame)
+    (ap (λ (b : Bool). (b && is_illegal_at game q t k g.frame) || (is_first (c ∷ g ∷ []) g && is_illegal_at game q t k c.frame)) (first_here c (g ∷ []) q t d e)
+    ∙ ap (λ (b : Bool). is_illegal_at game q t k g.frame || (is_first (c ∷ g ∷ []) g && b)) (commit_legal game q t k c.frame q t d e)
+    ∙ ap (λ (b : Bool). is_illegal_at game q t k g.frame || b) (never _) ∙ or_false _)
+    ∙ ap (λ (x : Clash). if is_illegal_at game q t k g.frame then Some x else None) (clash_same _ (illegal_clash c g) (sym (ap turn_of f)) refl (omega arith) (omega arith)))
+    ∙ joined _ _
+
+-- a reveal and then its commitment
+then_first : (game : Game) (q t : ℕ) (k : Known) (c g : Received) (d : Digest) (m : Move) (o : Nonce) → c.frame ≡ Commit q t d → g.frame ≡ Reveal q t m o → g.entry ≤ c.entry →
+    first_of (clash_among game q t k (g ∷ c ∷ [])) kinds ≡ option_or (pair_clash game t (Some c) (Some g)) (if is_illegal_at game q t k g.frame then Some (illegal_clash c g) else None)
+then_first game q t k c g d m o e f le =
+    kinds_are (clash_among game q t k (g ∷ c ∷ [])) None (pair_clash game t (Some c) (Some g)) None (if is_illegal_at game q t k g.frame then Some (illegal_clash c g) else None)
+    (among_two game q t k g c TwoCommits false (rw f refl))
+    (among_two game q t k g c BadOpening (not (same_digest game c g)) (when _ _ (rw f refl) ∙ ap not (digest_sym (digest_of game g.frame) (digest_of game c.frame)))
+    ∙ ap (λ (x : Clash). if not (same_digest game c g) then Some x else None) (clash_same _ (record { turn = t; kind = BadOpening; first = min c.entry g.entry; second = max c.entry g.entry }) refl refl (omega arith) (omega arith))
+    ∙ bad_if t 0 0 (same_digest game c g) _)
+    (among_two game q t k g c Collision false (rw (f, e) refl))
+    (among_two game q t k g c Illegal (is_illegal_at game q t k g.frame)
+    (ap (λ (b : Bool). (is_first (g ∷ c ∷ []) g && b) || (is_first (g ∷ c ∷ []) c && is_illegal_at game q t k g.frame)) (commit_legal game q t k c.frame q t d e)
+    ∙ ap (λ (b : Bool). b || (is_first (g ∷ c ∷ []) c && is_illegal_at game q t k g.frame)) (never _)
+    ∙ ap (λ (b : Bool). b && is_illegal_at game q t k g.frame) (first_next g c (c ∷ []) q t m o f ∙ first_here c [] q t d e))
+    ∙ ap (λ (x : Clash). if is_illegal_at game q t k g.frame then Some x else None) (clash_same _ (illegal_clash c g) (sym (ap turn_of f)) refl (omega arith) (omega arith)))
+    ∙ joined _ _
+
+-- in either order
+pub both_slots : (game : Game) (q t : ℕ) (k : Known) (c g : Received) (d : Digest) (m : Move) (o : Nonce) → c.frame ≡ Commit q t d → g.frame ≡ Reveal q t m o →
+    first_of (clash_among game q t k (in_order (Some c ∷ Some g ∷ []))) kinds ≡ option_or (pair_clash game t (Some c) (Some g)) (if is_illegal_at game q t k g.frame then Some (illegal_clash c g) else None)
+both_slots game q t k c g d m o e f = go (nat_lt c.entry g.entry) refl
+  where
+    go : (b : Bool) → nat_lt c.entry g.entry ≡ b →
+        first_of (clash_among game q t k (if b then c ∷ g ∷ [] else g ∷ c ∷ [])) kinds ≡ option_or (pair_clash game t (Some c) (Some g)) (if is_illegal_at game q t k g.frame then Some (illegal_clash c g) else None)
+    go true h = first_then game q t k c g d m o e f (ltb-true c.entry g.entry h)
+    go false h = then_first game q t k c g d m o e f (ltb-false c.entry g.entry h)
+
+pub end_none : (t n : ℕ) (x : Option Clash) → (2 * t + 1 ≡ n → x ≡ None) → None ≡ end_clash t n x
+end_none t n x h = go ((2 * t + 1) == n) refl
+  where
+    go : (b : Bool) → ((2 * t + 1) == n) ≡ b → None ≡ (if b then x else None)
+    go true e = sym (h (eqb-true (2 * t + 1) n e))
+    go false e = refl
+
+-- the first clash of a turn, where the slots show all that is known
+pub turn_value : (game : Game) (q t : ℕ) (ss : List (Option Received)) (at : Reach) (x : Option Clash) → AreSlots q ss at.next → IsReach game q ss at → stop_of (step_from game ss at) ≡ Some x →
+    known_to game q (frames_in (in_order ss)) (2 * game.turns) ≡ shown ss at.next →
+    clash_in game q (in_order ss) t ≡ option_or (pair_clash game t (slot ss (2 * t)) (slot ss (2 * t + 1))) (end_clash t at.next x)
+unfolding clash_in
+turn_value game q t ss at x w reach stop known =
+    ap (λ (k : Known). first_of (clash_among game q t k (of_turn t (in_order ss))) kinds) known
+    ∙ ap (λ (rs : List Received). first_of (clash_among game q t (shown ss at.next) rs) kinds) (turn_slots q at.next t ss w)
+    ∙ go (slot ss (2 * t)) refl (slot ss (2 * t + 1)) refl
+  where
+    k : Known
+    k = shown ss at.next
+
+    empty : slot ss (2 * t + 1) ≡ None → 2 * t + 1 ≡ at.next → x ≡ None
+    empty e n = stop_empty game ss at x stop (ap (slot ss) (sym n) ∙ e)
+
+    missing : slot ss (2 * t) ≡ None → 2 * t + 1 ≡ at.next → x ≡ None
+    missing e n = absurd (false≢true (ap is_some (sym e) ∙ w.there (2 * t) (omega arith)))
+
+    value : (c g : Received) (d : Digest) (m : Move) (o : Nonce) → slot ss (2 * t) ≡ Some c → c.frame ≡ Commit q t d → slot ss (2 * t + 1) ≡ Some g → g.frame ≡ Reveal q t m o →
+        (if is_illegal_at game q t (shown ss at.next) g.frame then Some (illegal_clash c g) else None) ≡ end_clash t at.next x
+    value c g d m o e f i j = elim (cases_lt (2 * t + 1) at.next) [
+      | inl below ↦
+          ap (λ (b : Bool). if b then Some (illegal_clash c g) else None) (resolved_legal game q at.next t ss g m o w known below i j)
+          ∙ end_none t at.next x (λ n. absurd (omega arith))
+      | inr above ↦ elim (cases_lt at.next (2 * t + 1)) [
+        | inl later ↦
+            ap (λ (b : Bool). if b then Some (illegal_clash c g) else None) (later_unjudged game q at.next t ss g m o w later j)
+            ∙ end_none t at.next x (λ n. absurd (omega arith))
+        | inr here ↦
+            let n : 2 * t + 1 ≡ at.next = omega arith in
+            stopped_illegal game q t ss at x c g d m o w reach stop n e f i j ∙ ap (λ (b : Bool). if b then x else None) (sym (eq-eqb (2 * t + 1) at.next n))
+      ]
+    ]
+
+    nothing : (rs : List Received) → ((kind : Kind) → clash_among game q t (shown ss at.next) rs kind ≡ None) → first_of (clash_among game q t (shown ss at.next) rs) kinds ≡ None
+    nothing rs h = kinds_are (clash_among game q t (shown ss at.next) rs) None None None None (h TwoCommits) (h BadOpening) (h Collision) (h Illegal)
+
+    go : (a : Option Received) → slot ss (2 * t) ≡ a → (b : Option Received) → slot ss (2 * t + 1) ≡ b →
+        first_of (clash_among game q t (shown ss at.next) (in_order (a ∷ b ∷ []))) kinds ≡ option_or (pair_clash game t a b) (end_clash t at.next x)
+    go None e None i = nothing [] (λ kind. among_none game q t (shown ss at.next) kind) ∙ end_none t at.next x (empty i)
+    go None e (Some g) i = nothing (g ∷ []) (λ kind. among_one game q t (shown ss at.next) g kind) ∙ end_none t at.next x (missing e)
+    go (Some c) e None i = nothing (c ∷ []) (λ kind. among_one game q t (shown ss at.next) c kind) ∙ end_none t at.next x (empty i)
+    go (Some c) e (Some g) i =
+        let a = w.own (2 * t) c e in
+        let b = w.own (2 * t + 1) g i in
+        let cf = is_commitment c.frame q t a.0 a.1 in
+        let gf = S.is_reveal g.frame q t b.0 b.1 in
+        both_slots game q t (shown ss at.next) c g cf.0 gf.0 gf.1 cf.1 gf.2
+        ∙ ap (option_or (pair_clash game t (Some c) (Some g))) (value c g cf.0 gf.0 gf.1 e cf.1 i gf.2)

@@ -1,0 +1,120 @@
+//! What a frame shows together with the frames of its turn.
+
+ghost use Rattle.std.specs.Prelude.{◌≡◌};
+ghost use Rattle.definitions.specs.Held as H;
+ghost use Rattle.peer_window.specs.Clashes as C;
+
+use crate::places::turn_of;
+use crate::received::{Clash, Received};
+use commitment::digest_of;
+use definitions::{Digest, Kind, Opening, TurnFrame};
+use grid_world::Session;
+
+/// The digest that the frame carries, or that of the opening that it shows.
+#[tactic(auto, unfolding(definitions::specs::Held::digest_of))]
+pub(crate) fn frame_digest(session: &Session, frame: &TurnFrame) -> Digest
+    ensures { result ≡ H.digest_of session.now frame.now }
+{
+    match *frame {
+        TurnFrame::Commit { digest, .. } => digest,
+        TurnFrame::Reveal {
+            player,
+            turn,
+            mv,
+            nonce,
+        } => digest_of(
+            session.id(),
+            &Opening {
+                player,
+                turn,
+                mv,
+                nonce,
+            },
+        ),
+    }
+}
+
+/// Whether the two frames have one digest.
+pub(crate) fn same_digest(session: &Session, first: &Received, second: &Received) -> bool
+    ensures { result ≡ C.same_digest session.now first.now second.now }
+{
+    frame_digest(session, &first.frame) == frame_digest(session, &second.frame)
+}
+
+/// The lower of an entry's number and of that of another frame, if there is one.
+fn lower_entry(one: &Received, other: &Option<Received>) -> u32
+    ensures { result ≡ C.lower_entry one.now other.now }
+{
+    match *other {
+        None => one.entry,
+        Some(other) => one.entry.min(other.entry),
+    }
+}
+
+/// What a frame shows with the different frame that is held at its place, and with the other frame of the turn.
+///
+/// Two commitments differ in their digests. A reveal with another digest than the reveal held doesn't open the commitment
+/// either, so the lower of those two is the first.
+pub(crate) fn rival_clash(
+    session: &Session,
+    held: &Received,
+    other: &Option<Received>,
+    rival: &Received,
+) -> Clash
+    ensures { result ≡ C.rival_clash session.now held.now other.now rival.now }
+{
+    let turn = turn_of(&rival.frame);
+    let (kind, first) = match rival.frame {
+        TurnFrame::Commit { .. } => (Kind::TwoCommits, held.entry),
+        TurnFrame::Reveal { .. } => {
+            if same_digest(session, held, rival) {
+                (Kind::Collision, held.entry)
+            } else {
+                (Kind::BadOpening, lower_entry(held, other))
+            }
+        }
+    };
+    Clash {
+        turn,
+        kind,
+        first,
+        second: rival.entry,
+    }
+}
+
+/// What a frame shows with the other frame of its turn: a bad opening where their digests differ.
+pub(crate) fn opening_clash(
+    session: &Session,
+    other: &Option<Received>,
+    frame: &Received,
+) -> Option<Clash>
+    ensures { result ≡ C.opening_clash session.now other.now frame.now }
+{
+    match other {
+        None => None,
+        Some(other) => {
+            if same_digest(session, other, frame) {
+                None
+            } else {
+                Some(Clash {
+                    turn: turn_of(&frame.frame),
+                    kind: Kind::BadOpening,
+                    first: other.entry,
+                    second: frame.entry,
+                })
+            }
+        }
+    }
+}
+
+/// The clash of a reveal that opens the commitment held and isn't legal. Either may have come first.
+pub(crate) fn illegal_clash(commitment: &Received, reveal: &Received) -> Clash
+    ensures { result ≡ C.illegal_clash commitment.now reveal.now }
+{
+    Clash {
+        turn: turn_of(&reveal.frame),
+        kind: Kind::Illegal,
+        first: commitment.entry.min(reveal.entry),
+        second: commitment.entry.max(reveal.entry),
+    }
+}

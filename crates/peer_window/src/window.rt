@@ -1,0 +1,293 @@
+//! One other player's frames.
+
+ghost use Rattle.std.specs.Prelude.{◌≡◌, ◌⊎◌, ◌+◌, ◌<◌, ◌≤◌, ◌==◌, ◌||◌, [], None, Some, false, length, slice_get, slice_set, nat_lt, nat_le, replicate, IfOk, IsTrue};
+ghost use Rattle.std.specs.Option.{option_or};
+ghost use Rattle.definitions.specs.World.{players_of};
+ghost use Rattle.definitions.specs.Lists.{EachIs};
+ghost use Rattle.definitions.specs.Logs.{frame_eq, player_of};
+ghost use Rattle.definitions.specs.Held.{places_in};
+ghost use Rattle.move_rules.specs.Verdicts.{size_of};
+ghost use Rattle.peer_window.specs.Slots.{AreSlots, in_order, slot, place_of};
+ghost use Rattle.peer_window.specs.Clashes.{first_clash};
+ghost use Rattle.peer_window.specs.Windows.{IsWindow, IsHeld, answer, frames_after, new_answer};
+ghost use Rattle.peer_window.specs.Windows as W;
+
+use crate::clashes::{opening_clash, rival_clash};
+use crate::places::{commit_place, other_place, place_of, reveal_place, slot};
+use crate::received::{Clash, Offer, Received};
+use crate::walk::{Reach, walk};
+use definitions::{Digest, Move, PlayerId, Track, Turn, TurnFrame};
+use grid_world::Session;
+use move_rules::{Walker, start_track};
+use std::alloc::{AllocError, Global};
+use std::marker::Model;
+
+/// How many places past the next one a frame may have.
+const AHEAD: u64 = 8;
+
+/// The frames of one other player of a session that came, and what they show.
+#[derive(Drop)]
+pub struct Window {
+    player: PlayerId,
+    // one for each place of the stream
+    slots: Vec<Option<Received>>,
+    // the last frame, where the slot of its place holds a different one
+    rival: Option<Received>,
+    // a frame came that makes a clash
+    closed: bool,
+    // the places below are there
+    reach: Reach,
+}
+
+impl Model for Window {
+    ghost use Rattle.peer_window.specs.Windows.{Seen, AreParts, seen_of};
+
+    ghost Value = { Seen };
+
+    ghost view = { λ w. seen_of w.player w.slots.items w.rival w.closed w.reach.next w.reach.track };
+
+    ghost invariant = { λ w. AreParts w.player w.slots.items w.rival w.closed w.reach.next };
+}
+
+/// How far the frames that are held lead, and what became of the last.
+#[derive(Clone, Copy)]
+pub(crate) struct Held {
+    pub reach: Reach,
+    pub offer: Offer,
+}
+
+/// So many empty slots.
+fn empty_slots(alloc: Global, places: usize) -> Result<Vec<Option<Received>>, AllocError>
+    ensures { IfOk result (λ v. v.items ≡ replicate places None) }
+{
+    vec![in alloc; None; places]
+}
+
+/// Whether the place is past the window, or past the last turn.
+fn is_far(slots: &[Option<Received>], next: u32, place: u64) -> bool
+    ensures { result ≡ (nat_lt (next + 8) place || nat_le (length slots.now) place) }
+{
+    place > u64::from(next) + AHEAD || place >= slots.len() as u64
+}
+
+/// The answer to a new frame, by the first clash that it makes, if it makes one.
+fn answer_of(clash: Option<Clash>, was_next: bool) -> Offer
+    ensures { result ≡ new_answer clash was_next }
+{
+    match clash {
+        Some(clash) => Offer::Conflict(clash),
+        None => {
+            if was_next {
+                Offer::Taken
+            } else {
+                Offer::Stashed
+            }
+        }
+    }
+}
+
+/// Whether what is held is this very frame.
+fn is_frame(held: &Received, frame: &TurnFrame) -> bool
+    ensures { result ≡ frame_eq held.now.frame frame.now }
+{
+    held.frame == *frame
+}
+
+/// Whether the answer is that of a frame that makes a clash.
+fn is_conflict(offer: &Offer) -> bool
+    ensures { result ≡ W.is_conflict offer.now }
+{
+    match *offer {
+        Offer::Taken => false,
+        Offer::Stashed => false,
+        Offer::Same => false,
+        Offer::Far => false,
+        Offer::Conflict(_) => true,
+    }
+}
+
+/// Puts a frame into the empty slot of its place, and goes on from the next place as far as the frames lead.
+fn hold(
+    session: &Session,
+    walker: &mut Walker,
+    player: PlayerId,
+    slots: &mut [Option<Received>],
+    from: &Reach,
+    received: &Received,
+) -> Held
+    requires size { walker.old ≡ size_of session.now.grid }
+    requires held { IsHeld session.now player slots.old from.now.next from.now.track }
+    requires own { player_of received.now.frame ≡ player }
+    requires place { place_of received.now.frame < length slots.old }
+    requires empty { slot slots.old (place_of received.now.frame) ≡ None }
+    requires later { EachIs (λ r. r.entry < received.now.entry) (in_order slots.old) }
+    requires clean { first_clash session.now player (in_order slots.old) ≡ None }
+    ensures slots { slots.new ≡ slice_set slots.old (place_of received.now.frame) (Some received.now) }
+    ensures held { IsHeld session.now player slots.new result.reach.next result.reach.track }
+    ensures offer { result.offer ≡ new_answer (first_clash session.now player (in_order slots.new)) (place_of received.now.frame == from.now.next) }
+    ensures walker { walker.new ≡ walker.old }
+{
+    session.facts();
+    let place = place_of(&received.frame);
+    let was_next = place == u64::from(from.next);
+    let other = slot(slots, other_place(&received.frame));
+    slots[place as usize] = Some(*received);
+    let walked = walk(session, walker, player, slots, from);
+    let clash = opening_clash(session, &other, received).or(walked.illegal);
+    Held {
+        reach: walked.reach,
+        offer: answer_of(clash, was_next),
+    }
+}
+
+impl Window {
+    /// The window of a player of a session, of whom no frame came.
+    ///
+    /// Room for all frames of the player, two for each turn, is taken here, and no other call takes any. AllocError comes where
+    /// that memory is refused.
+    pub fn new(alloc: Global, session: &Session, player: PlayerId) -> Result<Window, AllocError>
+        requires { player < players_of session.now }
+        ensures window { IfOk result (λ w. IsWindow session.now w) }
+        ensures player { IfOk result (λ w. w.player ≡ player) }
+        ensures empty { IfOk result (λ w. w.frames ≡ []) }
+        ensures open_still { IfOk result (λ w. w.closed ≡ false) }
+    {
+        session.facts();
+        let slots = empty_slots(alloc, 2 * session.turns() as usize)?;
+        Ok(Window {
+            player,
+            slots,
+            rival: None,
+            closed: false,
+            reach: Reach {
+                next: 0,
+                track: start_track(session, player),
+            },
+        })
+    }
+
+    /// Offers a frame of the player, whose log entry would have this number.
+    ///
+    /// The answers are tried in this order. Far: its place is more than eight past the next one, or past the last turn. Same:
+    /// an equal frame came before. Neither changes anything. Conflict: the frames that came show with this one that the
+    /// player broke the protocol; the first of what they show is named, by turn, kind and entries. Taken: it was the next
+    /// one, and the frames that were stashed behind it are taken with it. Stashed: it waits for the frames before it. The call
+    /// takes no memory, and looks at the frames of its own turn and at those that follow the next place. Entry numbers rise from
+    /// call to call, and after a conflict the window is closed: it shows what it knows, and no frame is offered any more.
+    pub fn offer(
+        &mut self,
+        session: &Session,
+        walker: &mut Walker,
+        frame: &TurnFrame,
+        entry: u32,
+    ) -> Offer
+        requires window { IsWindow session.now self.old }
+        requires open_still { self.old.closed ≡ false }
+        requires size { walker.old ≡ size_of session.now.grid }
+        requires player { player_of frame.now ≡ self.old.player }
+        requires later { EachIs (λ r. r.entry < entry) self.old.frames }
+        ensures answer { result ≡ answer session.now self.old (record { entry = entry; frame = frame.now }) }
+        ensures frames { self.new.frames ≡ frames_after self.old (record { entry = entry; frame = frame.now }) result }
+        ensures window { IsWindow session.now self.new }
+        ensures player { self.new.player ≡ self.old.player }
+        ensures closed { self.new.closed ≡ W.is_conflict result }
+        ensures unchanged { (result ≡ Offer.Far) ⊎ (result ≡ Offer.Same) → self.new ≡ self.old }
+        ensures walker { walker.new ≡ walker.old }
+    {
+        session.facts();
+        let place = place_of(frame);
+        if is_far(&self.slots, self.reach.next, place) {
+            return Offer::Far;
+        }
+        let received = Received {
+            entry,
+            frame: *frame,
+        };
+        match slot(&self.slots, place) {
+            None => {
+                let held = hold(
+                    session,
+                    walker,
+                    self.player,
+                    &mut self.slots,
+                    &self.reach,
+                    &received,
+                );
+                self.reach = held.reach;
+                self.closed = is_conflict(&held.offer);
+                held.offer
+            }
+            Some(held) => {
+                if is_frame(&held, frame) {
+                    return Offer::Same;
+                }
+                let other = slot(&self.slots, other_place(frame));
+                self.rival = Some(received);
+                self.closed = true;
+                Offer::Conflict(rival_clash(session, &held, &other, &received))
+            }
+        }
+    }
+
+    /// The digest of the commitment that is held for the turn; None where the commitment, or a frame before it, is missing.
+    pub fn held(&self, turn: Turn) -> Option<Digest>
+        ensures { result ≡ slice_get self.now.known.digests turn }
+    {
+        let place = commit_place(turn);
+        if place >= u64::from(self.reach.next) {
+            return None;
+        }
+        match slot(&self.slots, place) {
+            None => None,
+            Some(received) => match received.frame {
+                TurnFrame::Commit { digest, .. } => Some(digest),
+                TurnFrame::Reveal { .. } => None,
+            },
+        }
+    }
+
+    /// The move by which the turn is resolved; None where it isn't.
+    pub fn move_at(&self, turn: Turn) -> Option<Move>
+        ensures { result ≡ slice_get self.now.known.moves turn }
+    {
+        let place = reveal_place(turn);
+        if place >= u64::from(self.reach.next) {
+            return None;
+        }
+        match slot(&self.slots, place) {
+            None => None,
+            Some(received) => match received.frame {
+                TurnFrame::Commit { .. } => None,
+                TurnFrame::Reveal { mv, .. } => Some(mv),
+            },
+        }
+    }
+
+    /// How many turns are resolved.
+    pub fn resolved(&self) -> u32
+        ensures { result ≡ length self.now.known.moves }
+    {
+        self.reach.next / 2
+    }
+
+    /// How many commitments are held.
+    pub fn commits(&self) -> u32
+        ensures { result ≡ length self.now.known.digests }
+    {
+        (self.reach.next + 1) / 2
+    }
+
+    /// The least place of the player's stream that is not there, counted from 0.
+    pub fn next(&self) -> u32
+        ensures { result ≡ places_in self.now.known }
+    {
+        self.reach.next
+    }
+
+    /// Where the player stands after the turns that are resolved, and its charge.
+    pub fn track(&self) -> Track
+        ensures { result ≡ self.now.track }
+    {
+        self.reach.track
+    }
+}

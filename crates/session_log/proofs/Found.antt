@@ -1,0 +1,123 @@
+-- Found: what stands where an entry begins, in words.
+use Rattle.std.proofs.Common.{◌≡◌, ◌≤◌, inl, inr, ℕ, zero, suc, ◌+◌, ◌<◌, Bool, true, false, cond, List, [], ◌∷◌, ◌++◌, length, take, drop, refl, sym, ◌∙◌, ap, arith, subst, length-append, append_assoc}
+use Rattle.std.specs.Prelude.{Option, Some, None, slice_index, not, bytes_eq, IsTrue}
+use Rattle.std.specs.Cmp.Lexicographic.{same_text}
+use Rattle.std.proofs.Math.Seq.{take-add}
+use Rattle.std.proofs.lemmas.Bool.{and_from, eq-eqb, le-ltb, ltb-false, not-false, cases_lt}
+use Rattle.std.proofs.lemmas.List.{take_at, drop_at, get_or-take}
+use Rattle.sha2.specs.Sha256.{sha256, digest_bytes}
+use Rattle.definitions.specs.declared.logs.Entry.{Entry}
+use Rattle.definitions.specs.Entries.{is_well_formed}
+use Rattle.definitions.specs.World.{Game}
+use Rattle.session_log.specs.declared.finding.Found.{Found}
+use Rattle.session_log.specs.declared.finding.Found.TheVariants.{Torn, BadChain, BadEntry, Whole}
+use Rattle.session_log.specs.Spelling.{body_of, entry_text, chained, entry_bytes, FitsEntry}
+use Rattle.session_log.specs.Entries.{told_len, entry_of}
+use Rattle.session_log.specs.Finding.{text_at, digest_at, is_torn, is_unchained, owned_by, entry_at}
+use Rattle.session_log.specs.Laws.{AreBytes}
+use Rattle.session_log.proofs.Texts.{entry_read, entry_spelled, told_len-text, length-entry_text}
+
+pub length-sha256 : (m : List ℕ) → length (sha256 m) ≡ 32
+unfolding sha256 digest_bytes
+length-sha256 m = refl
+
+-- the same bytes are equal
+bytes_same : (xs : List ℕ) → bytes_eq xs xs ≡ true
+bytes_same [] = refl
+bytes_same (x ∷ xs) = and_from _ _ (eq-eqb x x refl) (bytes_same xs)
+
+-- ---- an entry that stands there is found
+
+pub entry_found : (game : Game) (me : ℕ) (chain : List ℕ) (e : Entry) (more : List ℕ) → FitsEntry e → IsTrue (is_well_formed game me e) →
+    entry_at game me chain (entry_bytes chain e ++ more) ≡ Whole e (length (entry_bytes chain e)) (chained chain (entry_text e))
+unfolding entry_at
+entry_found game me chain e more fits well =
+    let text : List ℕ = entry_text e in
+    let digest : List ℕ = chained chain text in
+    let bytes : List ℕ = (text ++ digest) ++ more in
+    let joined : bytes ≡ text ++ (digest ++ more) = append_assoc text digest more in
+    let told : told_len bytes ≡ length (body_of e) = ap told_len joined ∙ told_len-text e (digest ++ more) fits in
+    let long : length text ≡ told_len bytes + 3 = length-entry_text e ∙ ap (λ n. n + 3) (sym told) in
+    let hashed : length digest ≡ 32 = length-sha256 (chain ++ text) in
+    let is_text : text_at bytes ≡ text = ap (take (told_len bytes + 3)) joined ∙ take_at text (digest ++ more) (told_len bytes + 3) long in
+    let is_digest : digest_at bytes ≡ digest
+    = ap (λ xs. take 32 (drop (told_len bytes + 3) xs)) joined ∙ ap (take 32) (drop_at text (digest ++ more) (told_len bytes + 3) long) ∙ take_at digest more 32 hashed in
+    let count : told_len bytes + 35 ≡ length (text ++ digest) = omega (arith, length-append text digest) in
+    let whole : is_torn bytes ≡ false = le-ltb (length bytes) (told_len bytes + 35) (omega (arith, length-append (text ++ digest) more)) in
+    let chained_so : is_unchained chain bytes ≡ false
+    = ap (λ xs. not (bytes_eq (digest_at bytes) (chained chain xs))) is_text ∙ ap (λ xs. not (bytes_eq xs digest)) is_digest ∙ ap not (bytes_same digest) in
+    let read : entry_of (text_at bytes) ≡ Some e = ap entry_of is_text ∙ entry_read e fits in
+    let last : owned_by game me (entry_of (text_at bytes)) (told_len bytes + 35) (digest_at bytes) ≡ Whole e (length (text ++ digest)) digest
+    = ap (λ o. owned_by game me o (told_len bytes + 35) (digest_at bytes)) read ∙ ap (λ b. cond b (Whole e (told_len bytes + 35) (digest_at bytes)) BadEntry) well ∙
+    ap (λ n. Whole e n (digest_at bytes)) count ∙ ap (λ xs. Whole e (length (text ++ digest)) xs) is_digest in
+    rw (whole, chained_so) last
+
+-- ---- an entry that is found stands there
+
+pub record IsFound (game : Game) (me : ℕ) (chain bytes : List ℕ) (e : Entry) (count : ℕ) (digest : List ℕ) : Type 0 where
+  pub is_text : entry_bytes chain e ≡ take count bytes
+  pub is_digest : digest ≡ chained chain (entry_text e)
+  pub well : IsTrue (is_well_formed game me e)
+  pub fits : count ≤ length bytes
+  pub some : 0 < count
+
+torn_not : (b : Bool) (x : Found) (e : Entry) (count : ℕ) (digest : List ℕ) → cond b Torn x ≡ Whole e count digest → (b ≡ false) × (x ≡ Whole e count digest)
+torn_not true x e count digest q = absurd cc
+torn_not false x e count digest q = (refl, q)
+
+unchained_not : (b : Bool) (x : Found) (e : Entry) (count : ℕ) (digest : List ℕ) → cond b BadChain x ≡ Whole e count digest → (b ≡ false) × (x ≡ Whole e count digest)
+unchained_not true x e count digest q = absurd cc
+unchained_not false x e count digest q = (refl, q)
+
+-- what is owned was read
+record IsOwned (game : Game) (me : ℕ) (o : Option Entry) (n : ℕ) (d : List ℕ) (e : Entry) (count : ℕ) (digest : List ℕ) : Type 0 where
+  read : o ≡ Some e
+  well : IsTrue (is_well_formed game me e)
+  counted : n ≡ count
+  same : d ≡ digest
+
+owned_so : (game : Game) (me : ℕ) (o : Option Entry) (n : ℕ) (d : List ℕ) (e : Entry) (count : ℕ) (digest : List ℕ) → owned_by game me o n d ≡ Whole e count digest → IsOwned game me o n d e count digest
+owned_so game me None n d e count digest q = absurd cc
+owned_so game me (Some f) n d e count digest q = go (is_well_formed game me f) refl q
+  where
+    go : (b : Bool) → is_well_formed game me f ≡ b → cond b (Whole f n d) BadEntry ≡ Whole e count digest → IsOwned game me (Some f) n d e count digest
+    go false t h = absurd cc
+    go true t h =
+        let same : f ≡ e = cc in
+        record { read = ap (λ (x : Entry). Some x) same; well = subst (λ (x : Entry). is_well_formed game me x ≡ true) same t; counted = cc; same = cc }
+
+take_bytes : (n : ℕ) (xs : List ℕ) → AreBytes xs → AreBytes (take n xs)
+take_bytes n xs b i = elim (cases_lt i n) [
+  | inl lt ↦ let e = get_or-take n xs i 0 lt in let h = b i in omega arith
+  | inr le ↦ let e = past (take n xs) i (omega (arith, few n xs)) in omega arith
+]
+  where
+    few : (n : ℕ) (xs : List ℕ) → length (take n xs) ≤ n
+    few zero xs = omega arith
+    few (suc n) [] = omega arith
+    few (suc n) (x ∷ xs) = let h = few n xs in omega arith
+
+    past : (ys : List ℕ) (i : ℕ) → length ys ≤ i → slice_index ys i ≡ 0
+    past [] i h = refl
+    past (y ∷ ys) zero h = absurd (omega arith)
+    past (y ∷ ys) (suc i) h = past ys i (omega arith)
+
+pub found_stands : (game : Game) (me : ℕ) (chain bytes : List ℕ) (e : Entry) (count : ℕ) (digest : List ℕ) → AreBytes bytes → entry_at game me chain bytes ≡ Whole e count digest →
+    IsFound game me chain bytes e count digest
+unfolding entry_at
+found_stands game me chain bytes e count digest b q =
+    let whole = torn_not (is_torn bytes) _ e count digest q in
+    let linked = unchained_not (is_unchained chain bytes) _ e count digest whole.1 in
+    let o = owned_so game me (entry_of (text_at bytes)) (told_len bytes + 35) (digest_at bytes) e count digest linked.1 in
+    let n : ℕ = told_len bytes + 3 in
+    let text : entry_text e ≡ text_at bytes = entry_spelled (text_at bytes) e (take_bytes n bytes b) o.read in
+    let equal : digest_at bytes ≡ chained chain (text_at bytes) = same_text (digest_at bytes) (chained chain (text_at bytes)) (sym (not-false _ linked.0)) in
+    let all : n + 32 ≡ count = let c = o.counted in omega arith in
+    let long = ltb-false (length bytes) (told_len bytes + 35) whole.0 in
+    record {
+      is_text = ap (λ xs. xs ++ chained chain xs) text ∙ ap (λ xs. text_at bytes ++ xs) (sym equal) ∙ sym (take-add n 32 bytes) ∙ ap (λ k. take k bytes) all;
+      is_digest = sym o.same ∙ equal ∙ ap (chained chain) (sym text);
+      well = o.well;
+      fits = let c = o.counted in omega arith;
+      some = omega arith;
+    }

@@ -1,0 +1,4 @@
+pub mod Putting
+pub mod Texts
+pub mod Found
+pub mod Logs

@@ -1,0 +1,77 @@
+-- Laws of logs: what is written is read again, and what is read was written so.
+use Rattle.std.specs.Prelude.{ℕ, ◌≡◌, ◌≤◌, ◌<◌, ◌+◌, ◌⊎◌, List, [], ◌∷◌, ◌++◌, length, Some, slice_index}
+use Rattle.definitions.specs.declared.logs.Entry.{Entry}
+use Rattle.definitions.specs.Lists.{EachIs}
+use Rattle.definitions.specs.Entries.{AreWellFormed}
+use Rattle.definitions.specs.World.{Game, players_of}
+use Rattle.session_log.specs.declared.reader.Next.{Next}
+use Rattle.session_log.specs.declared.reader.Next.TheVariants as next
+use Rattle.session_log.specs.declared.finding.Found.{Found}
+use Rattle.session_log.specs.declared.finding.Found.TheVariants as found
+use Rattle.session_log.specs.Spelling.{entry_text, chained, entries_bytes, first_chain, log_bytes, FitsEntry}
+use Rattle.session_log.specs.Finding.{entry_at}
+use Rattle.session_log.specs.Entries.{entry_of}
+use Rattle.session_log.specs.Reading.{read_log}
+use Rattle.session_log.specs.Writing.{fresh, all_written}
+
+-- all items are bytes
+abbrev pub AreBytes : List ℕ → Type 0
+AreBytes bytes = (i : ℕ) → slice_index bytes i < 256
+
+-- an entry is read from its text, and an entry that is read has the text
+abbrev pub EntriesAreRead : Type 0
+EntriesAreRead = (e : Entry) → FitsEntry e → entry_of (entry_text e) ≡ Some e
+
+abbrev pub EntriesAreSpelled : Type 0
+EntriesAreSpelled = (text : List ℕ) (e : Entry) → AreBytes text → entry_of text ≡ Some e → entry_text e ≡ text
+
+-- a writer writes the log
+abbrev pub WritersWriteLogs : Type 0
+WritersWriteLogs = (id : List ℕ) (owner : ℕ) (entries : List Entry) → all_written (fresh id owner) entries ≡ log_bytes id owner entries
+
+-- an owner's log that a session allows is read as its entries and the end
+abbrev pub LogsAreRead : Type 0
+LogsAreRead = (game : Game) (me : ℕ) (entries : List Entry) → me < players_of game → EachIs FitsEntry entries → AreWellFormed game me entries →
+    ((read_log game (log_bytes game.id me entries)).entries ≡ entries) × ((read_log game (log_bytes game.id me entries)).reader.said ≡ Some next.End)
+
+-- a log that is read to its end is the log of its owner with the entries that were read, and the session allows it
+pub record IsLogOf (game : Game) (bytes : List ℕ) (entries : List Entry) : Type 0 where
+  pub me : ℕ
+  pub bytes_are : bytes ≡ log_bytes game.id me entries
+  pub well_formed : AreWellFormed game me entries
+
+-- the digest behind these entries
+abbrev pub chain_behind : List ℕ → List Entry → List ℕ
+chain_behind chain [] = chain
+chain_behind chain (e ∷ entries) = chain_behind (chained chain (entry_text e)) entries
+
+-- behind the owner's byte and these entries, which the session allows, this stands at this place
+pub record StandsThere (game : Game) (bytes : List ℕ) (entries : List Entry) (place : ℕ) (f : Found) : Type 0 where
+  pub me : ℕ
+  pub known : me < players_of game
+  pub rest : List ℕ
+  pub bytes_are : bytes ≡ me ∷ (entries_bytes (first_chain game.id me) entries ++ rest)
+  pub place_is : place ≡ 1 + length (entries_bytes (first_chain game.id me) entries)
+  pub well_formed : AreWellFormed game me entries
+  pub there : entry_at game me (chain_behind (first_chain game.id me) entries) rest ≡ f
+
+-- a log of one byte, which is a player's number
+abbrev pub IsOwnerAlone : Game → List ℕ → List Entry → ℕ → Type 0
+IsOwnerAlone game bytes entries place = (me : ℕ) × (me < players_of game) × (bytes ≡ me ∷ []) × (entries ≡ []) × (place ≡ 0)
+
+-- a log whose first byte is no player's number
+abbrev pub IsOfNobody : Game → List ℕ → List Entry → ℕ → Type 0
+IsOfNobody game bytes entries place = (me : ℕ) × (rest : List ℕ) × (players_of game ≤ me) × (bytes ≡ me ∷ rest) × (entries ≡ []) × (place ≡ 0)
+
+-- what the last answer says of the log
+abbrev pub EndsSo : Game → List ℕ → List Entry → Next → Type 0
+EndsSo game bytes entries (next.Entry e) = ⊥
+EndsSo game bytes entries next.End = IsLogOf game bytes entries
+EndsSo game bytes entries (next.Torn place) = StandsThere game bytes entries place found.Torn ⊎ IsOwnerAlone game bytes entries place
+EndsSo game bytes entries (next.BadChain place) = StandsThere game bytes entries place found.BadChain
+EndsSo game bytes entries (next.BadEntry place) = StandsThere game bytes entries place found.BadEntry ⊎ IsOfNobody game bytes entries place
+
+-- reading comes to a last answer, and the log is so
+abbrev pub LogsEndSo : Type 0
+LogsEndSo = (game : Game) (bytes : List ℕ) → AreBytes bytes →
+    (last : Next) × ((read_log game bytes).reader.said ≡ Some last) × EndsSo game bytes (read_log game bytes).entries last

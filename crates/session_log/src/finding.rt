@@ -1,0 +1,139 @@
+//! What stands where an entry of a log begins.
+
+ghost use Rattle.std.specs.Prelude.{◌≡◌, ◌+◌, ◌≤◌, length, take, drop, bytes_eq};
+ghost use Rattle.definitions.specs.Entries as D;
+ghost use Rattle.definitions.specs.Logs.{player_of, turn_of};
+ghost use Rattle.session_log.specs.Spelling as S;
+ghost use Rattle.session_log.specs.Entries as E;
+ghost use Rattle.session_log.specs.Finding as F;
+
+use crate::entries::{read_entry, told_len};
+use byte_fields::take_array;
+use definitions::{Entry, PlayerId, Turn, TurnFrame};
+use grid_world::Session;
+use sha2::{Digest as _, Sha256};
+
+/// What stands where an entry begins: less than an entry, one that isn't chained to those before, one that the log may not
+/// have, or an entry with the number of its bytes and its digest.
+#[derive(Clone, Copy)]
+pub(crate) enum Found {
+    Torn,
+    BadChain,
+    BadEntry,
+    Whole(Entry, usize, [u8; 32]),
+}
+
+/// The session's id with the owner's byte, to which the first entry is chained.
+pub(crate) fn first_chain(id: &[u8; 32], owner: PlayerId) -> [u8; 33]
+    ensures { result ≡ S.first_chain id.now owner }
+{
+    let mut chain = [owner; 33];
+    chain[..32].copy_from_slice(id);
+    chain
+}
+
+/// The digest that chains a text to what stands before it.
+pub(crate) fn chained(chain: &[u8], text: &[u8]) -> [u8; 32]
+    ensures { result ≡ S.chained chain.now text.now }
+{
+    let mut hasher = Sha256::new();
+    hasher.update(chain);
+    hasher.update(text);
+    hasher.finalize()
+}
+
+/// Whether two digests are the same.
+fn same_digest(a: &[u8; 32], b: &[u8; 32]) -> bool
+    ensures { result ≡ bytes_eq a.now b.now }
+{
+    a == b
+}
+
+/// The player whose frame it is.
+fn player_of(frame: &TurnFrame) -> PlayerId
+    ensures { result ≡ player_of frame.now }
+{
+    match frame {
+        TurnFrame::Commit { player, .. } | TurnFrame::Reveal { player, .. } => *player,
+    }
+}
+
+/// The turn of which it is.
+fn turn_of(frame: &TurnFrame) -> Turn
+    ensures { result ≡ turn_of frame.now }
+{
+    match frame {
+        TurnFrame::Commit { turn, .. } | TurnFrame::Reveal { turn, .. } => *turn,
+    }
+}
+
+/// Whether the owner's log may have the entry.
+fn is_well_formed(session: &Session, owner: PlayerId, entry: &Entry) -> bool
+    ensures { result ≡ D.is_well_formed session.now owner entry.now }
+{
+    match entry {
+        Entry::Chose { turn, .. } => *turn < session.turns(),
+        Entry::Made(frame) => turn_of(frame) < session.turns() && player_of(frame) == owner,
+        Entry::Got(from, frame) => {
+            turn_of(frame) < session.turns()
+                && *from < session.players()
+                && *from != owner
+                && player_of(frame) == *from
+        }
+    }
+}
+
+/// The entry that a text spells, where the owner's log may have it.
+fn owned_by(
+    session: &Session,
+    owner: PlayerId,
+    text: &[u8],
+    count: usize,
+    digest: [u8; 32],
+) -> Found
+    ensures { result ≡ F.owned_by session.now owner (E.entry_of text.now) count digest }
+{
+    match read_entry(text) {
+        None => Found::BadEntry,
+        Some(entry) => {
+            if is_well_formed(session, owner, &entry) {
+                Found::Whole(entry, count, digest)
+            } else {
+                Found::BadEntry
+            }
+        }
+    }
+}
+
+/// Whether the bytes end before the entry that begins with them does.
+fn is_torn(bytes: &[u8]) -> bool
+    ensures { result ≡ F.is_torn bytes.now }
+{
+    bytes.len() < 35 || bytes.len() < told_len(bytes) + 35
+}
+
+/// What stands at the front of the bytes, behind what has this digest.
+#[tactic(auto, unfolding(crate::specs::Finding::entry_at))]
+pub(crate) fn entry_at(session: &Session, owner: PlayerId, chain: &[u8], bytes: &[u8]) -> Found
+    ensures found { result ≡ F.entry_at session.now owner chain.now bytes.now }
+    ensures within { F.IsWithin (length bytes.now) result }
+{
+    if is_torn(bytes) {
+        return Found::Torn;
+    }
+    let end = told_len(bytes) + 3;
+    let text = &bytes[..end];
+    let digest = digest_at(bytes, end);
+    if !same_digest(&digest, &chained(chain, text)) {
+        return Found::BadChain;
+    }
+    owned_by(session, owner, text, end + 32, digest)
+}
+
+/// The 32 bytes from this one on.
+fn digest_at(bytes: &[u8], at: usize) -> [u8; 32]
+    requires { at + 32 ≤ length bytes.now }
+    ensures { result ≡ take 32 (drop at bytes.now) }
+{
+    take_array(bytes, at).unwrap()
+}

@@ -1,0 +1,22 @@
+//! Laws of logs: functions that do nothing, whose clauses are proved.
+
+ghost use Rattle.session_log.specs.Laws.{EntriesAreRead, EntriesAreSpelled, WritersWriteLogs, LogsAreRead, LogsEndSo};
+
+/// An entry is read from its text, and an entry that is read has the text.
+pub fn entries_are_read()
+    ensures read { EntriesAreRead }
+    ensures spelled { EntriesAreSpelled }
+{}
+
+/// A writer writes the log of the entries that it is given, one after the other.
+pub fn writers_write_logs()
+    ensures { WritersWriteLogs }
+{}
+
+/// The log of entries that the session allows is read as these entries, and then its end. Reading any bytes comes to a last
+/// answer. Where it is the end, the bytes are the log of the entries that were read, and the session allows them. Where it
+/// is a fault, the bytes begin with the log of the entries that were read, and the fault stands behind them.
+pub fn logs_are_read()
+    ensures read { LogsAreRead }
+    ensures ends { LogsEndSo }
+{}

@@ -1,0 +1,10 @@
+pub mod Rows
+pub mod Tests
+pub mod Heads
+pub mod Wholes
+pub mod Holding
+pub mod Spelled
+pub mod Again
+pub mod Complete
+pub mod Unread
+pub mod Pieces
