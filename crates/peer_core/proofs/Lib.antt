@@ -1,6 +1,7 @@
 pub mod OwnTracks
 pub mod Places
 pub mod Ready
+pub mod Answering
 pub mod Tables
 pub mod Peers
 pub mod Choices

@@ -12,11 +12,10 @@ use Rattle.definitions.specs.World.{Game, players_of, is_inside, is_wall, is_ope
 use Rattle.definitions.specs.Walk.{in_reach}
 use Rattle.definitions.specs.Moves.{is_legal, strike_fault, next_track, start_track, track_from, track_after, are_legal_from}
 use Rattle.definitions.specs.Logs.{chosen, frames_of}
-use Rattle.definitions.specs.Held.{known, resolved_count, next_place}
+use Rattle.definitions.specs.Held.{known, resolved_count}
 use Rattle.definitions.specs.Meets.{cell_before}
 use Rattle.definitions.specs.Honest.{IsHonest, chosen_track}
 use Rattle.definition_laws.proofs.Tracks.{are_legal_from_append, AreKnownLegal, known_to_legal}
-use Rattle.definition_laws.proofs.Knowing.{places_in_le}
 use Rattle.definition_laws.proofs.OwnLog.{own_honest}
 use Rattle.definition_laws.proofs.ForPeers.{own_moves, own_counts}
 use Rattle.grid_world.specs.Sessions.{IsSession}
@@ -133,21 +132,11 @@ own_turns game me h is i =
     let few = n.few in
     omega arith
 
--- the track that is known of a player stands inside the grid
-pub known_inside : (game : Game) (me q : ℕ) (h : List Entry) → IsSession game → q < players_of game → is_inside game.grid (track_after game q (known game me h q).moves).at ≡ true
+-- the track that is known of a player stands on an open cell
+pub known_open : (game : Game) (me q : ℕ) (h : List Entry) → IsSession game → q < players_of game → is_open game.grid (track_after game q (known game me h q).moves).at ≡ true
 unfolding known AreKnownLegal
-known_inside game me q h is lt =
-    let c : Cell = (track_after game q (known game me h q).moves).at in
-    open_inside (is_inside game.grid c) (not (is_wall game.grid c))
-    (moves-open game q (start_track game q) (known game me h q).moves (seat_open game q is lt) (known_to_legal game q (frames_of me q h) (2 * game.turns)))
-
--- as many places as the stream has are known at most
-pub known_few : (game : Game) (me q : ℕ) (h : List Entry) → IsSession game → next_place game me h q ≤ 8192
-unfolding known
-known_few game me q h is =
-    let few = places_in_le game q (frames_of me q h) (2 * game.turns) in
-    let turns = is.turns in
-    omega arith
+known_open game me q h is lt =
+    moves-open game q (start_track game q) (known game me h q).moves (seat_open game q is lt) (known_to_legal game q (frames_of me q h) (2 * game.turns))
 
 -- a player starts inside the grid
 pub start_inside : (game : Game) (q : ℕ) (at : Track) → IsSession game → q < players_of game → at ≡ start_track game q → is_inside game.grid at.at ≡ true

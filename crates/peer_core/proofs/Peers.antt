@@ -1,8 +1,8 @@
 -- Peers: what follows from an honest log for a peer's tables.
-use Rattle.std.proofs.Common.{◌≡◌, ℕ, ◌+◌, ◌-◌, ◌*◌, ◌≤◌, ◌<◌, List, [], ◌∷◌, ◌++◌, refl, Bool, true, false, sym, ◌∙◌, ap, subst, arith, length, get_or, set, append-nil, length-append}
-use Rattle.std.specs.Prelude.{Option, Some, None, is_none, map, slice_get, not, nat_lt, ◌/◌, ◌==◌, ◌&&◌}
+use Rattle.std.proofs.Common.{◌≡◌, ℕ, ◌+◌, ◌-◌, ◌*◌, ◌≤◌, ◌<◌, List, [], ◌∷◌, ◌++◌, refl, true, false, sym, ◌∙◌, ap, subst, arith, length, get_or, append-nil, length-append}
+use Rattle.std.specs.Prelude.{Option, Some, None, is_none, is_some, map, slice_get, ◌/◌}
 use Rattle.std.proofs.lemmas.List.{length-map, map-append, take_all}
-use Rattle.std.proofs.lemmas.Bool.{and_parts, eqb-false, false≢true}
+use Rattle.std.proofs.lemmas.Bool.{false≢true}
 use Rattle.definitions.specs.declared.world.Move.{Move}
 use Rattle.definitions.specs.declared.world.Track.{Track}
 use Rattle.definitions.specs.declared.world.MoveFault.{MoveFault}
@@ -16,38 +16,33 @@ use Rattle.definitions.specs.World.{Game, players_of}
 use Rattle.definitions.specs.Moves.{start_track, track_from, track_after, next_track, move_fault, is_legal}
 use Rattle.definitions.specs.declared.findings.Finding.{Finding}
 use Rattle.definitions.specs.declared.answers.GotAnswer.{GotAnswer}
-use Rattle.definitions.specs.Logs.{made, made_in, chosen, chosen_in, got_of, player_of}
+use Rattle.definitions.specs.Logs.{made, made_in, chosen, chosen_in, got_of}
 use Rattle.definitions.specs.Findings.{is_clean}
-use Rattle.definitions.specs.Answers.{got_answer, is_new, is_of_another, place_of}
+use Rattle.definitions.specs.Answers.{got_answer}
 use Rattle.definitions.specs.Held.{known, resolved_count, next_place}
 use Rattle.definitions.specs.Honest.{IsHonest, made_count, chosen_track}
 use Rattle.definitions.specs.Needs.{needs, may_choose}
 use Rattle.definitions.specs.Advance.{next_made}
 use Rattle.definition_laws.proofs.ForPeers.{own_next, own_moves, own_counts, own_counts_plain, honest_empty, honest_push, clean_without_got}
 use Rattle.definition_laws.proofs.Silent.{findings_made, findings_chose}
-use Rattle.log_scan.specs.declared.streams.Stream.{Stream}
-use Rattle.log_scan.specs.Streams.{stream_of}
 use Rattle.log_scan.specs.First.{finding_of_log}
 use Rattle.log_scan.specs.Fits.{room_of}
-use Rattle.log_scan.specs.Replies.{refusal, before_last, IsTaken}
-use Rattle.log_scan.proofs.Replied.{replies, taken_caught, taken_next, taken_stashed}
+use Rattle.log_scan.specs.Replies.{refusal}
 use Rattle.log_scan.proofs.Received.{log_stays_honest}
-use Rattle.log_scan.proofs.Counted.{clean_none, logs_fit}
+use Rattle.log_scan.proofs.Counted.{clean_none, logs_fit, room_small}
+use Rattle.log_scan.proofs.First.{clean_is_none}
 use Rattle.definition_laws.proofs.Waits.{may_choose_allowed}
 use Rattle.definition_laws.proofs.Advances.{next_made_allowed}
 use Rattle.definition_laws.proofs.Listing.{flat_map_append}
 use Rattle.grid_world.specs.Sessions.{IsSession}
 use Rattle.move_rules.specs.Verdicts.{Size, size_of}
-use Rattle.definitions.specs.declared.world.Cell.{Cell}
-use Rattle.wait_rule.specs.declared.views.View.{View}
-use Rattle.wait_rule.specs.Shown.{Standing}
 use Rattle.peer_core.specs.OwnTracks.{AreOwnTracks, tracks_from}
-use Rattle.peer_core.specs.Others.{AreOthers, view_of}
-use Rattle.peer_core.proofs.Tables.{others_made, others_chose, others_got}
+use Rattle.peer_core.specs.Others.{Known, AreOthers}
+use Rattle.peer_core.proofs.Tables.{others_made, others_chose}
 use Rattle.peer_core.specs.declared.views.Choice.{Choice}
-use Rattle.move_rules.proofs.OpenGround.{true-lt}
-use Rattle.peer_core.specs.Choosing.{caught_in}
-use Rattle.peer_core.specs.Views.{PeerState, choice_of, player_view}
+use Rattle.peer_core.specs.Choosing.{is_logged}
+use Rattle.peer_core.specs.Views.{PeerState, choice_of, player_view, with_got}
+use Rattle.peer_core.proofs.Answering.{got_logged, got_unlogged}
 use Rattle.peer_core.specs.declared.views.PlayerView.{PlayerView}
 use Rattle.peer_core.specs.Standing.{IsStanding}
 use Rattle.peer_core.specs.Inside.{IsPeer, HasRoom}
@@ -55,10 +50,10 @@ use Rattle.peer_core.proofs.OwnTracks.{ahead, tracks-length, tracks-at, tracks-p
 use Rattle.peer_core.proofs.Ready.{made_few}
 
 -- a peer's tables, by what the log says
-pub peer_of : (game : Game) (me : ℕ) (h : List Entry) (os : List Opening) (fs : List TurnFrame) (ts : List Track) (ss : List Stream) (vs : List View) (rule : Standing) (found : Option Finding) (ns : List Need) (size : Size) → IsSession game →
-    me < players_of game → IsHonest game me h → os ≡ chosen me h → fs ≡ made h → AreOwnTracks game me h ts → AreOthers game me h ss vs rule.cells → rule.game ≡ game → found ≡ finding_of_log game h →
-    ns ≡ needs game me h → size ≡ size_of game.grid → IsPeer game me h os fs ts ss vs rule found ns size
-peer_of game me h os fs ts ss vs rule found ns size is lt i o f t s r e n z =
+pub peer_of : (game : Game) (me : ℕ) (h : List Entry) (os : List Opening) (fs : List TurnFrame) (ts : List Track) (others : Known) (found : Option Finding) (ns : List Need) (size : Size) → IsSession game →
+    me < players_of game → IsHonest game me h → os ≡ chosen me h → fs ≡ made h → AreOwnTracks game me h ts → AreOthers game me h others → found ≡ finding_of_log game h →
+    ns ≡ needs game me h → size ≡ size_of game.grid → IsPeer game me h os fs ts others found ns size
+peer_of game me h os fs ts others found ns size is lt i o f t s e n z =
     let counts = own_counts game me h (ahead game is) i in
     let plain = own_counts_plain game me h is.ahead i in
     let few = counts.few in
@@ -75,7 +70,6 @@ peer_of game me h os fs ts ss vs rule found ns size is lt i o f t s r e n z =
       frames_are = f;
       tracks_are = t;
       others_are = s;
-      rule_is = r;
       found_is = e;
       needs_are = n;
       size_is = z;
@@ -125,16 +119,15 @@ unfolding got_of
 found_empty game = ap (λ (fs : List Finding). slice_get fs 0) (sym (clean_none game [] (clean_without_got game [] (λ q. refl))))
 
 -- a new peer's tables
-pub peer_new : (game copy : Game) (me : ℕ) (h g : List Entry) (os : List Opening) (fs : List TurnFrame) (t : Track) (ts : List Track) (ss : List Stream) (vs : List View) (rule : Standing) (ns : List Need)
-    (size : Size) → IsSession game → me < players_of game → copy ≡ game → h ≡ [] → g ≡ h → os ≡ [] → fs ≡ [] → t ≡ start_track game me → ts ≡ t ∷ [] → AreOthers game me g ss vs rule.cells → rule.game ≡ game →
-    ns ≡ needs game me g → size ≡ size_of game.grid → IsPeer copy me h os fs ts ss vs rule None ns size
-peer_new game copy me h g os fs t ts ss vs rule ns size is lt same none seen o f e k s r n z =
-    let IsGame : Game → Type 0 = λ c. IsPeer c me h os fs ts ss vs rule None ns size in
-    let IsLog : List Entry → Type 0 = λ l. IsPeer game me l os fs ts ss vs rule None ns size in
+pub peer_new : (game copy : Game) (me : ℕ) (h g : List Entry) (os : List Opening) (fs : List TurnFrame) (t : Track) (ts : List Track) (others : Known) (ns : List Need)
+    (size : Size) → IsSession game → me < players_of game → copy ≡ game → h ≡ [] → g ≡ h → os ≡ [] → fs ≡ [] → t ≡ start_track game me → ts ≡ t ∷ [] → AreOthers game me [] others →
+    ns ≡ needs game me g → size ≡ size_of game.grid → IsPeer copy me h os fs ts others None ns size
+peer_new game copy me h g os fs t ts others ns size is lt same none seen o f e k s n z =
+    let IsGame : Game → Type 0 = λ c. IsPeer c me h os fs ts others None ns size in
+    let IsLog : List Entry → Type 0 = λ l. IsPeer game me l os fs ts others None ns size in
     let needs_are : ns ≡ needs game me [] = n ∙ ap (needs game me) (seen ∙ none) in
-    let Are : List Entry → Type 0 = λ l. AreOthers game me l ss vs rule.cells in
     subst IsGame (sym same) (subst IsLog (sym none)
-    (peer_of game me [] os fs ts ss vs rule None ns size is lt (honest_empty game me) (o ∙ chosen_empty me) (f ∙ frames_empty) (tracks_empty game me t ts e k) (subst Are (seen ∙ none) s) r (found_empty game) needs_are z))
+    (peer_of game me [] os fs ts others None ns size is lt (honest_empty game me) (o ∙ chosen_empty me) (f ∙ frames_empty) (tracks_empty game me t ts e k) s (found_empty game) needs_are z))
 
 -- a new peer's room
 pub room_new : (game copy : Game) (turns others e o f t : ℕ) → copy ≡ game → turns ≡ game.turns → others ≡ players_of game - 1 →
@@ -157,41 +150,6 @@ entry_room game me h e room is my i fits =
     let few = logs_fit game me (h ++ e ∷ []) (ahead game is) my i in
     let more = length-append h (e ∷ []) in
     omega arith
-
--- a frame that is taken in is another player's
-pub taken_from : (game : Game) (me q : ℕ) (h : List Entry) (f : TurnFrame) → refusal game me h q f ≡ None → (q < players_of game) × (q ≡ me → ⊥)
-taken_from game me q h f none =
-    let all = and_parts (is_clean game h && is_of_another game me q f) (is_new game me h q f) ((replies game me q h f).joins.1 none) in
-    let from = (and_parts (is_clean game h) (is_of_another game me q f) all.0).1 in
-    let player = (and_parts (nat_lt q (players_of game) && not (q == me)) (player_of f == q) from).0 in
-    let both = and_parts (nat_lt q (players_of game)) (not (q == me)) player in
-    (true-lt q (players_of game) both.0, apart (q == me) refl both.1)
-  where
-    apart : (b : Bool) → (q == me) ≡ b → not b ≡ true → q ≡ me → ⊥
-    apart true e n same = absurd (false≢true n)
-    apart false e n same = eqb-false q me e same
-
--- the finding of which the answer tells is the log's first
-pub caught_found : (game : Game) (me q : ℕ) (h : List Entry) (f : TurnFrame) (a : GotAnswer) → refusal game me h q f ≡ None → a ≡ got_answer game me (before_last (h ++ Got q f ∷ [])) q f →
-    caught_in a ≡ finding_of_log game (h ++ Got q f ∷ [])
-caught_found game me q h f a none is = by_finding (finding_of_log game (h ++ Got q f ∷ [])) refl
-  where
-    log : List Entry
-    log = h ++ Got q f ∷ []
-
-    next : Bool
-    next = place_of game f == next_place game me (before_last log) q
-
-    taken : IsTaken game me log q f
-    taken = (replies game me q h f).taken none
-
-    by_place : (b : Bool) → next ≡ b → finding_of_log game log ≡ None → caught_in a ≡ None
-    by_place true e o = ap caught_in (is ∙ sym (taken_next game me q log f next taken (sym o) refl e))
-    by_place false e o = ap caught_in (is ∙ sym (taken_stashed game me q log f next taken (sym o) refl e))
-
-    by_finding : (o : Option Finding) → finding_of_log game log ≡ o → caught_in a ≡ o
-    by_finding None e = by_place next refl e
-    by_finding (Some x) e = ap caught_in (is ∙ sym (taken_caught game me q log f x taken (sym e)))
 
 -- a made frame and a choice leave the first finding
 found_made : (game : Game) (h : List Entry) (f : TurnFrame) → finding_of_log game h ≡ finding_of_log game (h ++ Made f ∷ [])
@@ -221,15 +179,15 @@ next_room game me h f fs is i e m =
     omega arith
 
 -- the tables after the next frame
-pub peer_made : (game : Game) (me : ℕ) (h h' : List Entry) (os : List Opening) (fs fs' : List TurnFrame) (ts : List Track) (ss : List Stream) (vs : List View) (rule : Standing) (found : Option Finding) (ns ns' : List Need) (size : Size) (f : TurnFrame) → IsSession game →
-    IsPeer game me h os fs ts ss vs rule found ns size → next_made game me h ≡ Some f → h' ≡ h ++ Made f ∷ [] → fs' ≡ fs ++ f ∷ [] → ns' ≡ needs game me h' →
-    IsPeer game me h' os fs' ts ss vs rule found ns' size
-peer_made game me h h' os fs fs' ts ss vs rule found ns ns' size f is p next e m n =
-    let IsLog : List Entry → Type 0 = λ g. IsPeer game me g os fs' ts ss vs rule found ns' size in
+pub peer_made : (game : Game) (me : ℕ) (h h' : List Entry) (os : List Opening) (fs fs' : List TurnFrame) (ts : List Track) (others : Known) (found : Option Finding) (ns ns' : List Need) (size : Size) (f : TurnFrame) → IsSession game →
+    IsPeer game me h os fs ts others found ns size → next_made game me h ≡ Some f → h' ≡ h ++ Made f ∷ [] → fs' ≡ fs ++ f ∷ [] → ns' ≡ needs game me h' →
+    IsPeer game me h' os fs' ts others found ns' size
+peer_made game me h h' os fs fs' ts others found ns ns' size f is p next e m n =
+    let IsLog : List Entry → Type 0 = λ g. IsPeer game me g os fs' ts others found ns' size in
     let tracks : List Opening → List Track = λ xs. tracks_from game (start_track game me) (map (λ o. o.mv) xs) in
-    subst IsLog (sym e) (peer_of game me (h ++ Made f ∷ []) os fs' ts ss vs rule found ns' size is p.player (next_honest game me h f p.honest next)
+    subst IsLog (sym e) (peer_of game me (h ++ Made f ∷ []) os fs' ts others found ns' size is p.player (next_honest game me h f p.honest next)
     (p.openings_are ∙ sym (chosen_made me h f)) (m ∙ ap (λ (xs : List TurnFrame). xs ++ f ∷ []) p.frames_are ∙ sym (frames_made h f))
-    (p.tracks_are ∙ ap tracks (sym (chosen_made me h f))) (others_made game me h f ss vs rule.cells p.others_are) p.rule_is (p.found_is ∙ found_made game h f) (n ∙ ap (needs game me) e) p.size_is)
+    (p.tracks_are ∙ ap tracks (sym (chosen_made me h f))) (others_made game me h f others p.others_are) (p.found_is ∙ found_made game h f) (n ∙ ap (needs game me) e) p.size_is)
 
 -- what is next in the log that is seen is next in the log inside
 pub next_inside : (v w : PeerState) (f : TurnFrame) → w ≡ v → next_made v.game v.me v.entries ≡ Some f → next_made w.game w.me w.entries ≡ Some f
@@ -240,9 +198,9 @@ tracks_made game me h f ts t =
     let tracks : List Opening → List Track = λ xs. tracks_from game (start_track game me) (map (λ o. o.mv) xs) in
     t ∙ ap tracks (sym (chosen_made me h f))
 
-pub standing : (game : Game) (me : ℕ) (h : List Entry) (os : List Opening) (fs : List TurnFrame) (ts : List Track) (ss : List Stream) (vs : List View) (rule : Standing) (found : Option Finding) (ns : List Need) (size : Size) → IsSession game →
-    IsPeer game me h os fs ts ss vs rule found ns size → IsStanding (record { game = game; me = me; entries = h })
-standing game me h os fs ts ss vs rule found ns size is p =
+pub standing : (game : Game) (me : ℕ) (h : List Entry) (os : List Opening) (fs : List TurnFrame) (ts : List Track) (others : Known) (found : Option Finding) (ns : List Need) (size : Size) → IsSession game →
+    IsPeer game me h os fs ts others found ns size → IsStanding (record { game = game; me = me; entries = h })
+standing game me h os fs ts others found ns size is p =
     let counts = own_counts game me h (ahead game is) p.honest in
     let plain = own_counts_plain game me h is.ahead p.honest in
     let sum = counts.sum in
@@ -266,10 +224,6 @@ state_is a game me h e f g =
     let at_log : List Entry → PeerState = λ x. record { game = game; me = me; entries = x } in
     ap at_game e ∙ ap at_me f ∙ ap at_log g
 
--- what the log inside doesn't refuse is what the log that is seen doesn't refuse
-pub refused_inside : (v w : PeerState) (q : ℕ) (f : TurnFrame) → w ≡ v → refusal v.game v.me v.entries q f ≡ None → refusal w.game w.me w.entries q f ≡ None
-refused_inside v w q f e n = let Is : PeerState → Type 0 = λ p. refusal p.game p.me p.entries q f ≡ None in subst Is (sym e) n
-
 -- a frame that was got changes nothing of the owner's own
 pub chosen_got : (me q : ℕ) (h : List Entry) (f : TurnFrame) → chosen me (h ++ Got q f ∷ []) ≡ chosen me h
 unfolding chosen
@@ -285,24 +239,26 @@ tracks_got game me q h f ts t =
     t ∙ ap tracks (sym (chosen_got me q h f))
 
 -- the tables after a frame was got
-pub peer_got : (game : Game) (me q : ℕ) (h h' : List Entry) (f : TurnFrame) (os : List Opening) (fs : List TurnFrame) (ts : List Track) (ss : List Stream) (vs : List View) (rule rule' : Standing)
-    (found found' : Option Finding) (ns ns' : List Need) (size size' : Size) (x : Stream) → IsSession game → IsPeer game me h os fs ts ss vs rule found ns size → refusal game me h q f ≡ None →
-    h' ≡ h ++ Got q f ∷ [] → x ≡ stream_of game q (known game me h' q) → length rule.cells ≡ players_of game → rule' ≡ record rule { cells = set rule.cells q x.track.at } →
-    found' ≡ finding_of_log game h' → ns' ≡ needs game me h' → size' ≡ size → IsPeer game me h' os fs ts (set ss q x) (set vs q (view_of x)) rule' found' ns' size'
-peer_got game me q h h' f os fs ts ss vs rule rule' found found' ns ns' size size' x is p none e stream seen told first g z =
-    let IsLog : List Entry → Type 0 = λ l. IsPeer game me l os fs ts (set ss q x) (set vs q (view_of x)) rule' found' ns' size' in
-    let from = taken_from game me q h f none in
-    let Are : List Cell → Type 0 = λ cells. AreOthers game me (h ++ Got q f ∷ []) (set ss q x) (set vs q (view_of x)) cells in
-    let others = others_got game me q h f ss vs rule.cells x from.0 seen p.others_are (stream ∙ ap (λ (l : List Entry). stream_of game q (known game me l q)) e) in
-    subst IsLog (sym e) (peer_of game me (h ++ Got q f ∷ []) os fs ts (set ss q x) (set vs q (view_of x)) rule' found' ns' size' is p.player (log_stays_honest game me q h f p.honest none)
-    (p.openings_are ∙ sym (chosen_got me q h f)) (p.frames_are ∙ sym (made_got q h f)) (tracks_got game me q h f ts p.tracks_are)
-    (subst Are (ap (λ (r : Standing). r.cells) (sym told)) others) (ap (λ (r : Standing). r.game) told ∙ p.rule_is)
+pub peer_got : (game : Game) (me q : ℕ) (h h' : List Entry) (f : TurnFrame) (os : List Opening) (fs : List TurnFrame) (ts : List Track) (others others' : Known)
+    (found found' : Option Finding) (ns ns' : List Need) (size size' : Size) → IsSession game → IsPeer game me h os fs ts others found ns size → refusal game me h q f ≡ None →
+    h' ≡ h ++ Got q f ∷ [] → AreOthers game me h' others' → found' ≡ finding_of_log game h' → ns' ≡ needs game me h' → size' ≡ size → IsPeer game me h' os fs ts others' found' ns' size'
+peer_got game me q h h' f os fs ts others others' found found' ns ns' size size' is p none e all first g z =
+    let IsLog : List Entry → Type 0 = λ l. IsPeer game me l os fs ts others' found' ns' size' in
+    let Are : List Entry → Type 0 = λ l. AreOthers game me l others' in
+    subst IsLog (sym e) (peer_of game me (h ++ Got q f ∷ []) os fs ts others' found' ns' size' is p.player (log_stays_honest game me q h f p.honest none)
+    (p.openings_are ∙ sym (chosen_got me q h f)) (p.frames_are ∙ sym (made_got q h f)) (tracks_got game me q h f ts p.tracks_are) (subst Are e all)
     (first ∙ ap (finding_of_log game) e) (g ∙ ap (needs game me) e) (z ∙ p.size_is))
 
+-- the tables after a frame was offered and refused
+pub peer_kept : (game : Game) (me : ℕ) (h : List Entry) (os : List Opening) (fs : List TurnFrame) (ts : List Track) (others others' : Known) (found : Option Finding) (ns : List Need) (size size' : Size) → IsSession game →
+    IsPeer game me h os fs ts others found ns size → AreOthers game me h others' → size' ≡ size → IsPeer game me h os fs ts others' found ns size'
+peer_kept game me h os fs ts others others' found ns size size' is p all z =
+    peer_of game me h os fs ts others' found ns size' is p.player p.honest p.openings_are p.frames_are p.tracks_are all p.found_is p.needs_are (z ∙ p.size_is)
+
 -- what the tables show of the owner itself
-pub player_me : (game : Game) (me : ℕ) (h : List Entry) (os : List Opening) (fs : List TurnFrame) (ts : List Track) (ss : List Stream) (vs : List View) (rule : Standing) (found : Option Finding) (ns : List Need) (size : Size) (n : ℕ) (t : Track) →
-    IsSession game → IsPeer game me h os fs ts ss vs rule found ns size → n ≡ length fs → t ≡ get_or ts (n / 2) t → record { turns = n / 2; track = t; next = n } ≡ player_view game me h me
-player_me game me h os fs ts ss vs rule found ns size n t is p e f =
+pub player_me : (game : Game) (me : ℕ) (h : List Entry) (os : List Opening) (fs : List TurnFrame) (ts : List Track) (others : Known) (found : Option Finding) (ns : List Need) (size : Size) (n : ℕ) (t : Track) →
+    IsSession game → IsPeer game me h os fs ts others found ns size → n ≡ length fs → t ≡ get_or ts (n / 2) t → record { turns = n / 2; track = t; next = n } ≡ player_view game me h me
+player_me game me h os fs ts others found ns size n t is p e f =
     let r : n / 2 ≡ resolved_count game me h me = ap (λ k. k / 2) e ∙ sym p.revealed in
     let next : n ≡ next_place game me h me = e ∙ ap (λ (xs : List TurnFrame). length xs) p.frames_are ∙ sym (own_next game me h (ahead game is) p.honest) in
     let counts = own_counts game me h (ahead game is) p.honest in
@@ -361,15 +317,15 @@ tracks_chose game me h k m n ts ts' t are next e =
     sym (tracks-push game start (moves (chosen me h)) m) ∙ ap (λ (ms : List Move). tracks_from game start ms) (sym (ap moves (chosen_chose me h k m n) ∙ map-append (λ (o : Opening). o.mv) (chosen me h) (one ∷ [])))
 
 -- the tables after a choice
-pub peer_chose : (game : Game) (me : ℕ) (h h' : List Entry) (os os' : List Opening) (fs : List TurnFrame) (ts ts' : List Track) (ss : List Stream) (vs : List View) (rule : Standing) (found : Option Finding) (ns ns' : List Need) (size : Size) (k : ℕ) (m : Move) (n : Nonce) (t : Track) →
-    IsSession game → IsPeer game me h os fs ts ss vs rule found ns size → IsHonest game me (h ++ Chose k m n ∷ []) → t ≡ next_track game (chosen_track game me h) m → h' ≡ h ++ Chose k m n ∷ [] →
-    os' ≡ os ++ record { player = me; turn = k; mv = m; nonce = n } ∷ [] → ts' ≡ ts ++ t ∷ [] → ns' ≡ needs game me h' → IsPeer game me h' os' fs ts' ss vs rule found ns' size
-peer_chose game me h h' os os' fs ts ts' ss vs rule found ns ns' size k m n t is p i next e o f g =
-    let IsLog : List Entry → Type 0 = λ l. IsPeer game me l os' fs ts' ss vs rule found ns' size in
+pub peer_chose : (game : Game) (me : ℕ) (h h' : List Entry) (os os' : List Opening) (fs : List TurnFrame) (ts ts' : List Track) (others : Known) (found : Option Finding) (ns ns' : List Need) (size : Size) (k : ℕ) (m : Move) (n : Nonce) (t : Track) →
+    IsSession game → IsPeer game me h os fs ts others found ns size → IsHonest game me (h ++ Chose k m n ∷ []) → t ≡ next_track game (chosen_track game me h) m → h' ≡ h ++ Chose k m n ∷ [] →
+    os' ≡ os ++ record { player = me; turn = k; mv = m; nonce = n } ∷ [] → ts' ≡ ts ++ t ∷ [] → ns' ≡ needs game me h' → IsPeer game me h' os' fs ts' others found ns' size
+peer_chose game me h h' os os' fs ts ts' others found ns ns' size k m n t is p i next e o f g =
+    let IsLog : List Entry → Type 0 = λ l. IsPeer game me l os' fs ts' others found ns' size in
     let one : Opening = record { player = me; turn = k; mv = m; nonce = n } in
-    subst IsLog (sym e) (peer_of game me (h ++ Chose k m n ∷ []) os' fs ts' ss vs rule found ns' size is p.player i
+    subst IsLog (sym e) (peer_of game me (h ++ Chose k m n ∷ []) os' fs ts' others found ns' size is p.player i
     (o ∙ ap (λ (xs : List Opening). xs ++ one ∷ []) p.openings_are ∙ sym (chosen_chose me h k m n)) (p.frames_are ∙ sym (frames_chose h k m n))
-    (tracks_chose game me h k m n ts ts' t p.tracks_are next f) (others_chose game me k h m n ss vs rule.cells p.others_are) p.rule_is (p.found_is ∙ found_chose game h k m n) (g ∙ ap (needs game me) e) p.size_is)
+    (tracks_chose game me h k m n ts ts' t p.tracks_are next f) (others_chose game me k h m n others p.others_are) (p.found_is ∙ found_chose game h k m n) (g ∙ ap (needs game me) e) p.size_is)
 
 -- what a choice requires of the log that is seen, of the log inside
 pub may_inside : (v w : PeerState) → w ≡ v → may_choose v.game v.me v.entries ≡ true → may_choose w.game w.me w.entries ≡ true
@@ -380,3 +336,58 @@ legal_inside v w m e h = let Is : PeerState → Type 0 = λ p. move_fault p.game
 
 pub track_inside : (v w : PeerState) (m : Move) (t : Track) → w ≡ v → t ≡ next_track v.game (chosen_track v.game v.me v.entries) m → t ≡ next_track w.game (chosen_track w.game w.me w.entries) m
 track_inside v w m t e h = let Is : PeerState → Type 0 = λ p. t ≡ next_track p.game (chosen_track p.game p.me p.entries) m in subst Is (sym e) h
+
+-- an honest log is short
+pub log_few : (game : Game) (me : ℕ) (h g : List Entry) → IsSession game → me < players_of game → IsHonest game me h → g ≡ h → length g < 4294967296
+log_few game me h g is my i same =
+    let few = logs_fit game me h (ahead game is) my i in
+    let small = room_small game is in
+    let l = ap (λ (xs : List Entry). length xs) same in
+    omega arith
+
+-- the answer by the list is that by the log
+pub answer_by : (game : Game) (me q : ℕ) (h g : List Entry) (f : TurnFrame) (a : GotAnswer) → g ≡ h → a ≡ got_answer game me g q f → a ≡ got_answer game me h q f
+answer_by game me q h g f a same e = e ∙ ap (λ (l : List Entry). got_answer game me l q f) same
+
+-- the tables behind a frame that is logged, and behind one that isn't
+pub others_logged : (game : Game) (me q : ℕ) (h g h' : List Entry) (f : TurnFrame) (a : GotAnswer) (others : Known) → g ≡ h → a ≡ got_answer game me h q f → is_logged a ≡ true → h' ≡ h ++ Got q f ∷ [] →
+    AreOthers game me (with_got game me g q f) others → AreOthers game me h' others
+others_logged game me q h g h' f a others same e t l all =
+    let Are : List Entry → Type 0 = λ x. AreOthers game me x others in
+    subst Are (ap (λ (x : List Entry). with_got game me x q f) same ∙ got_logged game me h q f a e t ∙ sym l) all
+
+pub others_unlogged : (game : Game) (me q : ℕ) (h g : List Entry) (f : TurnFrame) (a : GotAnswer) (others : Known) → g ≡ h → a ≡ got_answer game me h q f → is_logged a ≡ false →
+    AreOthers game me (with_got game me g q f) others → AreOthers game me h others
+others_unlogged game me q h g f a others same e t all =
+    let Are : List Entry → Type 0 = λ x. AreOthers game me x others in
+    subst Are (ap (λ (x : List Entry). with_got game me x q f) same ∙ got_unlogged game me h q f a e t) all
+
+-- the peer behind a frame that is logged, and behind one that isn't
+pub state_logged : (v w : PeerState) (q : ℕ) (f : TurnFrame) (a : GotAnswer) (h : List Entry) → w ≡ v → a ≡ got_answer w.game w.me w.entries q f → is_logged a ≡ true → h ≡ w.entries ++ Got q f ∷ [] →
+    ◌≡◌ {A = PeerState} (record { game = w.game; me = w.me; entries = h }) (record { game = v.game; me = v.me; entries = with_got v.game v.me v.entries q f })
+state_logged v w q f a h same e t l =
+    let Is : PeerState → Type 0 = λ v. ◌≡◌ {A = PeerState} (record { game = w.game; me = w.me; entries = h }) (record { game = v.game; me = v.me; entries = with_got v.game v.me v.entries q f }) in
+    let at_log : List Entry → PeerState = λ x. record { game = w.game; me = w.me; entries = x } in
+    subst Is same (ap at_log (l ∙ sym (got_logged w.game w.me w.entries q f a e t)))
+
+pub state_unlogged : (v w : PeerState) (q : ℕ) (f : TurnFrame) (a : GotAnswer) → w ≡ v → a ≡ got_answer w.game w.me w.entries q f → is_logged a ≡ false →
+    ◌≡◌ {A = PeerState} (record { game = w.game; me = w.me; entries = w.entries }) (record { game = v.game; me = v.me; entries = with_got v.game v.me v.entries q f })
+state_unlogged v w q f a same e t =
+    let Is : PeerState → Type 0 = λ v. ◌≡◌ {A = PeerState} (record { game = w.game; me = w.me; entries = w.entries }) (record { game = v.game; me = v.me; entries = with_got v.game v.me v.entries q f }) in
+    let at_log : List Entry → PeerState = λ x. record { game = w.game; me = w.me; entries = x } in
+    subst Is same (ap at_log (sym (got_unlogged w.game w.me w.entries q f a e t)))
+
+-- a log with a first finding isn't clean, and one without is
+pub some_dirty : (game : Game) (h : List Entry) (found : Option Finding) → found ≡ finding_of_log game h → is_some found ≡ true → is_clean game h ≡ false
+some_dirty game h found e some = clean_is_none game h found e ∙ by_found found some
+  where
+    by_found : (o : Option Finding) → is_some o ≡ true → is_none o ≡ false
+    by_found None s = absurd (false≢true s)
+    by_found (Some x) s = refl
+
+pub none_clean : (game : Game) (h : List Entry) (found : Option Finding) → found ≡ finding_of_log game h → is_some found ≡ false → is_clean game h ≡ true
+none_clean game h found e none = clean_is_none game h found e ∙ by_found found none
+  where
+    by_found : (o : Option Finding) → is_some o ≡ false → is_none o ≡ true
+    by_found None s = refl
+    by_found (Some x) s = absurd (false≢true (sym s))

@@ -1,5 +1,5 @@
 -- Choosing: what a peer's tables say of its next frame and its next choice, one turn ahead.
-use Rattle.std.specs.Prelude.{ℕ, ◌/◌, ◌%◌, Bool, ◌&&◌, ◌==◌, List, [], Option, Some, None, Result, Ok, Err, nat_lt, nat_le, slice_get, if◌then◌else◌}
+use Rattle.std.specs.Prelude.{ℕ, ◌/◌, ◌%◌, Bool, true, false, ◌&&◌, ◌==◌, List, [], Option, Some, None, Result, Ok, Err, nat_lt, nat_le, slice_get, if◌then◌else◌}
 use Rattle.definitions.specs.declared.openings.Opening.{Opening}
 use Rattle.definitions.specs.declared.frames.TurnFrame.{TurnFrame}
 use Rattle.definitions.specs.declared.frames.What.{What}
@@ -39,6 +39,16 @@ caught_in GA.Same = None
 caught_in GA.Far = None
 caught_in GA.Foreign = None
 caught_in GA.Closed = None
+
+-- the frame that is answered so is in the log
+abbrev pub is_logged : GotAnswer → Bool
+is_logged GA.Taken = true
+is_logged GA.Stashed = true
+is_logged GA.Same = false
+is_logged GA.Far = false
+is_logged GA.Foreign = false
+is_logged (GA.Caught f) = true
+is_logged GA.Closed = false
 
 -- the fault, if there is one
 abbrev pub fault_of : {T : Type 0} → Result T OwnFault → Option OwnFault

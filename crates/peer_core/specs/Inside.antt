@@ -12,23 +12,19 @@ use Rattle.definitions.specs.Held.{resolved_count}
 use Rattle.definitions.specs.Honest.{IsHonest}
 use Rattle.definitions.specs.Needs.{needs}
 use Rattle.move_rules.specs.Verdicts.{Size, size_of}
-use Rattle.log_scan.specs.declared.streams.Stream.{Stream}
 use Rattle.log_scan.specs.First.{finding_of_log}
 use Rattle.log_scan.specs.Fits.{room_of}
-use Rattle.wait_rule.specs.declared.views.View.{View}
-use Rattle.wait_rule.specs.Shown.{Standing}
 use Rattle.peer_core.specs.OwnTracks.{AreOwnTracks}
-use Rattle.peer_core.specs.Others.{AreOthers}
+use Rattle.peer_core.specs.Others.{Known, AreOthers}
 
 -- the log is honest, and the tables beside it are what it says
-pub record IsPeer (game : Game) (me : ℕ) (entries : List Entry) (openings : List Opening) (frames : List TurnFrame) (tracks : List Track) (streams : List Stream) (views : List View) (rule : Standing) (found : Option Finding) (needs_list : List Need) (size : Size) : Type 0 where
+pub record IsPeer (game : Game) (me : ℕ) (entries : List Entry) (openings : List Opening) (frames : List TurnFrame) (tracks : List Track) (others : Known) (found : Option Finding) (needs_list : List Need) (size : Size) : Type 0 where
   pub player : me < players_of game
   pub honest : IsHonest game me entries
   pub openings_are : openings ≡ chosen me entries
   pub frames_are : frames ≡ made entries
   pub tracks_are : AreOwnTracks game me entries tracks
-  pub others_are : AreOthers game me entries streams views rule.cells
-  pub rule_is : rule.game ≡ game
+  pub others_are : AreOthers game me entries others
   pub found_is : found ≡ finding_of_log game entries
   pub needs_are : needs_list ≡ needs game me entries
   pub size_is : size ≡ size_of game.grid

@@ -1,21 +1,48 @@
 -- Others: what a peer's tables say of the other players.
-use Rattle.std.specs.Prelude.{◌≡◌, ◌≢◌, ℕ, ◌+◌, ◌<◌, List, length, map, get_or, is_some}
-use Rattle.definitions.specs.declared.world.Cell.{Cell}
+use Rattle.std.specs.Prelude.{◌≡◌, ◌≢◌, ℕ, ◌<◌, false, List, [], length, get_or, slice_get, is_some, IsTrue}
 use Rattle.definitions.specs.declared.logs.Entry.{Entry}
 use Rattle.definitions.specs.World.{Game, players_of}
-use Rattle.definitions.specs.Held.{known}
-use Rattle.log_scan.specs.declared.streams.Stream.{Stream}
-use Rattle.log_scan.specs.Streams.{stream_of}
+use Rattle.definitions.specs.Held.{places_in}
+use Rattle.definitions.specs.Findings.{is_clean}
+use Rattle.peer_window.specs.Windows.{Seen, IsWindow}
+use Rattle.peer_window.specs.Logged.{IsSeenIn}
 use Rattle.wait_rule.specs.declared.views.View.{View}
-use Rattle.wait_rule.specs.Shown.{AreLastCells}
+use Rattle.wait_rule.specs.Shown.{Standing, AreLastCells}
 
--- what the rule of waiting is told of a player's stream
-abbrev pub view_of : Stream → View
-view_of s = record { resolved = s.resolved; next = s.commits + s.resolved; held = is_some s.due }
+-- the windows of all players, what the rule of waiting is told of them, and the rule
+pub record Known : Type 0 where
+  pub windows : List Seen
+  pub views : List View
+  pub rule : Standing
 
--- the tables have what the log shows of each other player, and the cells are where each was last seen
-pub record AreOthers (game : Game) (me : ℕ) (h : List Entry) (streams : List Stream) (views : List View) (cells : List Cell) : Type 0 where
-  pub count : length streams ≡ players_of game
-  pub each : (q : ℕ) (d : Stream) → q < players_of game → q ≢ me → get_or streams q d ≡ stream_of game q (known game me h q)
-  pub views_are : views ≡ map view_of streams
-  pub cells_are : AreLastCells game me h cells
+-- what the rule of waiting is told of a player's window
+abbrev pub view_of : Seen → View
+view_of w = record { resolved = length w.known.moves; next = places_in w.known; held = is_some (slice_get w.known.digests (length w.known.moves)) }
+
+-- the window is the player's, and was offered what the log got from it; where the log has no finding it takes more
+pub record IsWindowOf (game : Game) (me : ℕ) (h : List Entry) (q : ℕ) (w : Seen) : Type 0 where
+  pub window : IsWindow game w
+  pub player : w.player ≡ q
+  pub offered : IsSeenIn me h w
+  pub still : IsTrue (is_clean game h) → w.closed ≡ false
+
+-- a window that was offered nothing
+pub record IsOpened (game : Game) (q : ℕ) (w : Seen) : Type 0 where
+  pub window : IsWindow game w
+  pub player : w.player ≡ q
+  pub empty : w.frames ≡ []
+  pub still : w.closed ≡ false
+
+-- each player has such a window
+pub record AreOpened (game : Game) (ws : List Seen) : Type 0 where
+  pub count : length ws ≡ players_of game
+  pub each : (q : ℕ) (d : Seen) → q < players_of game → IsOpened game q (get_or ws q d)
+
+-- the tables have what the log shows of each other player, and the rule knows where each was last seen
+pub record AreOthers (game : Game) (me : ℕ) (h : List Entry) (o : Known) : Type 0 where
+  pub count : length o.windows ≡ players_of game
+  pub each : (q : ℕ) (d : Seen) → q < players_of game → q ≢ me → IsWindowOf game me h q (get_or o.windows q d)
+  pub count_views : length o.views ≡ players_of game
+  pub views_are : (q : ℕ) (d : Seen) (v : View) → q < players_of game → q ≢ me → get_or o.views q v ≡ view_of (get_or o.windows q d)
+  pub game_is : o.rule.game ≡ game
+  pub cells_are : AreLastCells game me h o.rule.cells

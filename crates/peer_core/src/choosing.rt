@@ -55,6 +55,16 @@ pub(crate) fn caught_in(answer: &GotAnswer) -> Option<Finding>
     }
 }
 
+/// Whether the frame that is answered so is in the log.
+pub(crate) fn is_logged(answer: &GotAnswer) -> bool
+    ensures { result ≡ C.is_logged answer.now }
+{
+    matches!(
+        answer,
+        GotAnswer::Taken | GotAnswer::Stashed | GotAnswer::Caught(_)
+    )
+}
+
 /// How far a peer came that made so many frames, by the finding of its log, if there is one, and by whether it might choose
 /// and had no one to wait for before.
 pub(crate) fn progress_of(

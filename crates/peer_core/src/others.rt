@@ -1,105 +1,196 @@
-//! What a peer's log shows of the other players, and for whom the peer waits.
+//! What a peer knows of the other players: a window of the frames of each, and for whom the peer waits.
 
-ghost use Rattle.std.specs.Prelude.{◌≡◌, ◌≢◌, ◌≤◌, ◌<◌, ◌+◌, [], vec_capacity, length, IsTrue};
+ghost use Rattle.std.specs.Prelude.{◌≡◌, ◌≢◌, ◌≤◌, ◌<◌, ◌+◌, ◌^◌, [], length, replicate, IsTrue, IfOk};
 ghost use Rattle.definitions.specs.World.{players_of};
-ghost use Rattle.definitions.specs.Held.{known};
+ghost use Rattle.definitions.specs.Findings.{is_clean};
+ghost use Rattle.definitions.specs.Answers.{got_answer, is_of_another};
 ghost use Rattle.definitions.specs.Honest.{IsHonest, made_count};
 ghost use Rattle.definitions.specs.Needs as N;
 ghost use Rattle.move_rules.specs.Verdicts.{size_of};
-ghost use Rattle.log_scan.specs.Streams.{stream_of};
+ghost use Rattle.peer_window.specs.Logged.{answer_of_offer, finding_of_clash};
+ghost use Rattle.wait_rule.specs.Waiting.{no_view};
 ghost use Rattle.peer_core.specs.OwnTracks.{AreOwnTracks};
-ghost use Rattle.peer_core.specs.Others.{AreOthers, view_of};
+ghost use Rattle.peer_core.specs.Others.{AreOthers, AreOpened, view_of};
+ghost use Rattle.peer_core.specs.Views as V;
 
-use crate::room::add;
 use crate::stages::next_stage;
-use definitions::{Entry, PlayerId, Track};
+use crate::views::PlayerView;
+use definitions::{Entry, Finding, GotAnswer, PlayerId, Spot, Track, TurnFrame};
 use grid_world::Session;
-use log_scan::{Stream, known_stream};
 use move_rules::Walker;
+use peer_window::{Clash, Offer, Window};
+use std::alloc::{AllocError, Global};
+use std::marker::Model;
 use wait_rule::{NeedList, View, WaitRule};
 
 /// What the rule of waiting is told of a player.
-pub(crate) fn view_of(stream: &Stream) -> View
-    requires { stream.now.commits + stream.now.resolved ≤ 8192 }
-    ensures { result ≡ view_of stream.now }
+fn view_of(window: &Window) -> View
+    ensures { result ≡ view_of window.now }
 {
     View {
-        resolved: stream.resolved,
-        next: stream.commits + stream.resolved,
-        held: stream.due.is_some(),
+        resolved: window.resolved(),
+        next: window.next(),
+        held: window.held(window.resolved()).is_some(),
     }
 }
 
-/// Fills the tables with what the log of player `me` shows of each player, and tells the rule where each was last seen.
-pub(crate) fn read_others(
-    session: &Session,
-    walker: &mut Walker,
-    me: PlayerId,
-    entries: &[Entry],
-    streams: &mut Vec<Stream>,
-    views: &mut Vec<View>,
-    rule: &mut WaitRule,
-)
-    requires size { walker.old ≡ size_of session.now.grid }
-    requires rule { rule.old.game ≡ session.now }
-    requires no_streams { streams.old.items ≡ [] }
-    requires no_views { views.old.items ≡ [] }
-    requires room { players_of session.now ≤ vec_capacity streams.old }
-    requires more_room { players_of session.now ≤ vec_capacity views.old }
-    ensures others { AreOthers session.now me entries.now streams.new.items views.new.items rule.new.cells }
-    ensures rule { rule.new.game ≡ rule.old.game }
-    ensures walker { walker.new ≡ walker.old }
+/// The finding that a clash of a player's frames is, in a log alone.
+fn finding_of(player: PlayerId, clash: &Clash) -> Finding
+    ensures { result ≡ finding_of_clash player clash.now }
 {
-    for q in 0..session.players() {
-        let stream = known_stream(session, walker, me, entries, q);
-        rule.facts();
-        rule.resolved(q, stream.track.at);
-        add(streams, stream);
-        add(views, view_of(&stream));
+    Finding {
+        player,
+        turn: clash.turn,
+        kind: clash.kind,
+        first: Spot {
+            log: 0,
+            entry: clash.first,
+        },
+        second: Spot {
+            log: 0,
+            entry: clash.second,
+        },
     }
 }
 
-/// What the table has of another player's stream.
-pub(crate) fn other_stream(
-    session: &Session,
-    _me: PlayerId,
-    _entries: &[Entry],
-    streams: &[Stream],
-    _views: &[View],
-    _rule: &WaitRule,
-    q: PlayerId,
-) -> Stream
-    requires player { q < players_of session.now }
-    requires other { q ≢ _me }
-    requires others { AreOthers session.now _me _entries.now streams.now _views.now _rule.now.cells }
-    ensures stream { result ≡ stream_of session.now q (known session.now _me _entries.now q) }
-    ensures few { result.commits + result.resolved ≤ 8192 }
+/// The answer to a frame that a window's answer is.
+fn answer_of(player: PlayerId, offer: &Offer) -> GotAnswer
+    ensures { result ≡ answer_of_offer player offer.now }
 {
-    session.facts();
-    streams[usize::from(q)]
+    match offer {
+        Offer::Taken => GotAnswer::Taken,
+        Offer::Stashed => GotAnswer::Stashed,
+        Offer::Same => GotAnswer::Same,
+        Offer::Far => GotAnswer::Far,
+        Offer::Conflict(clash) => GotAnswer::Caught(finding_of(player, clash)),
+    }
 }
 
-/// Makes `out` the list of those for whom the owner of the log waits, by rising player.
-pub(crate) fn find_needs(
-    session: &Session,
-    rule: &mut WaitRule,
-    me: PlayerId,
-    entries: &[Entry],
-    made: u32,
-    tracks: &[Track],
-    _streams: &[Stream],
-    views: &[View],
-    out: &mut NeedList,
-)
-    requires rule { rule.old.game ≡ session.now }
-    requires owner { me < players_of session.now }
-    requires honest { IsHonest session.now me entries.now }
-    requires made { made ≡ made_count entries.now }
-    requires tracks { AreOwnTracks session.now me entries.now tracks.now }
-    requires others { AreOthers session.now me entries.now _streams.now views.now rule.old.cells }
-    ensures needs { out.new ≡ N.needs session.now me entries.now }
-    ensures rule { rule.new ≡ rule.old }
+/// The windows of all players of a session, none of whom sent a frame.
+fn open_windows(alloc: Global, session: &Session) -> Result<Vec<Window>, AllocError>
+    ensures { IfOk result (λ ws. AreOpened session.now ws.items) }
 {
-    let stage = next_stage(session, me, entries, made, tracks);
-    rule.needs(session, me, stage, views, out);
+    let mut windows = Vec::with_capacity(alloc, usize::from(session.players()))?;
+    for player in 0..session.players() {
+        windows.push(Window::new(alloc, session, player)?)?;
+    }
+    Ok(windows)
+}
+
+/// What the rule of waiting is told of players of whom nothing came.
+fn blank_views(alloc: Global, session: &Session) -> Result<Vec<View>, AllocError>
+    ensures { IfOk result (λ vs. vs.items ≡ replicate (players_of session.now) no_view) }
+{
+    let blank = View {
+        resolved: 0,
+        next: 0,
+        held: false,
+    };
+    vec![in alloc; blank; usize::from(session.players())]
+}
+
+/// The windows of all players, what the rule of waiting is told of them, and the rule. The peer's own are never asked.
+#[derive(Drop)]
+pub(crate) struct Others {
+    windows: Vec<Window>,
+    views: Vec<View>,
+    rule: WaitRule,
+}
+
+impl Model for Others {
+    ghost use Rattle.peer_core.specs.Others.{Known};
+
+    ghost Value = { Known };
+
+    ghost view = { λ o. record { windows = o.windows.items; views = o.views.items; rule = o.rule } };
+}
+
+impl Others {
+    /// What is known where the log of player `_me` has no entry. All memory is taken here.
+    pub(crate) fn new(alloc: Global, session: &Session, _me: PlayerId) -> Result<Others, AllocError>
+        ensures { IfOk result (λ o. AreOthers session.now _me [] o) }
+    {
+        let windows = open_windows(alloc, session)?;
+        let views = blank_views(alloc, session)?;
+        let rule = WaitRule::new(alloc, session)?;
+        Ok(Others {
+            windows,
+            views,
+            rule,
+        })
+    }
+
+    /// Offers a frame of another player, which the log of player `_me` may get as its next entry.
+    pub(crate) fn offer(
+        &mut self,
+        session: &Session,
+        walker: &mut Walker,
+        _me: PlayerId,
+        entries: &[Entry],
+        from: PlayerId,
+        frame: &TurnFrame,
+    ) -> GotAnswer
+        requires size { walker.old ≡ size_of session.now.grid }
+        requires others { AreOthers session.now _me entries.now self.old }
+        requires clean { IsTrue (is_clean session.now entries.now) }
+        requires from { IsTrue (is_of_another session.now _me from frame.now) }
+        requires few { length entries.now < 2 ^ 32 }
+        ensures answer { result ≡ got_answer session.now _me entries.now from frame.now }
+        ensures others { AreOthers session.now _me (V.with_got session.now _me entries.now from frame.now) self.new }
+        ensures walker { walker.new ≡ walker.old }
+    {
+        session.facts();
+        self.rule.facts();
+        let at = usize::from(from);
+        let offer = self.windows[at].offer(session, walker, frame, entries.len() as u32);
+        let view = view_of(&self.windows[at]);
+        let cell = self.windows[at].track().at;
+        self.views[at] = view;
+        self.rule.resolved(from, cell);
+        answer_of(from, &offer)
+    }
+
+    /// Makes `out` the list of those for whom the owner of the log waits, by rising player.
+    pub(crate) fn find_needs(
+        &mut self,
+        session: &Session,
+        me: PlayerId,
+        entries: &[Entry],
+        made: u32,
+        tracks: &[Track],
+        out: &mut NeedList,
+    )
+        requires owner { me < players_of session.now }
+        requires honest { IsHonest session.now me entries.now }
+        requires made { made ≡ made_count entries.now }
+        requires tracks { AreOwnTracks session.now me entries.now tracks.now }
+        requires others { AreOthers session.now me entries.now self.old }
+        ensures needs { out.new ≡ N.needs session.now me entries.now }
+        ensures others { self.new ≡ self.old }
+    {
+        let stage = next_stage(session, me, entries, made, tracks);
+        self.rule
+            .needs(session, me, stage, self.views.as_slice(), out);
+    }
+
+    /// What the log shows of another player.
+    pub(crate) fn player(
+        &self,
+        _session: &Session,
+        _me: PlayerId,
+        _entries: &[Entry],
+        player: PlayerId,
+    ) -> PlayerView
+        requires player { player < players_of _session.now }
+        requires other { player ≢ _me }
+        requires others { AreOthers _session.now _me _entries.now self.now }
+        ensures { result ≡ V.player_view _session.now _me _entries.now player }
+    {
+        let window = &self.windows[usize::from(player)];
+        PlayerView {
+            turns: window.resolved(),
+            track: window.track(),
+            next: window.next(),
+        }
+    }
 }

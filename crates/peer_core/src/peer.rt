@@ -13,13 +13,12 @@ ghost use Rattle.peer_core.specs.Standing.{IsStanding};
 ghost use Rattle.definitions.specs.Advance as A;
 ghost use Rattle.std.specs.Option.{is_some};
 ghost use Rattle.definitions.specs.Findings.{is_clean};
-ghost use Rattle.definitions.specs.Answers.{got_answer};
+ghost use Rattle.definitions.specs.Answers.{got_answer, is_of_another};
 ghost use Rattle.log_scan.specs.First.{finding_of_log};
-ghost use Rattle.log_scan.specs.Replies as R;
 ghost use Rattle.peer_core.specs.Views as V;
 
-use crate::choosing::{caught_in, chooses, next_of, progress_of};
-use crate::others::{find_needs, other_stream, read_others, view_of};
+use crate::choosing::{caught_in, chooses, is_logged, next_of, progress_of};
+use crate::others::Others;
 use crate::room::add;
 use crate::views::{Choice, PlayerView};
 use definitions::{
@@ -27,11 +26,11 @@ use definitions::{
     Track, TurnFrame,
 };
 use grid_world::Session;
-use log_scan::{Stream, answer_taken, known_stream, refusal};
+use log_scan::is_of_another;
 use move_rules::{Walker, start_track};
 use std::alloc::{AllocError, Global};
 use std::marker::Model;
-use wait_rule::{NeedList, View, WaitRule};
+use wait_rule::NeedList;
 
 /// The log of one player of a session, with tables of what its entries say.
 #[derive(Drop)]
@@ -44,10 +43,8 @@ pub struct Peer {
     openings: Vec<Opening>,
     frames: Vec<TurnFrame>,
     tracks: Vec<Track>,
-    // what the log shows of each other player's stream, and its first finding
-    streams: Vec<Stream>,
-    views: Vec<View>,
-    rule: WaitRule,
+    // what the log shows of the other players, and its first finding
+    others: Others,
     found: Option<Finding>,
     needs: NeedList,
 }
@@ -61,7 +58,7 @@ impl Model for Peer {
 
     ghost view = { λ p. record { game = p.session; me = p.me; entries = p.entries.items } };
 
-    ghost invariant = { λ p. IsPeer p.session p.me p.entries.items p.openings.items p.frames.items p.tracks.items p.streams.items p.views.items p.rule p.found p.needs p.walker
+    ghost invariant = { λ p. IsPeer p.session p.me p.entries.items p.openings.items p.frames.items p.tracks.items p.others p.found p.needs p.walker
         × HasRoom p.session (vec_capacity p.entries) (vec_capacity p.openings) (vec_capacity p.frames) (vec_capacity p.tracks) };
 }
 
@@ -72,7 +69,7 @@ impl Peer {
         ensures { IfOk result (λ p. p ≡ record { game = session.now; me = me; entries = [] }) }
     {
         let copy = session.copy(alloc)?;
-        let mut walker = Walker::new(alloc, session.grid())?;
+        let walker = Walker::new(alloc, session.grid())?;
         let turns = session.turns() as usize;
         let others = usize::from(session.players()) - 1;
         let entries = Vec::with_capacity(alloc, 3 * turns + 2 * turns * others + 1)?;
@@ -80,28 +77,14 @@ impl Peer {
         let frames = Vec::with_capacity(alloc, 2 * turns)?;
         let mut tracks = Vec::with_capacity(alloc, turns + 1)?;
         tracks.push(start_track(session, me))?;
-        let mut streams = Vec::with_capacity(alloc, others + 1)?;
-        let mut views = Vec::with_capacity(alloc, others + 1)?;
-        let mut rule = WaitRule::new(alloc, session)?;
-        read_others(
-            session,
-            &mut walker,
-            me,
-            entries.as_slice(),
-            &mut streams,
-            &mut views,
-            &mut rule,
-        );
+        let mut known = Others::new(alloc, session, me)?;
         let mut needs = NeedList::new();
-        find_needs(
+        known.find_needs(
             session,
-            &mut rule,
             me,
             entries.as_slice(),
             0,
             tracks.as_slice(),
-            streams.as_slice(),
-            views.as_slice(),
             &mut needs,
         );
         Ok(Peer {
@@ -112,9 +95,7 @@ impl Peer {
             openings,
             frames,
             tracks,
-            streams,
-            views,
-            rule,
+            others: known,
             found: None,
             needs,
         })
@@ -237,15 +218,12 @@ impl Peer {
         self.session.facts();
         add(&mut self.entries, Entry::Made(frame));
         add(&mut self.frames, frame);
-        find_needs(
+        self.others.find_needs(
             &self.session,
-            &mut self.rule,
             self.me,
             self.entries.as_slice(),
             self.frames.len() as u32,
             self.tracks.as_slice(),
-            self.streams.as_slice(),
-            self.views.as_slice(),
             &mut self.needs,
         );
     }
@@ -295,15 +273,12 @@ impl Peer {
         add(&mut self.entries, Entry::Chose { turn, mv, nonce });
         add(&mut self.openings, opening);
         add(&mut self.tracks, track);
-        find_needs(
+        self.others.find_needs(
             &self.session,
-            &mut self.rule,
             self.me,
             self.entries.as_slice(),
             self.frames.len() as u32,
             self.tracks.as_slice(),
-            self.streams.as_slice(),
-            self.views.as_slice(),
             &mut self.needs,
         );
     }
@@ -338,31 +313,15 @@ impl Peer {
         self.walker.legal(&self.session, self.me, track, mv)
     }
 
-    /// The answer to a frame that the log doesn't take in.
-    fn refuse(&mut self, from: PlayerId, frame: &TurnFrame) -> Option<GotAnswer>
-        ensures refusal { result ≡ R.refusal self.old.game self.old.me self.old.entries from frame.now }
-        ensures same { self.new ≡ self.old }
-    {
-        refusal(
-            &self.session,
-            &mut self.walker,
-            self.me,
-            self.entries.as_slice(),
-            self.found.is_none(),
-            from,
-            frame,
-        )
-    }
-
-    /// Takes a frame into the log.
-    fn take(&mut self, from: PlayerId, frame: &TurnFrame) -> GotAnswer
-        requires { R.refusal self.old.game self.old.me self.old.entries from frame.now ≡ None }
+    /// Offers a frame of another player to its window, and takes it into the log where the window holds it.
+    fn hear(&mut self, from: PlayerId, frame: &TurnFrame) -> GotAnswer
+        requires clean { IsTrue (is_clean self.old.game self.old.entries) }
+        requires from { IsTrue (is_of_another self.old.game self.old.me from frame.now) }
         ensures answer { result ≡ got_answer self.old.game self.old.me self.old.entries from frame.now }
-        ensures log { self.new ≡ record self.old { entries = self.old.entries ++ Entry.Got from frame.now ∷ [] } }
+        ensures log { self.new ≡ record self.old { entries = V.with_got self.old.game self.old.me self.old.entries from frame.now } }
     {
         self.session.facts();
-        add(&mut self.entries, Entry::Got(from, *frame));
-        let answer = answer_taken(
+        let answer = self.others.offer(
             &self.session,
             &mut self.walker,
             self.me,
@@ -370,29 +329,18 @@ impl Peer {
             from,
             frame,
         );
-        self.found = caught_in(&answer);
-        let stream = known_stream(
-            &self.session,
-            &mut self.walker,
-            self.me,
-            self.entries.as_slice(),
-            from,
-        );
-        self.rule.facts();
-        self.streams[usize::from(from)] = stream;
-        self.views[usize::from(from)] = view_of(&stream);
-        self.rule.resolved(from, stream.track.at);
-        find_needs(
-            &self.session,
-            &mut self.rule,
-            self.me,
-            self.entries.as_slice(),
-            self.frames.len() as u32,
-            self.tracks.as_slice(),
-            self.streams.as_slice(),
-            self.views.as_slice(),
-            &mut self.needs,
-        );
+        if is_logged(&answer) {
+            add(&mut self.entries, Entry::Got(from, *frame));
+            self.found = caught_in(&answer);
+            self.others.find_needs(
+                &self.session,
+                self.me,
+                self.entries.as_slice(),
+                self.frames.len() as u32,
+                self.tracks.as_slice(),
+                &mut self.needs,
+            );
+        }
         answer
     }
 
@@ -403,10 +351,13 @@ impl Peer {
         ensures answer { result ≡ got_answer self.old.game self.old.me self.old.entries from frame.now }
         ensures log { self.new ≡ record self.old { entries = V.with_got self.old.game self.old.me self.old.entries from frame.now } }
     {
-        match self.refuse(from, frame) {
-            Some(answer) => answer,
-            None => self.take(from, frame),
+        if self.found.is_some() {
+            return GotAnswer::Closed;
         }
+        if !is_of_another(&self.session, self.me, from, frame) {
+            return GotAnswer::Foreign;
+        }
+        self.hear(from, frame)
     }
 
     /// What the log shows of a player: how many of its turns are resolved, its track after them, and its next place. For
@@ -424,19 +375,7 @@ impl Peer {
                 next: self.frames.len() as u32,
             };
         }
-        let stream = other_stream(
-            &self.session,
-            self.me,
-            self.entries.as_slice(),
-            self.streams.as_slice(),
-            self.views.as_slice(),
-            &self.rule,
-            player,
-        );
-        PlayerView {
-            turns: stream.resolved,
-            track: stream.track,
-            next: stream.commits + stream.resolved,
-        }
+        self.others
+            .player(&self.session, self.me, self.entries.as_slice(), player)
     }
 }

@@ -6,11 +6,8 @@ use Rattle.definitions.specs.declared.logs.Entry.TheVariants.{Chose}
 use Rattle.definitions.specs.Honest.{IsHonest, made_count}
 use Rattle.definitions.specs.Logs.{chosen}
 use Rattle.definitions.specs.Needs.{needs}
-use Rattle.log_scan.specs.declared.streams.Stream.{Stream}
-use Rattle.wait_rule.specs.declared.views.View.{View}
-use Rattle.wait_rule.specs.Shown.{Standing}
 use Rattle.peer_core.specs.Inside.{IsPeer}
-use Rattle.peer_core.specs.Others.{AreOthers}
+use Rattle.peer_core.specs.Others.{Known, AreOthers}
 use Rattle.peer_core.proofs.Tables.{others_chose}
 use Rattle.peer_core.specs.OwnTracks.{AreOwnTracks}
 use Rattle.peer_core.proofs.Peers.{entry_room, may_inside, legal_inside, track_inside, choice_honest, choice_room, frames_chose, tracks_chose, peer_chose}
@@ -77,11 +74,8 @@ pub find_needs-requires-clause-others : goal.find_needs-requires-clause-others
 find_needs-requires-clause-others c =
     let inv = c.self.invariant.0 in
     let log : c.as_slice.result.now ≡ c.self.inside.entries.items ++ Chose c.len-turn.result c.args.mv c.args.nonce ∷ [] = c.as_slice.ensures.value ∙ c.add.ensures.items in
-    let IsLog : List Entry → Type 0 = λ h. AreOthers c.self.inside.session c.self.inside.me h c.as_slice-3.result.now c.as_slice-4.result.now c.self.inside.rule.cells in
-    let Streams : List Stream → Type 0 = λ ss. AreOthers c.self.inside.session c.self.inside.me (c.self.inside.entries.items ++ Chose c.len-turn.result c.args.mv c.args.nonce ∷ []) ss c.as_slice-4.result.now c.self.inside.rule.cells in
-    let Views : List View → Type 0 = λ vs. AreOthers c.self.inside.session c.self.inside.me (c.self.inside.entries.items ++ Chose c.len-turn.result c.args.mv c.args.nonce ∷ []) c.self.inside.streams.items vs c.self.inside.rule.cells in
-    subst IsLog (sym log) (subst Streams (sym c.as_slice-3.ensures.value) (subst Views (sym c.as_slice-4.ensures.value)
-    (others_chose c.self.inside.session c.self.inside.me c.len-turn.result c.self.inside.entries.items c.args.mv c.args.nonce c.self.inside.streams.items c.self.inside.views.items c.self.inside.rule.cells inv.others_are)))
+    let IsLog : List Entry → Type 0 = λ h. AreOthers c.self.inside.session c.self.inside.me h c.self.inside.others in
+    subst IsLog (sym log) (others_chose c.self.inside.session c.self.inside.me c.len-turn.result c.self.inside.entries.items c.args.mv c.args.nonce c.self.inside.others inv.others_are)
 
 pub invariant_of-self : goal.invariant_of-self
 invariant_of-self c =
@@ -90,10 +84,10 @@ invariant_of-self c =
     let turn : c.len-turn.result ≡ length (chosen c.self.inside.me c.self.inside.entries.items) = count ∙ ap (λ (os : List Opening). length os) inv.openings_are in
     let honest = choice_honest c.self.inside.session c.self.inside.me c.self.inside.entries.items c.len-turn.result c.args.mv c.args.nonce c.facts.ensures inv.honest
     (may_inside _ _ c.self.view_is c.requires.chooses) (legal_inside _ _ _ c.self.view_is c.requires.legal) turn in
-    let IsRule : Standing → Type 0 = λ r. IsPeer c.self.inside.session c.self.inside.me c.add.new.list.items c.add-2.new.list.items c.self.inside.frames.items c.add-3.new.list.items
-    c.self.inside.streams.items c.self.inside.views.items r c.self.inside.found c.find_needs.new.out c.self.inside.walker in
+    let IsKnown : Known → Type 0 = λ o. IsPeer c.self.inside.session c.self.inside.me c.add.new.list.items c.add-2.new.list.items c.self.inside.frames.items c.add-3.new.list.items
+    o c.self.inside.found c.find_needs.new.out c.self.inside.walker in
     let rooms = c.self.invariant.1 in (
-      subst IsRule (sym c.find_needs.ensures.rule) (peer_chose c.self.inside.session c.self.inside.me c.self.inside.entries.items _ _ _ _ _ _ _ _ _ _ _ _ _ c.len-turn.result c.args.mv c.args.nonce c.args.track c.facts.ensures inv honest
+      subst IsKnown (sym c.find_needs.ensures.others) (peer_chose c.self.inside.session c.self.inside.me c.self.inside.entries.items _ _ _ _ _ _ _ _ _ _ _ c.len-turn.result c.args.mv c.args.nonce c.args.track c.facts.ensures inv honest
           (track_inside _ _ _ _ c.self.view_is c.requires.track) c.add.ensures.items c.add-2.ensures.items c.add-3.ensures.items
           (c.find_needs.ensures.needs ∙ ap (λ (h : List Entry). needs c.self.inside.session c.self.inside.me h) c.as_slice.ensures.value)),
       record {

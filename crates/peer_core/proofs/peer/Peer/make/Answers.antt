@@ -8,11 +8,8 @@ use Rattle.definitions.specs.Honest.{IsHonest, made_count}
 use Rattle.definitions.specs.Logs.{made}
 use Rattle.definitions.specs.Advance.{next_made}
 use Rattle.definitions.specs.Needs.{needs}
-use Rattle.log_scan.specs.declared.streams.Stream.{Stream}
-use Rattle.wait_rule.specs.declared.views.View.{View}
-use Rattle.wait_rule.specs.Shown.{Standing}
 use Rattle.peer_core.specs.Inside.{IsPeer}
-use Rattle.peer_core.specs.Others.{AreOthers}
+use Rattle.peer_core.specs.Others.{Known, AreOthers}
 use Rattle.peer_core.proofs.Tables.{others_made}
 use Rattle.peer_core.specs.OwnTracks.{AreOwnTracks}
 use Rattle.peer_core.proofs.Peers.{entry_room, next_inside, next_room, next_honest, frames_made, tracks_made, peer_made}
@@ -63,20 +60,17 @@ pub find_needs-requires-clause-others : goal.find_needs-requires-clause-others
 find_needs-requires-clause-others c =
     let inv = c.self.invariant.0 in
     let log : c.as_slice.result.now ≡ c.self.inside.entries.items ++ Made c.args.frame ∷ [] = c.as_slice.ensures.value ∙ c.add.ensures.items in
-    let IsLog : List Entry → Type 0 = λ h. AreOthers c.self.inside.session c.self.inside.me h c.as_slice-3.result.now c.as_slice-4.result.now c.self.inside.rule.cells in
-    let Streams : List Stream → Type 0 = λ ss. AreOthers c.self.inside.session c.self.inside.me (c.self.inside.entries.items ++ Made c.args.frame ∷ []) ss c.as_slice-4.result.now c.self.inside.rule.cells in
-    let Views : List View → Type 0 = λ vs. AreOthers c.self.inside.session c.self.inside.me (c.self.inside.entries.items ++ Made c.args.frame ∷ []) c.self.inside.streams.items vs c.self.inside.rule.cells in
-    subst IsLog (sym log) (subst Streams (sym c.as_slice-3.ensures.value) (subst Views (sym c.as_slice-4.ensures.value)
-    (others_made c.self.inside.session c.self.inside.me c.self.inside.entries.items c.args.frame c.self.inside.streams.items c.self.inside.views.items c.self.inside.rule.cells inv.others_are)))
+    let IsLog : List Entry → Type 0 = λ h. AreOthers c.self.inside.session c.self.inside.me h c.self.inside.others in
+    subst IsLog (sym log) (others_made c.self.inside.session c.self.inside.me c.self.inside.entries.items c.args.frame c.self.inside.others inv.others_are)
 
 pub invariant_of-self : goal.invariant_of-self
 invariant_of-self c =
     let next : next_made c.self.inside.session c.self.inside.me c.self.inside.entries.items ≡ Some c.args.frame = next_inside _ _ _ c.self.view_is c.requires in
     let inv = c.self.invariant.0 in
-    let IsRule : Standing → Type 0 = λ r. IsPeer c.self.inside.session c.self.inside.me c.add.new.list.items c.self.inside.openings.items c.add-2.new.list.items c.self.inside.tracks.items
-    c.self.inside.streams.items c.self.inside.views.items r c.self.inside.found c.find_needs.new.out c.self.inside.walker in
+    let IsKnown : Known → Type 0 = λ o. IsPeer c.self.inside.session c.self.inside.me c.add.new.list.items c.self.inside.openings.items c.add-2.new.list.items c.self.inside.tracks.items
+    o c.self.inside.found c.find_needs.new.out c.self.inside.walker in
     let rooms = c.self.invariant.1 in (
-      subst IsRule (sym c.find_needs.ensures.rule) (peer_made _ _ _ _ _ _ _ _ _ _ _ _ _ _ _ c.args.frame c.facts.ensures inv next c.add.ensures.items c.add-2.ensures.items
+      subst IsKnown (sym c.find_needs.ensures.others) (peer_made _ _ _ _ _ _ _ _ _ _ _ _ _ c.args.frame c.facts.ensures inv next c.add.ensures.items c.add-2.ensures.items
           (c.find_needs.ensures.needs ∙ ap (λ (h : List Entry). needs c.self.inside.session c.self.inside.me h) c.as_slice.ensures.value)),
       record {
         entries_fit = omega (arith, rooms.entries_fit, c.add.ensures.capacity);

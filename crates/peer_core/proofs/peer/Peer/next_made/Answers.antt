@@ -28,4 +28,4 @@ returns-clause-frame c =
 pub returns-clause-facts : goal.returns-clause-facts
 returns-clause-facts c =
     let Is : PeerState → Type 0 = λ v. IsStanding v in
-    subst Is c.self.view_is (standing _ _ _ _ _ _ _ _ _ _ _ _ c.facts.ensures c.self.invariant.0)
+    subst Is c.self.view_is (standing _ _ _ _ _ _ _ _ _ _ c.facts.ensures c.self.invariant.0)

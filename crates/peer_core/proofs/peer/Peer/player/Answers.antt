@@ -24,5 +24,5 @@ returns-then-player-self c =
     let Is : PeerState → Type 0 = λ v. with_next c.len-turns.result ≡ player_view v.game v.me v.entries v.me in
     let mine : PeerState → Type 0 = λ v. c.args.player ≡ v.me in
     let me : c.args.player ≡ c.args.self.now.me = subst mine c.self.view_is c.if-player-self.true in
-    ap with_next again ∙ subst Is c.self.view_is (player_me _ _ _ _ _ _ _ _ _ _ _ _ _ _ c.facts.ensures c.self.invariant.0 count c.index.ensures) ∙
+    ap with_next again ∙ subst Is c.self.view_is (player_me _ _ _ _ _ _ _ _ _ _ _ _ c.facts.ensures c.self.invariant.0 count c.index.ensures) ∙
     ap (λ q. player_view c.args.self.now.game c.args.self.now.me c.args.self.now.entries q) (sym me)

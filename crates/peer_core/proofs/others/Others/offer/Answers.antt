@@ -1,0 +1,52 @@
+use Rattle.std.proofs.Common.{◌≡◌, ◌∙◌, ◌<◌, ap, length, refl, subst, sym, true}
+use Rattle.definitions.specs.Lists.{EachIs}
+use Rattle.definitions.specs.World.{Game, players_of, is_open}
+use Rattle.definitions.specs.declared.world.Track.{Track}
+use Rattle.peer_window.specs.Windows.{Seen}
+use Rattle.peer_core.specs.Others.{Known, AreOthers, view_of}
+use Rattle.peer_core.proofs.Tables.{another_from, window_at, offered_below, offered_there, offered_open, offered_read}
+use Rattle.peer_core.proofs.others.Others.offer.Goals as goal
+
+pub offer-offer-requires-clause-later : goal.offer-offer-requires-clause-later
+offer-offer-requires-clause-later c =
+    let IsKnown : Known → Type 0 = λ o. AreOthers c.args.session.now c.args._me c.args.entries.now o in
+    let all = subst IsKnown (sym c.self.view_is) c.requires.others in
+    let from = another_from c.args.session.now c.args._me c.args.from c.args.frame.now c.requires.from in
+    let at = window_at c.args.session.now c.args._me c.args.from c.from-at.result c.args.entries.now _ c.index_mut.result.now c.from-at.ensures from.0 from.1 all in
+    let Below : Seen → Type 0 = λ w. EachIs (λ r. r.entry < length c.args.entries.now) w.frames in
+    subst Below (sym c.index_mut.ensures.value) (offered_below c.args.session.now c.args._me c.args.from c.args.entries.now _ at)
+
+pub resolved-requires-clause-open : goal.resolved-requires-clause-open
+resolved-requires-clause-open c =
+    let IsKnown : Known → Type 0 = λ o. AreOthers c.args.session.now c.args._me c.args.entries.now o in
+    let all = subst IsKnown (sym c.self.view_is) c.requires.others in
+    let seen : length c.self.inside.rule.cells ≡ players_of c.args.session.now = c.facts-2.ensures.one_each ∙ ap (λ (g : Game). players_of g) all.game_is in
+    let IsOpen : Game → Type 0 = λ g. is_open g.grid c.track.result.at ≡ true in
+    subst IsOpen (sym all.game_is) (offered_open c.args.session.now c.args._me c.args.from c.from-at.result c.args.entries.now c.args.frame.now _ c.index_mut.result.now c.offer-offer.new.self c.index-2.result.now c.offer-offer.result c.track.result
+    c.facts.ensures c.from-at.ensures c.requires.clean c.requires.from seen all c.index_mut.ensures.value c.offer-offer.ensures.answer c.offer-offer.ensures.frames c.offer-offer.ensures.window c.offer-offer.ensures.player
+    c.offer-offer.ensures.closed c.index-2.ensures c.track.ensures)
+
+pub returns-clause-answer : goal.returns-clause-answer
+returns-clause-answer c =
+    let IsKnown : Known → Type 0 = λ o. AreOthers c.args.session.now c.args._me c.args.entries.now o in
+    let all = subst IsKnown (sym c.self.view_is) c.requires.others in
+    let seen : length c.self.inside.rule.cells ≡ players_of c.args.session.now = c.facts-2.ensures.one_each ∙ ap (λ (g : Game). players_of g) all.game_is in
+    let got = offered_there c.args.session.now c.args._me c.args.from c.from-at.result c.args.entries.now c.args.frame.now _ c.index_mut.result.now c.offer-offer.new.self c.offer-offer.result
+    (view_of c.offer-offer.new.self) _ _ c.from-at.ensures c.requires.clean c.requires.from seen all c.index_mut.ensures.value c.offer-offer.ensures.answer c.offer-offer.ensures.frames c.offer-offer.ensures.window
+    c.offer-offer.ensures.player c.offer-offer.ensures.closed refl refl refl in
+    c.answer_of.ensures ∙ got.0
+
+pub returns-clause-others : goal.returns-clause-others
+returns-clause-others c =
+    let IsKnown : Known → Type 0 = λ o. AreOthers c.args.session.now c.args._me c.args.entries.now o in
+    let all = subst IsKnown (sym c.self.view_is) c.requires.others in
+    let seen : length c.self.inside.rule.cells ≡ players_of c.args.session.now = c.facts-2.ensures.one_each ∙ ap (λ (g : Game). players_of g) all.game_is in
+    let first : c.index.result.now ≡ c.offer-offer.new.self
+    = offered_read c.args.session.now c.args._me c.args.from c.from-at.result c.args.entries.now c.args.frame.now _ c.offer-offer.new.self c.index.result.now c.from-at.ensures c.requires.from all c.index.ensures in
+    let second : c.index-2.result.now ≡ c.offer-offer.new.self
+    = offered_read c.args.session.now c.args._me c.args.from c.from-at.result c.args.entries.now c.args.frame.now _ c.offer-offer.new.self c.index-2.result.now c.from-at.ensures c.requires.from all c.index-2.ensures in
+    let view : c.view_of-view.result ≡ view_of c.offer-offer.new.self = c.view_of-view.ensures ∙ ap view_of first in
+    let track : c.track.result ≡ c.offer-offer.new.self.track = c.track.ensures ∙ ap (λ (x : Seen). x.track) second in
+    (offered_there c.args.session.now c.args._me c.args.from c.from-at.result c.args.entries.now c.args.frame.now _ c.index_mut.result.now c.offer-offer.new.self c.offer-offer.result
+    c.view_of-view.result c.track.result.at c.resolved.new.self c.from-at.ensures c.requires.clean c.requires.from seen all c.index_mut.ensures.value c.offer-offer.ensures.answer c.offer-offer.ensures.frames
+    c.offer-offer.ensures.window c.offer-offer.ensures.player c.offer-offer.ensures.closed view (ap (λ (t : Track). t.at) track) c.resolved.ensures).1
