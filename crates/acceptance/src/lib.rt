@@ -11,6 +11,8 @@ mod faults;
 #[cfg(test)]
 mod grounds;
 #[cfg(test)]
+mod logs;
+#[cfg(test)]
 mod matches;
 #[cfg(test)]
 mod plain;
@@ -24,5 +26,7 @@ mod rows;
 mod runs;
 #[cfg(test)]
 mod spheres;
+#[cfg(test)]
+mod streams;
 #[cfg(test)]
 mod walled;
