@@ -1,5 +1,6 @@
 //! Each row's text and status.
 
+use crate::brought::BROUGHT;
 use crate::received::RECEIVED;
 use crate::rows::{ROWS, Row};
 use crate::runs::{NONE, run_drive};
@@ -34,6 +35,15 @@ fn frames_that_come_print_their_texts(rt: HostRuntime) -> Result<(), Fail> {
 #[test]
 fn walls_are_walked_around(rt: HostRuntime) -> Result<(), Fail> {
     for row in &WALLED {
+        let agrees = agrees(rt.alloc(), row)?;
+        assert!(rt; agrees, "{}", row.name);
+    }
+    Ok(())
+}
+
+#[test]
+fn bytes_and_logs_print_their_texts(rt: HostRuntime) -> Result<(), Fail> {
+    for row in &BROUGHT {
         let agrees = agrees(rt.alloc(), row)?;
         assert!(rt; agrees, "{}", row.name);
     }

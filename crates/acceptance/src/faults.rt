@@ -1,6 +1,6 @@
 //! Calls of the outside that fail, and what is written all the same.
 
-use crate::runs::{Fails, NONE, run_drive};
+use crate::runs::{Fails, NONE, run_drive, run_named};
 use std::test::Fail;
 
 static SESSION: &[u8] =
@@ -86,6 +86,14 @@ fn a_failed_call_ends_the_run(rt: HostRuntime) -> Result<(), Fail> {
 #[test]
 fn a_file_that_is_not_there_is_a_fault(rt: HostRuntime) -> Result<(), Fail> {
     let (status, text) = run_drive(rt.alloc(), b"t", b"0", SESSION, SCRIPT, &NONE)?;
+    assert_eq!(rt; status.code(), 4);
+    assert!(rt; text.as_slice() == b"input fault\n".as_slice());
+    Ok(())
+}
+
+#[test]
+fn a_log_that_is_not_there_is_a_fault(rt: HostRuntime) -> Result<(), Fail> {
+    let (status, text) = run_named(rt.alloc(), b"p", b"0", SESSION, b"", SCRIPT)?;
     assert_eq!(rt; status.code(), 4);
     assert!(rt; text.as_slice() == b"input fault\n".as_slice());
     Ok(())

@@ -148,29 +148,59 @@ fn last_fields(alloc: Global, text: &[u8], front: &[u8]) -> Result<Vec<u8>, Allo
     Ok(fields)
 }
 
+/// How a match of two drives ends.
+#[derive(Clone, Copy, Debug, PartialEq, Eq)]
+enum Ending {
+    /// Each was fed with what the other one printed, and both end with one world.
+    Alike,
+    /// One was fed with other frames than the other one printed.
+    OtherFrames,
+    /// One ends with another world, or not with status 0.
+    OtherWorld,
+}
+
+/// The world after all turns, as a drive prints it.
+static WORLD: &[u8] =
+    b"done\nplayer 0 turns 200 at 8 9 charge 3 next 400\nplayer 1 turns 200 at 20 12 charge 3 next 400\nend\n";
+
+/// What the drive of a player prints that is fed with this script; nothing where its status isn't 0.
+fn printed(alloc: Global, player: &[u8], script: &[u8]) -> Result<Vec<u8>, AllocError> {
+    let (status, text) = run_drive(alloc, b"s", player, FIELD, script, &NONE)?;
+    Ok(if status.code() == 0 {
+        text
+    } else {
+        Vec::new(alloc)
+    })
+}
+
+/// Whether the frames of a script are those that a drive made, byte for byte.
+fn are_made(alloc: Global, text: &[u8], script: &[u8]) -> Result<bool, AllocError> {
+    let made = last_fields(alloc, text, b"made ")?;
+    let got = last_fields(alloc, script, b"got ")?;
+    Ok(made.as_slice() == got.as_slice())
+}
+
+/// How the match ends of the drives that are fed with these two scripts.
+fn match_ending(alloc: Global, mine: &[u8], theirs: &[u8]) -> Result<Ending, AllocError> {
+    let text = printed(alloc, b"0", mine)?;
+    let others = printed(alloc, b"1", theirs)?;
+    if !are_made(alloc, text.as_slice(), theirs)? || !are_made(alloc, others.as_slice(), mine)? {
+        return Ok(Ending::OtherFrames);
+    }
+    let alike = text.as_slice().ends_with(WORLD) && others.as_slice().ends_with(WORLD);
+    Ok(if alike {
+        Ending::Alike
+    } else {
+        Ending::OtherWorld
+    })
+}
+
 #[test]
 fn two_drives_end_with_one_world(rt: HostRuntime) -> Result<(), Fail> {
-    let alloc = rt.alloc();
-    let session = read_session(alloc, FIELD).map_err(|_| "refused")?;
-    let mine = script_of(alloc, &session, 0, 1)?;
-    let theirs = script_of(alloc, &session, 1, 0)?;
-    let (status, text) = run_drive(alloc, b"s", b"0", FIELD, mine.as_slice(), &NONE)?;
-    assert_eq!(rt; status.code(), 0);
-    let (status, others) = run_drive(alloc, b"s", b"1", FIELD, theirs.as_slice(), &NONE)?;
-    assert_eq!(rt; status.code(), 0);
-
-    // each was fed with what the other printed, byte for byte
-    let made = last_fields(alloc, text.as_slice(), b"made ")?;
-    let got = last_fields(alloc, theirs.as_slice(), b"got ")?;
-    assert!(rt; made.as_slice() == got.as_slice());
-    let made = last_fields(alloc, others.as_slice(), b"made ")?;
-    let got = last_fields(alloc, mine.as_slice(), b"got ")?;
-    assert!(rt; made.as_slice() == got.as_slice());
-
-    // and both end alike
-    let end =
-        b"done\nplayer 0 turns 200 at 8 9 charge 3 next 400\nplayer 1 turns 200 at 20 12 charge 3 next 400\nend\n";
-    assert!(rt; text.as_slice().ends_with(end));
-    assert!(rt; others.as_slice().ends_with(end));
+    let session = read_session(rt.alloc(), FIELD).map_err(|_| "refused")?;
+    let mine = script_of(rt.alloc(), &session, 0, 1)?;
+    let theirs = script_of(rt.alloc(), &session, 1, 0)?;
+    let ending = match_ending(rt.alloc(), mine.as_slice(), theirs.as_slice())?;
+    assert_eq!(rt; ending, Ending::Alike);
     Ok(())
 }

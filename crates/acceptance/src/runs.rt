@@ -1,5 +1,7 @@
 //! Runs of the program over objects in memory.
 
+ghost use Rattle.std.specs.Prelude.{◌≡◌, ◌∷◌, [], false, bytes_eq, IfOk};
+
 use peer_cli::run;
 use station::{MemoryShelf, MemorySink, MemorySource, ShelfFile};
 use std::alloc::{AllocError, Global};
@@ -34,6 +36,21 @@ fn shelf_of(
     Ok(MemoryShelf::new(files, Vec::from_slice(alloc, fails)?))
 }
 
+/// An input of these bytes.
+fn source_of(
+    alloc: Global,
+    script: &[u8],
+    fails: &'static [u32],
+) -> Result<MemorySource, AllocError> {
+    let bytes = Vec::from_slice(alloc, script)?;
+    Ok(MemorySource::new(bytes, Vec::from_slice(alloc, fails)?))
+}
+
+/// An output with room for each text here.
+fn sink_of(alloc: Global, fails: &'static [u32]) -> Result<MemorySink, AllocError> {
+    MemorySink::new(alloc, 131_072, Vec::from_slice(alloc, fails)?)
+}
+
 /// Runs the program on these words, with one file `s` on the shelf and this input, and gives its status and what it wrote.
 pub fn run_words(
     alloc: Global,
@@ -43,11 +60,8 @@ pub fn run_words(
     fails: &Fails,
 ) -> Result<(Status, Vec<u8>), AllocError> {
     let mut shelf = shelf_of(alloc, session, fails.shelf)?;
-    let mut input = MemorySource::new(
-        Vec::from_slice(alloc, script)?,
-        Vec::from_slice(alloc, fails.source)?,
-    );
-    let mut out = MemorySink::new(alloc, 131_072, Vec::from_slice(alloc, fails.sink)?)?;
+    let mut input = source_of(alloc, script, fails.source)?;
+    let mut out = sink_of(alloc, fails.sink)?;
     let status = run(alloc, words, &mut input, &mut out, &mut shelf);
     Ok((status, Vec::from_slice(alloc, out.bytes())?))
 }
@@ -66,4 +80,80 @@ pub fn run_drive(
     words.push(Vec::from_slice(alloc, name)?)?;
     words.push(Vec::from_slice(alloc, player)?)?;
     run_words(alloc, words.as_slice(), session, script, fails)
+}
+
+/// A file.
+fn file_of(alloc: Global, name: &[u8], bytes: &[u8]) -> Result<ShelfFile, AllocError>
+    ensures { IfOk result (λ file. file.name ≡ name.now) }
+{
+    let name = Vec::from_slice(alloc, name)?;
+    let bytes = Vec::from_slice(alloc, bytes)?;
+    Ok(ShelfFile::new(name, bytes))
+}
+
+/// Two files.
+fn pair_of(alloc: Global, first: ShelfFile, second: ShelfFile) -> Result<Vec<ShelfFile>, AllocError>
+    ensures { IfOk result (λ files. files.items ≡ first ∷ second ∷ []) }
+{
+    let mut files = Vec::new(alloc);
+    files.push(first)?;
+    files.push(second)?;
+    Ok(files)
+}
+
+/// A shelf with two files.
+fn shelf_of_two(
+    alloc: Global,
+    first: ShelfFile,
+    second: ShelfFile,
+) -> Result<MemoryShelf, AllocError>
+    requires { bytes_eq first.name second.name ≡ false }
+{
+    let files = pair_of(alloc, first, second)?;
+    Ok(MemoryShelf::new(files, Vec::new(alloc)))
+}
+
+/// A shelf with a session's file of the name `s`, and a log's file of the name `o`.
+fn shelf_with_log(alloc: Global, session: &[u8], old: &[u8]) -> Result<MemoryShelf, AllocError> {
+    let first = file_of(alloc, b"s", session)?;
+    let second = file_of(alloc, b"o", old)?;
+    shelf_of_two(alloc, first, second)
+}
+
+/// The words of `drive` that name the session's file, this player, and a log's file.
+fn words_with_log(alloc: Global, name: &[u8], player: &[u8]) -> Result<Vec<Vec<u8>>, AllocError> {
+    let mut words = Vec::new(alloc);
+    words.push(Vec::from_slice(alloc, b"drive")?)?;
+    words.push(Vec::from_slice(alloc, b"s")?)?;
+    words.push(Vec::from_slice(alloc, player)?)?;
+    words.push(Vec::from_slice(alloc, name)?)?;
+    Ok(words)
+}
+
+/// Runs `drive` for this player, who goes on from the log in the file of this name.
+pub fn run_named(
+    alloc: Global,
+    name: &[u8],
+    player: &[u8],
+    session: &[u8],
+    old: &[u8],
+    script: &[u8],
+) -> Result<(Status, Vec<u8>), AllocError> {
+    let mut shelf = shelf_with_log(alloc, session, old)?;
+    let words = words_with_log(alloc, name, player)?;
+    let mut input = source_of(alloc, script, NONE.source)?;
+    let mut out = sink_of(alloc, NONE.sink)?;
+    let status = run(alloc, words.as_slice(), &mut input, &mut out, &mut shelf);
+    Ok((status, Vec::from_slice(alloc, out.bytes())?))
+}
+
+/// Runs `drive` for this player, who goes on from a log, and gives its status and what it wrote.
+pub fn run_old(
+    alloc: Global,
+    player: &[u8],
+    session: &[u8],
+    old: &[u8],
+    script: &[u8],
+) -> Result<(Status, Vec<u8>), AllocError> {
+    run_named(alloc, b"o", player, session, old, script)
 }

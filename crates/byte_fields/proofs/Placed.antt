@@ -25,13 +25,13 @@ digits_len-behind (b ∷ text) =
     elim (cases_Bool (is_ascii_digit b)) [ inl is ↦ rw is ih | inr other ↦ rw (other, other) refl ]
 
 -- digits end where other bytes begin
-digits_len-digits : (ds rest : List ℕ) → all_ascii_digits ds ≡ true → digits_len rest ≡ 0 → digits_len (ds ++ rest) ≡ length ds
+pub digits_len-digits : (ds rest : List ℕ) → all_ascii_digits ds ≡ true → digits_len rest ≡ 0 → digits_len (ds ++ rest) ≡ length ds
 digits_len-digits [] rest digits other = other
 digits_len-digits (d ∷ ds) rest digits other =
     let both = and_parts (is_ascii_digit d) (all_ascii_digits ds) digits in
     rw both.0 (ap suc (digits_len-digits ds rest both.1 other))
 
-map_some : {A B : Type 0} (f : A → B) (o : Option A) (y : B) → option_map f o ≡ Some y → (x : A) × (o ≡ Some x) × (f x ≡ y)
+pub map_some : {A B : Type 0} (f : A → B) (o : Option A) (y : B) → option_map f o ≡ Some y → (x : A) × (o ≡ Some x) × (f x ≡ y)
 map_some f None y e = absurd cc
 map_some f (Some x) y e = (x, refl, cc)
 

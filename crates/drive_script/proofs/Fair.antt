@@ -16,24 +16,17 @@ use Rattle.definition_laws.proofs.WellFormed.{honest_well_formed}
 use Rattle.definition_laws.specs.Members.{Has}
 use Rattle.definition_laws.proofs.Members.{Has_split}
 use Rattle.definition_laws.proofs.Stepping.{choice_honest, got_honest}
-use Rattle.drive_script.specs.declared.grammar.DriveLine.{DriveLine}
-use Rattle.drive_script.specs.declared.grammar.DriveLine.TheVariants.{Bad, Choose, Nothing}
-use Rattle.drive_script.specs.declared.grammar.DriveLine.TheVariants as D
-use Rattle.drive_script.specs.Drive.{drive_log, log_behind, log_by, log_from, log_on, said_behind}
+use Rattle.wire_frames.specs.declared.frames.Frame.{Frame}
+use Rattle.wire_frames.specs.declared.frames.Frame.TheVariants.{Hello, Turn, Want}
+use Rattle.wire_frames.specs.Streams.{given_of}
+use Rattle.script_grammar.specs.declared.grammar.DriveLine.{DriveLine}
+use Rattle.script_grammar.specs.declared.grammar.DriveLine.TheVariants.{Bad, Bytes, Choose, Log, Nothing}
+use Rattle.script_grammar.specs.declared.grammar.DriveLine.TheVariants as D
+use Rattle.script_grammar.specs.Grammar.{is_bad}
+use Rattle.drive_script.specs.Driven.{State, fresh, reader_of}
+use Rattle.drive_script.specs.Coming.{bytes_state, log_after, log_on, log_through}
+use Rattle.drive_script.specs.Drive.{drive_log, log_by, log_from, said_behind, state_behind}
 use Rattle.drive_script.specs.FairPlay.{IsFairPlay, IsGotIn}
-
-behind_honest : (game : Game) (me : ℕ) (h : List Entry) (s : DriveLine) → 1 ≤ game.ahead → IsHonest game me h → IsHonest game me (log_behind game me h s)
-unfolding log_behind
-behind_honest game me h Nothing a i = i
-behind_honest game me h (Choose mv nonce) a i = choice_honest game me h mv nonce a i
-behind_honest game me h (D.Got q f) a i = got_honest game me q h f i
-behind_honest game me h Bad a i = i
-
-by_honest : (game : Game) (me : ℕ) (now last : List Entry) (s : DriveLine) → IsHonest game me now → IsHonest game me last → IsHonest game me (log_by s now last)
-by_honest game me now last Nothing i j = j
-by_honest game me now last (Choose mv nonce) i j = j
-by_honest game me now last (D.Got q f) i j = j
-by_honest game me now last Bad i j = i
 
 on_honest : (game : Game) (me : ℕ) (now last : List Entry) → IsHonest game me now → IsHonest game me last → IsHonest game me (log_on game now last)
 on_honest game me now last i j = go (is_clean game now)
@@ -42,20 +35,48 @@ on_honest game me now last i j = go (is_clean game now)
     go true = j
     go false = i
 
-from_honest : (game : Game) (me : ℕ) (h : List Entry) (n : ℕ) (lines : List (List ℕ)) → 1 ≤ game.ahead → IsHonest game me h → IsHonest game me (log_from game me h n lines)
-from_honest game me h n [] a i = i
-from_honest game me h n (line ∷ lines) a i =
-    let next = log_behind game me h (said_behind n line) in
-    let j = behind_honest game me h (said_behind n line) a i in
-    by_honest game me h (log_on game next (log_from game me next (n + 1) lines)) (said_behind n line) i
-    (on_honest game me next (log_from game me next (n + 1) lines) j (from_honest game me next (n + 1) lines a j))
+-- a frame that comes
+frame_honest : (game : Game) (me : ℕ) (h : List Entry) (q : ℕ) (f : Frame) → IsHonest game me h → IsHonest game me (log_after game me h q f)
+frame_honest game me h q (Turn f) i = got_honest game me q h f i
+frame_honest game me h q (Hello id p pass next) i = i
+frame_honest game me h q (Want place) i = i
+
+frames_honest : (game : Game) (me : ℕ) (h : List Entry) (q : ℕ) (fs : List Frame) → IsHonest game me h → IsHonest game me (log_through game me h q fs)
+unfolding log_through
+frames_honest game me h q [] i = i
+frames_honest game me h q (f ∷ fs) i =
+    let next = log_after game me h q f in
+    let j = frame_honest game me h q f i in
+    on_honest game me next (log_through game me next q fs) j (frames_honest game me next q fs j)
+
+behind_honest : (game : Game) (me : ℕ) (s : State) (d : DriveLine) → 1 ≤ game.ahead → IsHonest game me s.log → IsHonest game me (state_behind game me s d).log
+unfolding state_behind bytes_state
+behind_honest game me s Nothing a i = i
+behind_honest game me s (Choose mv nonce) a i = choice_honest game me s.log mv nonce a i
+behind_honest game me s (D.Got q f) a i = got_honest game me q s.log f i
+behind_honest game me s (Bytes q bytes) a i = frames_honest game me s.log q (given_of (reader_of s q) bytes).frames i
+behind_honest game me s Log a i = i
+behind_honest game me s Bad a i = i
+
+by_honest : (game : Game) (me : ℕ) (now last : List Entry) (bad : Bool) → IsHonest game me now → IsHonest game me last → IsHonest game me (log_by bad now last)
+by_honest game me now last true i j = i
+by_honest game me now last false i j = j
+
+from_honest : (game : Game) (me : ℕ) (s : State) (n : ℕ) (lines : List (List ℕ)) → 1 ≤ game.ahead → IsHonest game me s.log → IsHonest game me (log_from game me s n lines)
+from_honest game me s n [] a i = i
+from_honest game me s n (line ∷ lines) a i =
+    let next : State = state_behind game me s (said_behind n line) in
+    let j = behind_honest game me s (said_behind n line) a i in
+    by_honest game me s.log (log_on game next.log (log_from game me next (n + 1) lines)) (is_bad (said_behind n line)) i
+    (on_honest game me next.log (log_from game me next (n + 1) lines) j (from_honest game me next (n + 1) lines a j))
 
 -- a log that begins honest ends so
 pub log_honest : (game : Game) (me : ℕ) (first : List Entry) (script : List ℕ) → 1 ≤ game.ahead → IsHonest game me first → IsHonest game me (drive_log game me first script)
 unfolding drive_log
 log_honest game me first script a i =
     let j = advance_honest game me first i in
-    on_honest game me (advance game me first) (log_from game me (advance game me first) 0 (lines_of script)) j (from_honest game me (advance game me first) 0 (lines_of script) a j)
+    let next = advance game me first in
+    on_honest game me next (log_from game me (fresh next) 0 (lines_of script)) j (from_honest game me (fresh next) 0 (lines_of script) a j)
 
 got_in : (log : List Entry) (q : ℕ) (f : TurnFrame) → Has log (Got q f) → IsGotIn log q f
 got_in log q f h = let s = Has_split log (Got q f) h in record { before = s.0; behind = s.1; log_is = s.2 }

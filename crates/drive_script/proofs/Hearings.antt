@@ -13,17 +13,19 @@ use Rattle.definitions.specs.Findings.{is_clean}
 use Rattle.definitions.specs.Answers.{got_answer, place_of}
 use Rattle.definitions.specs.Steps.{after_choice, after_got}
 use Rattle.text_io.specs.Frame.{Answer, Ended, Onward, after_text, bare_answer}
-use Rattle.text_io.specs.Lines.{StartsLonger, lines_of}
+use Rattle.text_io.specs.Lines.{StartsLonger}
 use Rattle.text_io.specs.Texts.{Between}
-use Rattle.text_io.specs.declared.statuses.Status.TheVariants.{BadLine, Caught, Done}
+use Rattle.text_io.specs.declared.statuses.Status.TheVariants.{BadLine, Caught}
 use Rattle.text_io.specs.declared.statuses.TextName.TheVariants.{Script}
 use Rattle.text_io.proofs.Frames.{onward_start}
 use Rattle.text_io.proofs.Writing.{grew}
-use Rattle.drive_script.specs.declared.grammar.DriveLine.{DriveLine}
-use Rattle.drive_script.specs.declared.grammar.DriveLine.TheVariants.{Bad, Nothing, Choose, Got}
-use Rattle.drive_script.specs.Drive.{answer_by, drive_from, going_on, log_behind, said_behind, text_behind}
-use Rattle.drive_script.specs.Lines.{added_text, choice_text, got_text, end_text}
-use Rattle.drive_script.specs.Grammar.{line_of}
+use Rattle.script_grammar.specs.declared.grammar.DriveLine.{DriveLine}
+use Rattle.script_grammar.specs.declared.grammar.DriveLine.TheVariants.{Bad, Nothing, Choose, Got, Bytes, Log}
+use Rattle.script_grammar.specs.Grammar.{is_bad, line_of}
+use Rattle.drive_script.specs.Driven.{State, with_log}
+use Rattle.drive_script.specs.Coming.{received_text, bytes_text, bytes_state}
+use Rattle.drive_script.specs.Drive.{answer_by, drive_from, going_on, said_behind, state_behind, text_behind}
+use Rattle.drive_script.specs.Lines.{added_text, choice_text, got_text, end_text, log_text}
 use Rattle.drive_script.proofs.Pieces.{wrote_first}
 
 -- the answer from a log on that has no finding, and from one that has
@@ -33,42 +35,56 @@ goes_on game me h rest c = rw c refl
 pub comes_to_end : (game : Game) (me : ℕ) (h : List Entry) (rest : Answer) → is_clean game h ≡ false → going_on game me h rest ≡ record { body = end_text game me h; status = Caught }
 comes_to_end game me h rest c = rw c refl
 
--- the answer from a log on to lines that come behind n lines
-abbrev pub answer_from : Game → ℕ → List Entry → ℕ → List (List ℕ) → Answer
-answer_from game me h n lines = going_on game me h (drive_from game me h n lines)
+-- the answer to lines that come behind n lines, where the peer has this
+abbrev pub answer_from : Game → ℕ → State → ℕ → List (List ℕ) → Answer
+answer_from game me s n lines = going_on game me s.log (drive_from game me s n lines)
 
 -- the answer from a line on that says this
-from_said : (game : Game) (me : ℕ) (h : List Entry) (n : ℕ) (line : List ℕ) (lines : List (List ℕ)) (s : DriveLine) → is_clean game h ≡ true → s ≡ said_behind n line →
-    answer_from game me h n (line ∷ lines) ≡ answer_by s (n + 1) (text_behind game me h s) (answer_from game me (log_behind game me h s) (n + 1) lines)
-from_said game me h n line lines s c e =
-    goes_on game me h (drive_from game me h n (line ∷ lines)) c ∙
-    ap (λ (s : DriveLine). answer_by s (n + 1) (text_behind game me h s) (answer_from game me (log_behind game me h s) (n + 1) lines)) (sym e)
+from_said : (game : Game) (me : ℕ) (s : State) (n : ℕ) (line : List ℕ) (lines : List (List ℕ)) (d : DriveLine) → is_clean game s.log ≡ true → d ≡ said_behind n line →
+    answer_from game me s n (line ∷ lines) ≡ answer_by (is_bad d) (n + 1) (text_behind game me s d) (answer_from game me (state_behind game me s d) (n + 1) lines)
+from_said game me s n line lines d c e =
+    goes_on game me s.log (drive_from game me s n (line ∷ lines)) c ∙
+    ap (λ (d : DriveLine). answer_by (is_bad d) (n + 1) (text_behind game me s d) (answer_from game me (state_behind game me s d) (n + 1) lines)) (sym e)
 
 -- a line that is passed over
-pub passed_over : (game : Game) (me : ℕ) (h : List Entry) (n : ℕ) (line : List ℕ) (lines : List (List ℕ)) → is_clean game h ≡ true → Nothing ≡ said_behind n line →
-    answer_from game me h n (line ∷ lines) ≡ answer_from game me h (n + 1) lines
-unfolding text_behind log_behind
-passed_over game me h n line lines c e = from_said game me h n line lines Nothing c e
+pub passed_over : (game : Game) (me : ℕ) (s : State) (n : ℕ) (line : List ℕ) (lines : List (List ℕ)) → is_clean game s.log ≡ true → Nothing ≡ said_behind n line →
+    answer_from game me s n (line ∷ lines) ≡ answer_from game me s (n + 1) lines
+unfolding text_behind state_behind
+passed_over game me s n line lines c e = from_said game me s n line lines Nothing c e
 
 -- a line that chooses
-pub answered : (game : Game) (me : ℕ) (h : List Entry) (n : ℕ) (line : List ℕ) (lines : List (List ℕ)) (mv : Move) (nonce : Nonce) → is_clean game h ≡ true → Choose mv nonce ≡ said_behind n line →
-    answer_from game me h n (line ∷ lines) ≡
-    after_text (choice_text (length (chosen me h)) (choice_fault game me h mv) ++ added_text (length h) (after_choice game me h mv nonce)) (answer_from game me (after_choice game me h mv nonce) (n + 1) lines)
-unfolding text_behind log_behind
-answered game me h n line lines mv nonce c e = from_said game me h n line lines (Choose mv nonce) c e
+pub answered : (game : Game) (me : ℕ) (s : State) (n : ℕ) (line : List ℕ) (lines : List (List ℕ)) (mv : Move) (nonce : Nonce) → is_clean game s.log ≡ true → Choose mv nonce ≡ said_behind n line →
+    answer_from game me s n (line ∷ lines) ≡
+    after_text (choice_text (length (chosen me s.log)) (choice_fault game me s.log mv) ++ added_text (length s.log) (after_choice game me s.log mv nonce))
+    (answer_from game me (with_log s (after_choice game me s.log mv nonce)) (n + 1) lines)
+unfolding text_behind state_behind
+answered game me s n line lines mv nonce c e = from_said game me s n line lines (Choose mv nonce) c e
 
 -- a line that brings a frame
-pub received : (game : Game) (me : ℕ) (h : List Entry) (n : ℕ) (line : List ℕ) (lines : List (List ℕ)) (q : ℕ) (f : TurnFrame) → is_clean game h ≡ true → Got q f ≡ said_behind n line →
-    answer_from game me h n (line ∷ lines) ≡
-    after_text (got_text q (place_of game f) (got_answer game me h q f) ++ added_text (length h) (after_got game me h q f)) (answer_from game me (after_got game me h q f) (n + 1) lines)
-unfolding text_behind log_behind
-received game me h n line lines q f c e = from_said game me h n line lines (Got q f) c e
+pub received : (game : Game) (me : ℕ) (s : State) (n : ℕ) (line : List ℕ) (lines : List (List ℕ)) (q : ℕ) (f : TurnFrame) → is_clean game s.log ≡ true → Got q f ≡ said_behind n line →
+    answer_from game me s n (line ∷ lines) ≡
+    after_text (got_text q (place_of game f) (got_answer game me s.log q f) ++ added_text (length s.log) (after_got game me s.log q f))
+    (answer_from game me (with_log s (after_got game me s.log q f)) (n + 1) lines)
+unfolding text_behind state_behind received_text
+received game me s n line lines q f c e = from_said game me s n line lines (Got q f) c e
+
+-- a line that brings bytes
+pub brought : (game : Game) (me : ℕ) (s : State) (n : ℕ) (line : List ℕ) (lines : List (List ℕ)) (q : ℕ) (bytes : List ℕ) → is_clean game s.log ≡ true → Bytes q bytes ≡ said_behind n line →
+    answer_from game me s n (line ∷ lines) ≡ after_text (bytes_text game me s q bytes) (answer_from game me (bytes_state game me s q bytes) (n + 1) lines)
+unfolding text_behind state_behind
+brought game me s n line lines q bytes c e = from_said game me s n line lines (Bytes q bytes) c e
+
+-- a line that prints the log
+pub printed : (game : Game) (me : ℕ) (s : State) (n : ℕ) (line : List ℕ) (lines : List (List ℕ)) → is_clean game s.log ≡ true → Log ≡ said_behind n line →
+    answer_from game me s n (line ∷ lines) ≡ after_text (log_text game me s.log) (answer_from game me s (n + 1) lines)
+unfolding text_behind state_behind
+printed game me s n line lines c e = from_said game me s n line lines Log c e
 
 -- a line in no grammar
-pub refused : (game : Game) (me : ℕ) (h : List Entry) (n : ℕ) (line : List ℕ) (lines : List (List ℕ)) → is_clean game h ≡ true → Bad ≡ said_behind n line →
-    answer_from game me h n (line ∷ lines) ≡ bare_answer (BadLine Script (n + 1))
-unfolding text_behind log_behind
-refused game me h n line lines c e = from_said game me h n line lines Bad c e
+pub refused : (game : Game) (me : ℕ) (s : State) (n : ℕ) (line : List ℕ) (lines : List (List ℕ)) → is_clean game s.log ≡ true → Bad ≡ said_behind n line →
+    answer_from game me s n (line ∷ lines) ≡ bare_answer (BadLine Script (n + 1))
+unfolding text_behind state_behind
+refused game me s n line lines c e = from_said game me s n line lines Bad c e
 
 -- a line of more than 1,024 bytes
 overlong : (n : ℕ) (line : List ℕ) → 1024 < length line → said_behind n line ≡ Bad
@@ -79,18 +95,10 @@ overlong n line l = go (nat_lt 1024 (length line)) (lt-ltb 1024 (length line) l)
     go true e = refl
     go false e = cc
 
-pub too_long : (game : Game) (me : ℕ) (h : List Entry) (n : ℕ) (lines : List (List ℕ)) → is_clean game h ≡ true → StartsLonger 1024 lines →
-    answer_from game me h n lines ≡ bare_answer (BadLine Script (n + 1))
-too_long game me h n [] c l = absurd l
-too_long game me h n (line ∷ lines) c l = refused game me h n line lines c (sym (overlong n line l))
-
--- no line is left
-pub ended : (game : Game) (me : ℕ) (h : List Entry) (n : ℕ) (text : List ℕ) → is_clean game h ≡ true → text ≡ [] → answer_from game me h n (lines_of text) ≡ record { body = end_text game me h; status = Done }
-ended game me h n text c e = goes_on game me h (drive_from game me h n (lines_of text)) c ∙ ap (λ (t : List ℕ). drive_from game me h n (lines_of t)) e
-
--- the line and those behind it
-pub next : (game : Game) (me : ℕ) (h : List Entry) (n : ℕ) (line : List ℕ) (lines all : List (List ℕ)) → all ≡ line ∷ lines → answer_from game me h n all ≡ answer_from game me h n (line ∷ lines)
-next game me h n line lines all e = ap (answer_from game me h n) e
+pub too_long : (game : Game) (me : ℕ) (s : State) (n : ℕ) (lines : List (List ℕ)) → is_clean game s.log ≡ true → StartsLonger 1024 lines →
+    answer_from game me s n lines ≡ bare_answer (BadLine Script (n + 1))
+too_long game me s n [] c l = absurd l
+too_long game me s n (line ∷ lines) c l = refused game me s n line lines c (sym (overlong n line l))
 
 -- nothing was written, and the whole answer is the rest
 pub onward_same : (a : List ℕ) (p q : Answer) → p ≡ q → Onward a p a q

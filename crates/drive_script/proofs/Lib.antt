@@ -5,3 +5,6 @@ pub mod Hearings
 pub mod Fair
 pub mod Ends
 pub mod Tellings
+pub mod Parts
+pub mod Digits
+pub mod Streams

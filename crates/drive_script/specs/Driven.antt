@@ -1,11 +1,33 @@
--- Driven: what contracts see of a peer that is driven.
-use Rattle.std.specs.Prelude.{ℕ, List}
+-- Driven: what a peer that is driven has, and what contracts see of it.
+use Rattle.std.specs.Prelude.{ℕ, List, replicate, get_or, set}
 use Rattle.definitions.specs.declared.logs.Entry.{Entry}
 use Rattle.definitions.specs.World.{Game}
+use Rattle.wire_frames.specs.Reading.{Reading, at_start}
 
--- a peer's session, its player and its log, and how many lines of its script were taken
+-- a log, and a reader of the bytes that come from each player
+pub record State : Type 0 where
+  pub log : List Entry
+  pub readers : List Reading
+
+-- the log, and readers to whom nothing came: those of the players 0 to 15
+abbrev pub fresh : List Entry → State
+fresh log = record { log = log; readers = replicate 16 at_start }
+
+-- the reader of a player's bytes
+abbrev pub reader_of : State → ℕ → Reading
+reader_of s q = get_or s.readers q at_start
+
+-- the state with this log
+abbrev pub with_log : State → List Entry → State
+with_log s log = record { log = log; readers = s.readers }
+
+-- the readers with this one for the player
+abbrev pub with_reader : List Reading → ℕ → Reading → List Reading
+with_reader readers q r = set readers q r
+
+-- a peer's session, its player, what it has, and how many lines of its script were taken
 pub record Driven : Type 0 where
   pub game : Game
   pub me : ℕ
-  pub entries : List Entry
+  pub state : State
   pub lines : ℕ

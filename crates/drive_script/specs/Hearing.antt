@@ -1,40 +1,105 @@
 -- Hearing: what becomes of a line, and what is written and done from it on.
-use Rattle.std.specs.Prelude.{◌≡◌, ℕ, ◌+◌, ◌≤◌, List, ◌++◌, length}
+use Rattle.std.specs.Prelude.{◌≡◌, ℕ, ◌+◌, ◌*◌, ◌≤◌, ◌<◌, Bool, true, false, List, [], ◌++◌, length, if◌then◌else◌, IsTrue}
 use Rattle.definitions.specs.declared.logs.Entry.{Entry}
+use Rattle.definitions.specs.World.{Game}
+use Rattle.definitions.specs.Findings.{is_clean}
 use Rattle.text_io.specs.declared.statuses.Status.TheVariants.{BadLine}
 use Rattle.text_io.specs.declared.statuses.TextName.TheVariants.{Script}
 use Rattle.text_io.specs.Frame.{Answer, after_text, bare_answer}
-use Rattle.drive_script.specs.declared.grammar.DriveLine.{DriveLine}
-use Rattle.drive_script.specs.declared.grammar.DriveLine.TheVariants as D
 use Rattle.drive_script.specs.declared.driver.Heard.{Heard}
-use Rattle.drive_script.specs.declared.driver.Heard.TheVariants.{Bad, Nothing, Choice, Received}
-use Rattle.drive_script.specs.Driven.{Driven}
+use Rattle.drive_script.specs.declared.driver.Heard.TheVariants.{Bad, Line, Bytes}
+use Rattle.drive_script.specs.declared.driver.Answered.{Answered}
+use Rattle.drive_script.specs.declared.driver.Answered.TheVariants.{Nothing, Choice, Received, Log}
+use Rattle.drive_script.specs.declared.driver.Reply.{Reply}
+use Rattle.drive_script.specs.declared.driver.Found.{Found}
+use Rattle.drive_script.specs.declared.driver.Found.TheVariants as found
+use Rattle.drive_script.specs.Driven.{Driven, reader_of}
+use Rattle.drive_script.specs.Coming.{bytes_text, bytes_state}
 use Rattle.drive_script.specs.Drive.{drive_from, going_on}
-use Rattle.drive_script.specs.Lines.{choice_text, got_text, added_text}
+use Rattle.drive_script.specs.Lines.{choice_text, got_text, hello_text, want_text, bad_text, added_text, log_text}
+
+-- what is written about a frame that came from q, by the peer's answer, where the log is now this one
+abbrev pub reply_text : ℕ → Reply → List Entry → List ℕ
+reply_text q reply log = got_text q reply.place reply.answer ++ added_text reply.entries log
 
 -- the answer to these lines from this driver on
 abbrev pub driven_from : Driven → List (List ℕ) → Answer
-driven_from d lines = going_on d.game d.me d.entries (drive_from d.game d.me d.entries d.lines lines)
+driven_from d lines = going_on d.game d.me d.state.log (drive_from d.game d.me d.state d.lines lines)
 
--- The whole answer from a line on, by what became of it: the rest is the answer from the line behind it on, the line is the
--- n-th, and behind it the log is this one.
-abbrev pub AnswersBy : Heard → (whole rest : Answer) → (n : ℕ) → (log : List Entry) → Type 0
-AnswersBy Bad whole rest n log = whole ≡ bare_answer (BadLine Script n)
-AnswersBy Nothing whole rest n log = whole ≡ rest
-AnswersBy (Choice turn fault entries) whole rest n log = whole ≡ after_text (choice_text turn fault ++ added_text entries log) rest
-AnswersBy (Received from place answer entries) whole rest n log = whole ≡ after_text (got_text from place answer ++ added_text entries log) rest
+-- this driver behind bytes that come from q
+abbrev pub behind_bytes : Driven → ℕ → List ℕ → Driven
+behind_bytes d q bytes = record { game = d.game; me = d.me; state = bytes_state d.game d.me d.state q bytes; lines = d.lines }
 
--- What holds of a driver behind a line that lets the run go on: it took one line more, which was not one too many, and its
--- log has all that it had.
-abbrev pub Counts : Heard → (lines lines' : ℕ) → (log : List Entry) → Type 0
-Counts Bad lines lines' log = lines' ≡ lines
-Counts Nothing lines lines' log = (lines' ≡ lines + 1) × (lines' ≤ 1048576)
-Counts (Choice turn fault entries) lines lines' log = (lines' ≡ lines + 1) × (lines' ≤ 1048576) × (entries ≤ length log)
-Counts (Received from place answer entries) lines lines' log = (lines' ≡ lines + 1) × (lines' ≤ 1048576) × (entries ≤ length log)
+-- the answer to bytes that come from q, and then to these lines, from this driver on
+abbrev pub bytes_from : Driven → ℕ → List ℕ → List (List ℕ) → Answer
+bytes_from d q bytes lines = after_text (bytes_text d.game d.me d.state q bytes) (driven_from (behind_bytes d q bytes) lines)
+
+-- what is written about a line that is told at once, where the log is now this one
+abbrev pub answered_text : Game → ℕ → Answered → (log : List Entry) → List ℕ
+answered_text game me Nothing log = []
+answered_text game me (Choice turn fault entries) log = choice_text turn fault ++ added_text entries log
+answered_text game me (Received from reply) log = reply_text from reply log
+answered_text game me Log log = log_text game me log
+
+-- The whole answer from a line on, by what became of it, where behind it the driver is this one: the line is the n-th, and
+-- these lines come behind it.
+abbrev pub AnswersBy : Heard → (whole : Answer) → (n : ℕ) → Driven → List (List ℕ) → Type 0
+AnswersBy Bad whole n d lines = whole ≡ bare_answer (BadLine Script n)
+AnswersBy (Line answered) whole n d lines = whole ≡ after_text (answered_text d.game d.me answered d.state.log) (driven_from d lines)
+AnswersBy (Bytes from bytes) whole n d lines = whole ≡ bytes_from d from bytes lines
+
+-- Bytes from this player may come: it has a reader, the log has no finding, and with them no more bytes came than the lines
+-- so far may have.
+pub record MayCome (d : Driven) (q : ℕ) (bytes : List ℕ) : Type 0 where
+  pub known : q < 16
+  pub clean : IsTrue (is_clean d.game d.state.log)
+  pub few : (reader_of d.state q).place + length bytes ≤ 512 * d.lines
+
+-- the log has all that it had before the line
+abbrev pub HasAll : Answered → (log : List Entry) → Type 0
+HasAll Nothing log = Unit {0}
+HasAll (Choice turn fault entries) log = entries ≤ length log
+HasAll (Received from reply) log = reply.entries ≤ length log
+HasAll Log log = Unit {0}
+
+-- What holds of a driver behind a line that lets the run go on, where so many lines were taken before: it took one more, which
+-- was not one too many, its log has all that it had, and bytes of the line may come.
+abbrev pub Counts : Heard → (lines : ℕ) → Driven → Type 0
+Counts Bad lines d = d.lines ≡ lines
+Counts (Line answered) lines d = (d.lines ≡ lines + 1) × (d.lines ≤ 1048576) × HasAll answered d.state.log
+Counts (Bytes from bytes) lines d = (d.lines ≡ lines + 1) × (d.lines ≤ 1048576) × MayCome d from bytes
+
+-- what is written about what was found in q's bytes, where the log is now this one
+abbrev pub part_text : Found → ℕ → List Entry → List ℕ
+part_text found.More q log = []
+part_text found.Hello q log = hello_text q
+part_text (found.Want place) q log = want_text q place
+part_text (found.Received reply) q log = reply_text q reply log
+part_text (found.Bad place) q log = bad_text q place
+
+-- nothing is found behind it
+abbrev pub is_last : Found → Bool
+is_last found.More = true
+is_last found.Hello = false
+is_last (found.Want place) = false
+is_last (found.Received reply) = false
+is_last (found.Bad place) = true
+
+-- the answer behind a part of q's bytes, of which these are left: where it is the last, or the log has a finding by now, the
+-- rest of the line is dropped
+abbrev pub rest_from : (last : Bool) → Driven → ℕ → (rest : List ℕ) → List (List ℕ) → Answer
+rest_from true d q rest lines = driven_from d lines
+rest_from false d q rest lines = if is_clean d.game d.state.log then bytes_from d q rest lines else driven_from d lines
+
+-- the log has all that it had before the frame that was found, if one of a turn was
+abbrev pub HasBefore : Found → (log : List Entry) → Type 0
+HasBefore found.More log = Unit {0}
+HasBefore found.Hello log = Unit {0}
+HasBefore (found.Want place) log = Unit {0}
+HasBefore (found.Received reply) log = reply.entries ≤ length log
+HasBefore (found.Bad place) log = Unit {0}
 
 -- P, where the line lets the run go on
-abbrev pub OnTaken : DriveLine → Type 0 → Type 0
-OnTaken D.Bad P = Unit {0}
-OnTaken (D.Got q f) P = P
-OnTaken D.Nothing P = P
-OnTaken (D.Choose mv nonce) P = P
+abbrev pub Unless : (bad : Bool) → Type 0 → Type 0
+Unless true P = Unit {0}
+Unless false P = P

@@ -1,11 +1,15 @@
 -- Laws on scripts: how a run ends, and what its log shows.
-use Rattle.std.specs.Prelude.{◌≡◌, ℕ, ◌≤◌, List}
+use Rattle.std.specs.Prelude.{◌≡◌, ℕ, ◌+◌, ◌<◌, ◌≤◌, List, [], ◌∷◌, ◌++◌, ◌==◌, flat_map, if◌then◌else◌}
 use Rattle.definitions.specs.declared.logs.Entry.{Entry}
 use Rattle.definitions.specs.World.{Game}
 use Rattle.definitions.specs.Findings.{is_clean}
 use Rattle.definitions.specs.Honest.{IsHonest}
 use Rattle.text_io.specs.Lines.{lines_of}
-use Rattle.drive_script.specs.Drive.{drive, drive_log, bad_line, status_for}
+use Rattle.wire_frames.specs.Streams.{end_of, given_of, stream_of}
+use Rattle.script_grammar.specs.declared.grammar.DriveLine.{DriveLine}
+use Rattle.script_grammar.specs.declared.grammar.DriveLine.TheVariants.{Nothing, Choose, Got, Bytes, Log, Bad}
+use Rattle.drive_script.specs.Driven.{State, fresh, reader_of}
+use Rattle.drive_script.specs.Drive.{drive, drive_log, bad_line, said_behind, state_behind, status_for}
 use Rattle.drive_script.specs.FairPlay.{IsFairPlay}
 use Rattle.drive_script.specs.Telling.{TellsLog}
 
@@ -23,3 +27,33 @@ PeersPlayFair = (game : Game) (me : ℕ) (first : List Entry) (script : List ℕ
 abbrev pub TextsTellLogs : Type 0
 TextsTellLogs = (game : Game) (me : ℕ) (first : List Entry) (script : List ℕ) →
     TellsLog game me first (drive_log game me first script) (drive game me first script).body
+
+-- the bytes that a line brings from the player, if it brings any
+abbrev pub piece_of : (q : ℕ) → DriveLine → List (List ℕ)
+piece_of q (Bytes p bytes) = if p == q then bytes ∷ [] else []
+piece_of q Nothing = []
+piece_of q (Choose mv nonce) = []
+piece_of q (Got p f) = []
+piece_of q Log = []
+piece_of q Bad = []
+
+-- all bytes that these lines bring from the player, which come behind n lines
+abbrev pub bytes_of : (q n : ℕ) → List (List ℕ) → List ℕ
+bytes_of q n [] = []
+bytes_of q n (line ∷ lines) = flat_map (λ piece. piece) (piece_of q (said_behind n line)) ++ bytes_of q (n + 1) lines
+
+-- what the peer has behind these lines, which come behind n lines
+abbrev pub state_from : Game → ℕ → State → ℕ → List (List ℕ) → State
+state_from game me s n [] = s
+state_from game me s n (line ∷ lines) = state_from game me (state_behind game me s (said_behind n line)) (n + 1) lines
+
+-- The frames that a line's bytes give behind these lines, and the bad byte that they come to, are those which the stream of all
+-- that came from the player has with these bytes and hadn't without them.
+pub record GivesTheNext (game : Game) (me : ℕ) (first : List Entry) (lines : List (List ℕ)) (q : ℕ) (bytes : List ℕ) : Type 0 where
+  pub frames : (stream_of (bytes_of q 0 lines ++ bytes)).frames ≡
+      (stream_of (bytes_of q 0 lines)).frames ++ (given_of (reader_of (state_from game me (fresh first) 0 lines) q) bytes).frames
+  pub ends : (stream_of (bytes_of q 0 lines ++ bytes)).ends ≡ end_of (given_of (reader_of (state_from game me (fresh first) 0 lines) q) bytes).reader
+
+-- what comes from a player in lines is one stream, however the lines cut it
+abbrev pub LinesAreOneStream : Type 0
+LinesAreOneStream = (game : Game) (me : ℕ) (first : List Entry) (lines : List (List ℕ)) (q : ℕ) (bytes : List ℕ) → q < 16 → GivesTheNext game me first lines q bytes

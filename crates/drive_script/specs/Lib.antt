@@ -1,10 +1,9 @@
-pub mod Numbers
-pub mod Hexes
-pub mod Grammar
 pub mod Lines
 pub mod Driven
+pub mod Coming
 pub mod Drive
 pub mod Hearing
+pub mod Bringing
 pub mod Ends
 pub mod Telling
 pub mod FairPlay

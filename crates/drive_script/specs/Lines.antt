@@ -25,6 +25,7 @@ use Rattle.definitions.specs.Logs.{chosen}
 use Rattle.definitions.specs.Findings.{is_clean}
 use Rattle.definitions.specs.Needs.{needs, may_choose}
 use Rattle.commitment.specs.Spelling.{frame_bytes}
+use Rattle.session_log.specs.Spelling.{log_bytes}
 use Rattle.peer_core.specs.declared.views.PlayerView.{PlayerView}
 use Rattle.peer_core.specs.Views.{player_view}
 
@@ -59,7 +60,7 @@ abbrev pub found_text : Option Finding → List ℕ
 found_text None = []
 found_text (Some f) = caught_text f
 
--- what is written about a frame: this, from whom it came, and its place
+-- a line of this word, a player, and a place
 unfoldable pub taken_text : List ℕ → (q place : ℕ) → List ℕ
 taken_text word q place = word ++ decimal q ++ codes " " ++ decimal place ++ codes "\n"
 
@@ -75,6 +76,17 @@ got_text q place Far = taken_text (codes "far ") q place
 got_text q place Foreign = foreign_text q
 got_text q place (G.Caught f) = caught_text f
 got_text q place Closed = []
+
+-- what is written about a player's greeting in its bytes, about the place whose frame it wants, and about a byte of them, at this
+-- place of all that came from it, that no frame can go on with
+unfoldable pub hello_text : (q : ℕ) → List ℕ
+hello_text q = codes "hello " ++ decimal q ++ codes "\n"
+
+abbrev pub want_text : (q place : ℕ) → List ℕ
+want_text q place = taken_text (codes "want ") q place
+
+abbrev pub bad_text : (q place : ℕ) → List ℕ
+bad_text q place = taken_text (codes "bad ") q place
 
 -- the word for one of a turn's two frames
 abbrev pub what_name : What → List ℕ
@@ -98,6 +110,15 @@ entry_text (Got q f) = []
 -- what is written about the entries of the log behind the first so many
 unfoldable pub added_text : ℕ → List Entry → List ℕ
 added_text count log = flat_map entry_text (drop count log)
+
+-- the bytes of a log as a field of a line, and nothing where there is none
+abbrev pub log_field : List ℕ → List ℕ
+log_field [] = []
+log_field (b ∷ bytes) = codes " " ++ encode_lower (b ∷ bytes)
+
+-- what is written where the log is to be printed: all of its bytes
+unfoldable pub log_text : Game → ℕ → List Entry → List ℕ
+log_text game me h = (codes "log" ++ log_field (log_bytes game.id me h)) ++ codes "\n"
 
 -- what is written about a need
 unfoldable pub need_text : Need → List ℕ

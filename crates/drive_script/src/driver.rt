@@ -1,29 +1,41 @@
 //! A peer that is driven by a script, and what becomes of the script's lines.
 
-ghost use Rattle.std.specs.Prelude.{◌≡◌, ◌<◌, ◌≤◌, ◌+◌, ◌∷◌, List, ℕ, length, IsTrue};
+ghost use Rattle.std.specs.Prelude.{◌≡◌, ◌<◌, ◌≤◌, ◌+◌, ◌*◌, ◌∷◌, List, ℕ, false, length, drop, IsTrue};
 ghost use Rattle.definitions.specs.Logs.{chosen};
 ghost use Rattle.definitions.specs.Advance.{advance};
 ghost use Rattle.definitions.specs.Needs.{choice_fault};
 ghost use Rattle.definitions.specs.Findings.{is_clean};
 ghost use Rattle.definitions.specs.Answers.{got_answer, place_of};
 ghost use Rattle.definitions.specs.Steps.{after_choice, after_got};
+ghost use Rattle.script_grammar.specs.Grammar.{IsFew, is_bad};
+ghost use Rattle.drive_script.specs.Driven.{fresh, reader_of, with_log};
+ghost use Rattle.drive_script.specs.Coming.{frame_text, log_after};
 ghost use Rattle.drive_script.specs.Drive.{said_behind};
 ghost use Rattle.drive_script.specs.Telling.{is_logged};
-ghost use Rattle.drive_script.specs.Hearing.{driven_from, AnswersBy, Counts, OnTaken};
+ghost use Rattle.drive_script.specs.Hearing.{driven_from, bytes_from, rest_from, part_text, is_last, AnswersBy, Counts, HasBefore, MayCome, Unless};
+ghost use Rattle.text_io.specs.Frame.{after_text};
 
-use crate::grammar::{DriveLine, read_line};
+use crate::readers::Readers;
 use definitions::{GotAnswer, Move, Nonce, OwnFault, PlayerId, Turn, TurnFrame};
 use peer_core::{Peer, place_of};
+use script_grammar::{DriveLine, Piece, read_line};
 use std::marker::Model;
+use wire_frames::{FedWhat, Frame, Place};
 
 /// The most lines that a script has.
 const LINES: u32 = 1_048_576;
 
-/// What became of a line.
+/// The peer's answer to a frame of this place. The log had so many entries before.
 #[derive(Clone, Copy)]
-pub(crate) enum Heard {
-    /// It is in no grammar, or one too many, and nothing changed.
-    Bad,
+pub(crate) struct Reply {
+    pub(crate) place: u64,
+    pub(crate) answer: GotAnswer,
+    pub(crate) entries: usize,
+}
+
+/// What became of a line that is told at once.
+#[derive(Clone, Copy)]
+pub(crate) enum Answered {
     /// It was passed over.
     Nothing,
     /// The player chose, which is refused where there is a fault. The turn is the one that was to be chosen, and the
@@ -33,13 +45,50 @@ pub(crate) enum Heard {
         fault: Option<OwnFault>,
         entries: usize,
     },
-    /// A frame of this place came from a player, and the peer answered it. The log had so many entries before.
-    Received {
-        from: PlayerId,
-        place: u64,
-        answer: GotAnswer,
-        entries: usize,
-    },
+    /// A frame came from a player, and the peer answered it.
+    Received(PlayerId, Reply),
+    /// The log is to be printed.
+    Log,
+}
+
+/// What became of a line.
+#[derive(Drop)]
+pub(crate) enum Heard {
+    /// It is in no grammar, or one too many, and nothing changed.
+    Bad,
+    /// It is to be told.
+    Line(Answered),
+    /// It brings these bytes from a player, which are to be read.
+    Bytes(PlayerId, Piece),
+}
+
+/// What was found in bytes that come from a player, and what became of it.
+#[derive(Clone, Copy)]
+pub(crate) enum Found {
+    /// No further frame is whole.
+    More,
+    /// The player greets.
+    Hello,
+    /// The player wants the frame of a place.
+    Want(Place),
+    /// A frame of a turn, which the peer answered.
+    Received(Reply),
+    /// A byte at this place of all that came from the player, with which no frame can go on.
+    Bad(u64),
+}
+
+/// What was found, and how many of the bytes were used.
+#[derive(Clone, Copy)]
+pub(crate) struct Part {
+    pub(crate) used: usize,
+    pub(crate) found: Found,
+}
+
+/// Whether nothing is found behind it.
+pub(crate) fn is_last(found: &Found) -> bool
+    ensures { result ≡ is_last found.now }
+{
+    matches!(found, Found::More | Found::Bad(_))
 }
 
 /// Lets the peer's player choose, and then makes what the peer may make by itself. A choice that is refused changes nothing.
@@ -78,36 +127,42 @@ fn receive_and_advance(peer: &mut Peer, from: PlayerId, frame: &TurnFrame) -> Go
     answer
 }
 
-/// A peer and the number of its script's lines so far, at most 1,048,576.
+/// A peer, readers of the bytes that come from the players, and the number of the script's lines so far, at most 1,048,576.
 #[derive(Drop)]
 pub(crate) struct Driver {
     peer: Peer,
+    readers: Readers,
     lines: u32,
 }
 
 impl Model for Driver {
-    ghost use Rattle.std.specs.Prelude.{◌≤◌};
+    ghost use Rattle.std.specs.Prelude.{◌≤◌, ◌*◌, ℕ, get_or};
+    ghost use Rattle.wire_frames.specs.Reading.{at_start};
     ghost use Rattle.drive_script.specs.Driven.{Driven};
 
     ghost Value = { Driven };
 
-    ghost view = { λ d. record { game = d.peer.game; me = d.peer.me; entries = d.peer.entries; lines = d.lines } };
+    ghost view = { λ d. record { game = d.peer.game; me = d.peer.me; state = record { log = d.peer.entries; readers = d.readers }; lines = d.lines } };
 
-    ghost invariant = { λ d. d.lines ≤ 1048576 };
+    ghost invariant = { λ d. (d.lines ≤ 1048576) × ((q : ℕ) → (get_or d.readers q at_start).place ≤ 512 * d.lines) };
 }
 
 impl Driver {
     /// A driver of this peer, which makes first what it may make by itself.
     pub(crate) fn new(mut peer: Peer) -> Driver
-        ensures { result ≡ record { game = peer.game; me = peer.me; entries = advance peer.game peer.me peer.entries; lines = 0 } }
+        ensures { result ≡ record { game = peer.game; me = peer.me; state = fresh (advance peer.game peer.me peer.entries); lines = 0 } }
     {
         peer.advance();
-        Driver { peer, lines: 0 }
+        Driver {
+            peer,
+            readers: Readers::new(),
+            lines: 0,
+        }
     }
 
     /// The peer.
     pub(crate) fn peer(&self) -> &Peer
-        ensures { result.now ≡ record { game = self.now.game; me = self.now.me; entries = self.now.entries } }
+        ensures { result.now ≡ record { game = self.now.game; me = self.now.me; entries = self.now.state.log } }
     {
         &self.peer
     }
@@ -124,7 +179,8 @@ impl Driver {
     fn said(&self, line: &[u8]) -> DriveLine
         requires { length line.now ≤ 1024 }
         ensures value { result ≡ said_behind self.now.lines line.now }
-        ensures few { OnTaken result (self.now.lines < 1048576) }
+        ensures known { IsFew result }
+        ensures few { Unless (is_bad result) (self.now.lines < 1048576) }
     {
         if self.lines >= LINES {
             return DriveLine::Bad;
@@ -132,27 +188,24 @@ impl Driver {
         read_line(line)
     }
 
-    /// Passes over a line.
-    fn pass_over(&mut self) -> Heard
+    /// Counts a line, which may bring 512 bytes from any player.
+    fn count(&mut self)
         requires { self.old.lines < 1048576 }
-        ensures heard { result ≡ Heard.Nothing }
         ensures after { self.new ≡ record self.old { lines = self.old.lines + 1 } }
+        ensures few { (q : ℕ) → (reader_of self.new.state q).place + 512 ≤ 512 * self.new.lines }
     {
         self.lines += 1;
-        Heard::Nothing
     }
 
     /// Lets the player choose.
-    fn choose(&mut self, mv: Move, nonce: Nonce) -> Heard
-        requires { self.old.lines < 1048576 }
-        ensures heard { result ≡ Heard.Choice (length (chosen self.old.me self.old.entries)) (choice_fault self.old.game self.old.me self.old.entries mv) (length self.old.entries) }
-        ensures after { self.new ≡ record self.old { entries = after_choice self.old.game self.old.me self.old.entries mv nonce; lines = self.old.lines + 1 } }
+    fn choose(&mut self, mv: Move, nonce: Nonce) -> Answered
+        ensures answer { result ≡ Answered.Choice (length (chosen self.old.me self.old.state.log)) (choice_fault self.old.game self.old.me self.old.state.log mv) (length self.old.state.log) }
+        ensures after { self.new ≡ record self.old { state = with_log self.old.state (after_choice self.old.game self.old.me self.old.state.log mv nonce) } }
     {
-        self.lines += 1;
         let turn = self.peer.choice().turn;
         let entries = self.peer.entries().len();
         let fault = choose_and_advance(&mut self.peer, mv, nonce);
-        Heard::Choice {
+        Answered::Choice {
             turn,
             fault,
             entries,
@@ -160,35 +213,82 @@ impl Driver {
     }
 
     /// Hands a frame to the peer.
-    fn receive(&mut self, from: PlayerId, frame: &TurnFrame) -> Heard
-        requires { self.old.lines < 1048576 }
-        ensures heard { result ≡ Heard.Received from (place_of self.old.game frame.now) (got_answer self.old.game self.old.me self.old.entries from frame.now) (length self.old.entries) }
-        ensures after { self.new ≡ record self.old { entries = after_got self.old.game self.old.me self.old.entries from frame.now; lines = self.old.lines + 1 } }
+    fn receive(&mut self, from: PlayerId, frame: &TurnFrame) -> Reply
+        ensures place { result.place ≡ place_of self.old.game frame.now }
+        ensures answer { result.answer ≡ got_answer self.old.game self.old.me self.old.state.log from frame.now }
+        ensures entries { result.entries ≡ length self.old.state.log }
+        ensures after { self.new ≡ record self.old { state = with_log self.old.state (after_got self.old.game self.old.me self.old.state.log from frame.now) } }
     {
-        self.lines += 1;
         let place = place_of(self.peer.session(), frame);
         let entries = self.peer.entries().len();
         let answer = receive_and_advance(&mut self.peer, from, frame);
-        Heard::Received {
-            from,
+        Reply {
             place,
             answer,
             entries,
         }
     }
 
-    /// Takes the next line, which has at most 1,024 bytes. No line comes behind a finding.
+    /// Takes a frame that came whole, and hands it to the peer if it is one of a turn.
+    fn take(&mut self, from: PlayerId, frame: &Frame) -> Found
+        ensures text { part_text result from self.new.state.log ≡ frame_text self.old.game self.old.me self.old.state.log from frame.now }
+        ensures after { self.new ≡ record self.old { state = with_log self.old.state (log_after self.old.game self.old.me self.old.state.log from frame.now) } }
+        ensures before { HasBefore result self.new.state.log }
+        ensures further { is_last result ≡ false }
+    {
+        match frame {
+            Frame::Hello { .. } => Found::Hello,
+            Frame::Want { place } => Found::Want(*place),
+            Frame::Turn(frame) => Found::Received(self.receive(from, frame)),
+        }
+    }
+
+    /// Takes the next line, which has at most 1,024 bytes. No line comes behind a finding. Bytes that the line brings are still
+    /// to be read.
     pub(crate) fn hear(&mut self, line: &[u8]) -> Heard
         requires short { length line.now ≤ 1024 }
-        requires clean { IsTrue (is_clean self.old.game self.old.entries) }
-        ensures answers { (lines : List (List ℕ)) → AnswersBy result (driven_from self.old (line.now ∷ lines)) (driven_from self.new lines) (self.old.lines + 1) self.new.entries }
-        ensures counts { Counts result self.old.lines self.new.lines self.new.entries }
+        requires clean { IsTrue (is_clean self.old.game self.old.state.log) }
+        ensures answers { (lines : List (List ℕ)) → AnswersBy result (driven_from self.old (line.now ∷ lines)) (self.old.lines + 1) self.new lines }
+        ensures counts { Counts result self.old.lines self.new }
     {
-        match self.said(line) {
+        let said = self.said(line);
+        if let DriveLine::Bad = said {
+            return Heard::Bad;
+        }
+        self.count();
+        match said {
             DriveLine::Bad => Heard::Bad,
-            DriveLine::Nothing => self.pass_over(),
-            DriveLine::Choose(mv, nonce) => self.choose(mv, nonce),
-            DriveLine::Got(from, frame) => self.receive(from, &frame),
+            DriveLine::Nothing => Heard::Line(Answered::Nothing),
+            DriveLine::Choose(mv, nonce) => Heard::Line(self.choose(mv, nonce)),
+            DriveLine::Got(from, frame) => {
+                Heard::Line(Answered::Received(from, self.receive(from, &frame)))
+            }
+            DriveLine::Bytes(from, piece) => Heard::Bytes(from, piece),
+            DriveLine::Log => Heard::Line(Answered::Log),
+        }
+    }
+
+    /// Reads on in the bytes that come from a player, up to the end of the first frame that ends in these, and hands it to the
+    /// peer if it is one of a turn.
+    pub(crate) fn hear_part(&mut self, from: PlayerId, bytes: &[u8]) -> Part
+        requires { MayCome self.old from bytes.now }
+        ensures answers { (lines : List (List ℕ)) → bytes_from self.old from bytes.now lines ≡
+            after_text (part_text result.found from self.new.state.log) (rest_from (is_last result.found) self.new from (drop result.used bytes.now) lines) }
+        ensures before { HasBefore result.found self.new.state.log }
+        ensures some { is_last result.found ≡ false → 0 < result.used }
+        ensures within { result.used ≤ length bytes.now }
+        ensures lines { self.new.lines ≡ self.old.lines }
+        ensures may { IsTrue (is_clean self.new.game self.new.state.log) → MayCome self.new from (drop result.used bytes.now) }
+    {
+        let fed = self.readers.feed(from, bytes);
+        let found = match fed.what {
+            FedWhat::More => Found::More,
+            FedWhat::Bad(place) => Found::Bad(place),
+            FedWhat::Whole(frame) => self.take(from, &frame),
+        };
+        Part {
+            used: fed.used,
+            found,
         }
     }
 }

@@ -1,10 +1,12 @@
 //! Laws about scripts: a function that does nothing, whose clauses are proved.
 
-ghost use Rattle.drive_script.specs.Laws.{PeersPlayFair, LogsAndLinesDecide, TextsTellLogs};
+ghost use Rattle.drive_script.specs.Laws.{PeersPlayFair, LinesAreOneStream, LogsAndLinesDecide, TextsTellLogs};
 
-/// How a run over a script ends, and what the log shows that is behind its text.
+/// How a run over a script ends, what the log shows that is behind its text, and that what comes from a player in lines of bytes
+/// is one stream of frames.
 pub fn scripts()
     ensures decide { LogsAndLinesDecide }
     ensures tell { TextsTellLogs }
     ensures fair { PeersPlayFair }
+    ensures streams { LinesAreOneStream }
 {}

@@ -63,7 +63,7 @@ pub(crate) fn caught_line(finding: &Finding) -> Line
     line
 }
 
-/// What is written about a frame: this word, from whom it came, and its place.
+/// A line of this word, a player, and a place.
 #[tactic(auto, unfolding(crate::specs::Lines::taken_text))]
 fn taken_line(word: &[u8], from: PlayerId, place: u64) -> Line
     requires { length word.now ≤ 16 }
@@ -78,6 +78,33 @@ fn taken_line(word: &[u8], from: PlayerId, place: u64) -> Line
         .unwrap();
     line.push(b'\n');
     line
+}
+
+/// What is written about a player's greeting.
+#[tactic(auto, unfolding(crate::specs::Lines::hello_text))]
+pub(crate) fn hello_line(from: PlayerId) -> Line
+    ensures { result.items ≡ L.hello_text from }
+{
+    let mut line = ArrayVec::new();
+    line.try_extend_from_slice(b"hello ").unwrap();
+    line.try_extend_from_slice(Buffer::new().format(from).as_bytes())
+        .unwrap();
+    line.push(b'\n');
+    line
+}
+
+/// What is written about the place whose frame a player wants.
+pub(crate) fn want_line(from: PlayerId, place: u32) -> Line
+    ensures { result.items ≡ L.want_text from place }
+{
+    taken_line(b"want ", from, u64::from(place))
+}
+
+/// What is written about a byte at this place of what came from a player, with which no frame can go on.
+pub(crate) fn bad_byte_line(from: PlayerId, place: u64) -> Line
+    ensures { result.items ≡ L.bad_text from place }
+{
+    taken_line(b"bad ", from, place)
 }
 
 /// What is written about a frame that is not the sender's.

@@ -12,62 +12,16 @@ ghost use Rattle.drive_script.specs.Lines.{added_text, found_text};
 ghost use Rattle.drive_script.specs.Hearing.{driven_from};
 ghost use Rattle.drive_script.specs.Ends.{ScriptEnds};
 
-use crate::driver::{Driver, Heard};
-use crate::printing::{put_choice, put_end, put_received, put_start};
+use crate::answering::{answer, bad_line};
+use crate::driver::Driver;
+use crate::printing::{put_end, put_start};
 use peer_core::Peer;
 use station::{Sink, Source};
-use text_io::{LineReader, LoopTurn, NextLine, Status, TextName, Written};
-
-/// The status of the line that comes next, if it is in no grammar.
-fn bad_line(driver: &Driver) -> Status
-    ensures { result ≡ Status.BadLine TextName.Script (driver.now.lines + 1) }
-{
-    Status::BadLine {
-        text: TextName::Script,
-        line: driver.next_line(),
-    }
-}
-
-/// Takes the line that was read, and answers it.
-fn answer<O: Sink>(driver: &mut Driver, line: &[u8], out: &mut O) -> LoopTurn
-    requires short { length line.now ≤ 1024 }
-    requires clean { IsTrue (is_clean driver.old.game driver.old.entries) }
-    ensures told { IsSome (O.held out.old) → IsSome (O.held out.new) }
-    ensures text { IsSome (O.held out.old) → (lines : List (List ℕ)) → Turned
-        (known (O.held out.old)) (driven_from driver.old (line.now ∷ lines))
-        (known (O.held out.new)) (driven_from driver.new lines) result }
-    ensures later { O.faults out.old ≤ O.faults out.new }
-    ensures cause { TurnCause ScriptEnds ⊥ (Rose (O.faults out.old) (O.faults out.new)) result }
-    ensures steady { MatchTurn result (O.faults out.new ≡ O.faults out.old) (λ s. UnlessOutputFault s (O.faults out.new ≡ O.faults out.old)) }
-    ensures counted { OnOn result ((driver.new.lines ≡ driver.old.lines + 1) × (driver.new.lines ≤ 1048576)) }
-    ensures read { MatchTurn result (Unit {0}) (λ s. OnDone s ⊥) }
-{
-    match driver.hear(line) {
-        Heard::Bad => LoopTurn::Over(bad_line(driver)),
-        Heard::Nothing => LoopTurn::On,
-        Heard::Choice {
-            turn,
-            fault,
-            entries,
-        } => match put_choice(driver.peer(), turn, fault, entries, out) {
-            Written::All => LoopTurn::On,
-            Written::Failed => LoopTurn::Over(Status::OutputFault),
-        },
-        Heard::Received {
-            from,
-            place,
-            answer,
-            entries,
-        } => match put_received(driver.peer(), from, place, &answer, entries, out) {
-            Written::All => LoopTurn::On,
-            Written::Failed => LoopTurn::Over(Status::OutputFault),
-        },
-    }
-}
+use text_io::{LineReader, LoopTurn, NextLine, Status, Written};
 
 /// Writes the end of a peer whose log has a finding.
 fn end_caught<O: Sink>(driver: &Driver, out: &mut O) -> Status
-    requires { is_clean driver.now.game driver.now.entries ≡ false }
+    requires { is_clean driver.now.game driver.now.state.log ≡ false }
     ensures told { IsSome (O.held out.old) → IsSome (O.held out.new) }
     ensures text { IsSome (O.held out.old) → (lines : List (List ℕ)) → Ended (known (O.held out.old)) (known (O.held out.new)) (driven_from driver.now lines) result }
     ensures later { O.faults out.old ≤ O.faults out.new }
@@ -150,11 +104,11 @@ fn follow<I: Source, O: Sink>(
     input: &mut I,
     out: &mut O,
 ) -> Status
-    requires { entries ≤ length driver.old.entries }
+    requires { entries ≤ length driver.old.state.log }
     ensures told_in { IsSome (I.left input.old) → IsSome (I.left input.new) }
     ensures told_out { IsSome (O.held out.old) → IsSome (O.held out.new) }
     ensures text { IsSome (I.left input.old) → IsSome (O.held out.old) → Ended (known (O.held out.old)) (known (O.held out.new))
-        (after_text (added_text entries driver.old.entries ++ found_text (finding_of_log driver.old.game driver.old.entries)) (driven_from driver.old (lines_of (known (I.left input.old))))) result }
+        (after_text (added_text entries driver.old.state.log ++ found_text (finding_of_log driver.old.game driver.old.state.log)) (driven_from driver.old (lines_of (known (I.left input.old))))) result }
     ensures later_in { I.faults input.old ≤ I.faults input.new }
     ensures later_out { O.faults out.old ≤ O.faults out.new }
     ensures cause { EndCause ScriptEnds (Rose (I.faults input.old) (I.faults input.new)) (Rose (O.faults out.old) (O.faults out.new)) result }

@@ -4,13 +4,17 @@ ghost use Rattle.std.specs.Prelude.{◌≡◌, ◌≤◌, ◌++◌, flat_map, le
 ghost use Rattle.definitions.specs.World.{players_of};
 ghost use Rattle.station.specs.Outside.{known, Rose};
 ghost use Rattle.text_io.specs.Texts.{Wrote, OnUnwritten, OnWritten};
-ghost use Rattle.drive_script.specs.Lines.{entry_text, need_text, needs_text, stand_text, players_text, last_text, end_text, choice_text, got_text, found_text, added_text};
+ghost use Rattle.drive_script.specs.Lines.{entry_text, need_text, needs_text, stand_text, players_text, last_text, end_text, choice_text, found_text, added_text};
+ghost use Rattle.drive_script.specs.Hearing.{reply_text, part_text, answered_text, HasAll, HasBefore};
 ghost use Rattle.log_scan.specs.First.{finding_of_log};
 
+use crate::driver::{Answered, Found, Reply};
 use crate::lines::{
-    caught_line, choice_line, due_line, entry_line, got_line, need_line, player_line,
+    bad_byte_line, caught_line, choice_line, due_line, entry_line, got_line, hello_line, need_line,
+    player_line, want_line,
 };
-use definitions::{Entry, GotAnswer, Need, OwnFault, PlayerId, Turn};
+use crate::logging::put_log;
+use definitions::{Entry, Need, OwnFault, PlayerId, Turn};
 use peer_core::Peer;
 use station::Sink;
 use text_io::{Written, put};
@@ -141,7 +145,7 @@ pub(crate) fn put_end<O: Sink>(peer: &Peer, out: &mut O) -> Written
 }
 
 /// Writes the answer to a choice of the turn, and what is told of the log's entries behind the first so many.
-pub(crate) fn put_choice<O: Sink>(
+fn put_choice<O: Sink>(
     peer: &Peer,
     turn: Turn,
     fault: Option<OwnFault>,
@@ -161,25 +165,57 @@ pub(crate) fn put_choice<O: Sink>(
     }
 }
 
-/// Writes the answer to a frame that came, and what is told of the log's entries behind the first so many.
-pub(crate) fn put_received<O: Sink>(
-    peer: &Peer,
-    from: PlayerId,
-    place: u64,
-    answer: &GotAnswer,
-    entries: usize,
-    out: &mut O,
-) -> Written
-    requires { entries ≤ length peer.now.entries }
+/// Writes the answer to a frame that came, and what is told of the entries that the log has by now behind those before.
+fn put_reply<O: Sink>(peer: &Peer, from: PlayerId, reply: &Reply, out: &mut O) -> Written
+    requires { reply.now.entries ≤ length peer.now.entries }
     ensures told { IsSome (O.held out.old) → IsSome (O.held out.new) }
-    ensures text { IsSome (O.held out.old) → Wrote (known (O.held out.old)) (known (O.held out.new)) (got_text from place answer.now ++ added_text entries peer.now.entries) result }
+    ensures text { IsSome (O.held out.old) → Wrote (known (O.held out.old)) (known (O.held out.new)) (reply_text from reply.now peer.now.entries) result }
     ensures later { O.faults out.old ≤ O.faults out.new }
     ensures cause { OnUnwritten result (Rose (O.faults out.old) (O.faults out.new)) }
     ensures steady { OnWritten result (O.faults out.new ≡ O.faults out.old) }
 {
-    match put(out, got_line(from, place, answer).as_slice()) {
-        Written::All => put_added(peer, entries, out),
+    match put(out, got_line(from, reply.place, &reply.answer).as_slice()) {
+        Written::All => put_added(peer, reply.entries, out),
         Written::Failed => Written::Failed,
+    }
+}
+
+/// Writes what is told of a line.
+pub(crate) fn put_answered<O: Sink>(peer: &Peer, answered: &Answered, out: &mut O) -> Written
+    requires { HasAll answered.now peer.now.entries }
+    ensures told { IsSome (O.held out.old) → IsSome (O.held out.new) }
+    ensures text { IsSome (O.held out.old) → Wrote (known (O.held out.old)) (known (O.held out.new)) (answered_text peer.now.game peer.now.me answered.now peer.now.entries) result }
+    ensures later { O.faults out.old ≤ O.faults out.new }
+    ensures cause { OnUnwritten result (Rose (O.faults out.old) (O.faults out.new)) }
+    ensures steady { OnWritten result (O.faults out.new ≡ O.faults out.old) }
+{
+    match answered {
+        Answered::Nothing => put(out, b""),
+        Answered::Choice {
+            turn,
+            fault,
+            entries,
+        } => put_choice(peer, *turn, *fault, *entries, out),
+        Answered::Received(from, reply) => put_reply(peer, *from, reply, out),
+        Answered::Log => put_log(peer, out),
+    }
+}
+
+/// Writes what is told of what was found in bytes that came from a player.
+pub(crate) fn put_part<O: Sink>(peer: &Peer, from: PlayerId, found: &Found, out: &mut O) -> Written
+    requires { HasBefore found.now peer.now.entries }
+    ensures told { IsSome (O.held out.old) → IsSome (O.held out.new) }
+    ensures text { IsSome (O.held out.old) → Wrote (known (O.held out.old)) (known (O.held out.new)) (part_text found.now from peer.now.entries) result }
+    ensures later { O.faults out.old ≤ O.faults out.new }
+    ensures cause { OnUnwritten result (Rose (O.faults out.old) (O.faults out.new)) }
+    ensures steady { OnWritten result (O.faults out.new ≡ O.faults out.old) }
+{
+    match found {
+        Found::More => put(out, b""),
+        Found::Hello => put(out, hello_line(from).as_slice()),
+        Found::Want(place) => put(out, want_line(from, *place).as_slice()),
+        Found::Received(reply) => put_reply(peer, from, reply, out),
+        Found::Bad(place) => put(out, bad_byte_line(from, *place).as_slice()),
     }
 }
 

@@ -1,14 +1,14 @@
 -- A line that has a form is spelled so, and what is spelled so has the form.
-use Rattle.std.proofs.Common.{◌≡◌, ℕ, suc, ◌^◌, ◌<◌, true, cond, eqb, List, [], ◌∷◌, ◌++◌, length, take, drop, Option, Some, None, refl, sym, ap, subst, ◌∙◌}
-use Rattle.std.specs.Prelude.{bytes_eq, option_map, codes}
-use Rattle.std.specs.Char.{is_ascii_digit}
-use Rattle.std.specs.Str.{all_ascii_digits}
+use Rattle.std.proofs.Common.{◌≡◌, ℕ, ◌^◌, ◌<◌, true, cond, eqb, List, [], ◌∷◌, ◌++◌, length, take, drop, Option, Some, None, refl, sym, ap, subst, ◌∙◌}
+use Rattle.std.specs.Prelude.{bytes_eq, codes}
 use Rattle.std.specs.Fmt.{decimal}
 use Rattle.std.specs.Cmp.Lexicographic.{same_text}
-use Rattle.std.proofs.lemmas.Bool.{eqb-true, eq-eqb, and_parts, and_from}
+use Rattle.std.proofs.lemmas.Bool.{eqb-true, eq-eqb, and_from}
 use Rattle.std.proofs.lemmas.List.{take_at, drop_at, take-append-drop}
-use Rattle.grid_world.specs.Lines.{◌>>=◌, fields_of, line_of, digits_len, number_of, behind, number_at, field_at, is_ended, one_of, two_of, three_of}
-use Rattle.grid_world.proofs.Numbers.{when_some, some_when, number_of-some, number_of-decimal, decimal_digits}
+use Rattle.byte_fields.specs.Numbers.{digits_len, number_of}
+use Rattle.byte_fields.proofs.Decimals.{when_some, some_when, number_of-some, number_of-decimal, decimal_digits}
+use Rattle.byte_fields.proofs.Placed.{digits_len-digits, map_some}
+use Rattle.grid_world.specs.Lines.{◌>>=◌, fields_of, line_of, behind, number_at, field_at, is_ended, one_of, two_of, three_of}
 
 bind_some : {A B : Type 0} (o : Option A) (f : A → Option B) (y : B) → (o >>= f) ≡ Some y → (x : A) × (o ≡ Some x) × (f x ≡ Some y)
 bind_some None f y e = absurd cc
@@ -30,10 +30,6 @@ behind-front front rest = rw (take_at front rest (length front) refl, bytes_eq-s
 
 -- ---- a number behind a space
 
-map_some : {A B : Type 0} (f : A → B) (o : Option A) (y : B) → option_map f o ≡ Some y → (x : A) × (o ≡ Some x) × (f x ≡ y)
-map_some f None y e = absurd cc
-map_some f (Some x) y e = (x, refl, cc)
-
 -- a field that was read, and the text behind it
 record IsField (text : List ℕ) (x : ℕ × List ℕ) : Type 0 where
   spelled : text ≡ 32 ∷ decimal x.0 ++ x.1
@@ -53,13 +49,6 @@ field_at-some [] x e = absurd cc
 field_at-some (b ∷ text) x e =
     let kept = when_some (eqb b 32) (number_at text) x e in
     subst (λ (c : ℕ). IsField (c ∷ text) x) (sym (eqb-true b 32 kept.0)) (number_at-some text x kept.1)
-
--- digits end where other bytes begin
-digits_len-digits : (ds rest : List ℕ) → all_ascii_digits ds ≡ true → digits_len rest ≡ 0 → digits_len (ds ++ rest) ≡ length ds
-digits_len-digits [] rest digits other = other
-digits_len-digits (d ∷ ds) rest digits other =
-    let both = and_parts (is_ascii_digit d) (all_ascii_digits ds) digits in
-    rw both.0 (ap suc (digits_len-digits ds rest both.1 other))
 
 field_at-spelled : (n : ℕ) (rest : List ℕ) → n < 2 ^ 32 → digits_len rest ≡ 0 → field_at (32 ∷ decimal n ++ rest) ≡ Some (n, rest)
 unfolding field_at

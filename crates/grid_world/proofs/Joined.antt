@@ -6,9 +6,9 @@ use Rattle.std.specs.Str.{all_ascii_digits}
 use Rattle.std.specs.Fmt.{decimal}
 use Rattle.std.proofs.lemmas.Bool.{cases_Bool, eqb-true, ne_eqb, and_parts, not-true, leb-true}
 use Rattle.std.proofs.lemmas.List.{take_at, drop_at, length-append}
+use Rattle.byte_fields.proofs.Decimals.{decimal_digits}
 use Rattle.grid_world.specs.Lines.{joined, fields_of, line_of, lines_of, line_len, onto_first}
 use Rattle.grid_world.proofs.FirstLine.{lines_of-first}
-use Rattle.grid_world.proofs.Numbers.{decimal_digits}
 
 joined-onto_first : (b : ℕ) (lines : List (List ℕ)) → joined (onto_first b lines) ≡ b ∷ joined lines
 joined-onto_first b [] = refl

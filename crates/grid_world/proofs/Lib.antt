@@ -1,6 +1,5 @@
 pub mod Facts
 pub mod FirstLine
-pub mod Numbers
 pub mod Forms
 pub mod Joined
 pub mod Taken

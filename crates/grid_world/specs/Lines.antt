@@ -1,7 +1,7 @@
 -- Lines of a text: how one is spelled, and what one says.
-use Rattle.std.specs.Prelude.{ℕ, suc, ◌+◌, ◌-◌, ◌*◌, Bool, List, [], ◌∷◌, ◌++◌, length, take, drop, Option, Some, None, nat_lt, ◌==◌, ◌&&◌, if◌then◌else◌, bytes_eq, codes, option_map}
-use Rattle.std.specs.Char.{is_ascii_digit}
+use Rattle.std.specs.Prelude.{ℕ, suc, Bool, List, [], ◌∷◌, ◌++◌, length, take, drop, Option, Some, None, ◌==◌, if◌then◌else◌, bytes_eq, codes, option_map}
 use Rattle.std.specs.Fmt.{decimal}
+use Rattle.byte_fields.specs.Numbers.{digits_len, number_of}
 
 infixl 10 ◌>>=◌
 -- what the function gives of the value that is there
@@ -37,21 +37,6 @@ lines_of (b ∷ text) = if b == 10 then (10 ∷ []) ∷ lines_of text else onto_
 abbrev pub line_len : List ℕ → ℕ
 line_len [] = 0
 line_len (b ∷ text) = if b == 10 then 1 else suc (line_len text)
-
--- how many digits stand at the front
-abbrev pub digits_len : List ℕ → ℕ
-digits_len [] = 0
-digits_len (b ∷ text) = if is_ascii_digit b then suc (digits_len text) else 0
-
--- the number that the digits go on to spell after this one, if it stays below 2 ^ 32
-abbrev pub value_from : ℕ → List ℕ → Option ℕ
-value_from n [] = Some n
-value_from n (d ∷ ds) = if is_ascii_digit d && nat_lt (n * 10 + (d - 48)) 4294967296 then value_from (n * 10 + (d - 48)) ds else None
-
--- the number that the digits spell in its one form: below 2 ^ 32, and no 0 in front but that of 0 itself
-abbrev pub number_of : List ℕ → Option ℕ
-number_of [] = None
-number_of (d ∷ ds) = if d == 48 then (if length ds == 0 then Some 0 else None) else value_from 0 (d ∷ ds)
 
 -- what stands behind this front
 abbrev pub behind : List ℕ → List ℕ → Option (List ℕ)

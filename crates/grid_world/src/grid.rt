@@ -1,6 +1,6 @@
 //! A rectangle of cells, some of which are walls.
 
-ghost use Rattle.std.specs.Prelude.{◌≡◌, ◌↔◌, ◌<◌, ◌+◌, ◌*◌, ◌/◌, ℕ, [], length, IsTrue, IfOk};
+ghost use Rattle.std.specs.Prelude.{◌≡◌, ◌<◌, ◌+◌, ◌*◌, ◌/◌, ℕ, length, IsTrue, IfOk};
 ghost use Rattle.definitions.specs.World as world;
 ghost use Rattle.definitions.specs.World.{is_inside, is_wall, is_open};
 ghost use Rattle.grid_world.specs.Grids.{IsGrid, AreRowsOf, words_of, has_bit};
@@ -143,13 +143,6 @@ impl Grid {
         let words = words_of_row(self.width);
         let first = usize::from(y) * words;
         &self.rows[first..first + words]
-    }
-
-    /// Whether the grid has no wall at all.
-    pub fn is_wall_free(&self) -> bool
-        ensures { IsTrue result ↔ (self.now.walls ≡ []) }
-    {
-        self.walls.is_empty()
     }
 
     /// The same grid once more.

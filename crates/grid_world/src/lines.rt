@@ -1,8 +1,10 @@
 //! The lines of a text, and the numbers that they say.
 
-ghost use Rattle.std.specs.Prelude.{◌≡◌, ℕ, ◌<◌, ◌≤◌, List, [], ◌∷◌, length, take, drop, option_map, codes};
+ghost use Rattle.std.specs.Prelude.{◌≡◌, ◌<◌, ◌≤◌, length, take, drop, option_map, codes};
 ghost use Rattle.grid_world.specs.Lines as lines;
-ghost use Rattle.grid_world.specs.Lines.{lines_of, line_len, value_from, number_of, is_ended, is_bare};
+ghost use Rattle.grid_world.specs.Lines.{line_len, is_ended, is_bare};
+
+use byte_fields::take_number;
 
 /// How many bytes the first line has, its LF counted.
 fn first_line_len(text: &[u8]) -> usize
@@ -27,56 +29,12 @@ pub(crate) fn take_line(text: &[u8]) -> (&[u8], &[u8])
     text.split_at(first_line_len(text))
 }
 
-/// How many digits stand at the front of the text.
-fn digits_len(text: &[u8]) -> usize
-    ensures value { result ≡ lines.digits_len text.now }
-    ensures within { result ≤ length text.now }
-{
-    for (i, b) in text.iter().enumerate() {
-        if !b.is_ascii_digit() {
-            return i;
-        }
-    }
-    text.len()
-}
-
-/// The number that the digits spell, if it is below 2 to the power of 32.
-fn read_value(digits: &[u8]) -> Option<u32>
-    ensures { result ≡ value_from 0 digits.now }
-{
-    let mut value = 0u32;
-    for digit in digits {
-        if !digit.is_ascii_digit() {
-            return None;
-        }
-        let next = u64::from(value) * 10 + u64::from(*digit - b'0');
-        if next > 4_294_967_295 {
-            return None;
-        }
-        value = next as u32;
-    }
-    Some(value)
-}
-
-/// The number that the digits spell in its one form.
-fn read_number(digits: &[u8]) -> Option<u32>
-    ensures { result ≡ number_of digits.now }
-{
-    match digits {
-        [] => None,
-        [b'0'] => Some(0),
-        [b'0', ..] => None,
-        _ => read_value(digits),
-    }
-}
-
 /// The number at the front of the text, and the text behind its digits.
 fn number_at(text: &[u8]) -> Option<(u32, &[u8])>
     ensures { option_map (λ x. (x.0, x.1.now)) result ≡ lines.number_at text.now }
 {
-    let (digits, rest) = text.split_at(digits_len(text));
-    let number = read_number(digits)?;
-    Some((number, rest))
+    let number = take_number(text, 0)?;
+    Some((number.value, &text[number.end..]))
 }
 
 /// The number behind one space at the front of the text, and the text behind its digits.

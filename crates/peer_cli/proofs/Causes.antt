@@ -1,10 +1,10 @@
 -- Causes: each status has its cause.
-use Rattle.std.proofs.Common.{Bool, List, None, Option, Some, [], ap, arith, false, inl, inr, refl, subst, sym, true, ℕ, ◌∙◌, ◌≡◌, ◌⊎◌}
-use Rattle.std.specs.Prelude.{Err, Ok, Result, nat_lt, if◌then◌else◌}
+use Rattle.std.proofs.Common.{Bool, List, None, Option, Some, ap, arith, false, inl, inr, refl, subst, sym, true, ℕ, ◌∙◌, ◌≡◌, ◌⊎◌}
+use Rattle.std.specs.Prelude.{Err, Ok, Result, nat_lt, option_map, if◌then◌else◌}
 use Rattle.std.proofs.lemmas.Bool.{lt-ltb, ltb-true}
 use Rattle.definitions.specs.World.{Game, players_of}
 use Rattle.text_io.specs.Ends.{Finished}
-use Rattle.text_io.specs.Frame.{Answer, EndCause, line_by_line}
+use Rattle.text_io.specs.Frame.{Answer, EndCause, after_text, line_by_line}
 use Rattle.text_io.specs.Lines.{lines_of}
 use Rattle.text_io.specs.declared.statuses.Status.{Status}
 use Rattle.text_io.specs.declared.statuses.Status.TheVariants.{InputFault, NoMemory, OutputFault, Usage}
@@ -15,17 +15,21 @@ use Rattle.grid_world.specs.Reading.{◌>>=◌, fault_of, game_at, said_by, sess
 use Rattle.definitions.specs.Findings.{is_clean}
 use Rattle.drive_script.specs.Drive.{bad_line, drive, drive_log, status_for}
 use Rattle.drive_script.proofs.Ends.{drive_status}
-use Rattle.peer_cli.specs.Causes.{HasCause, IsNamed, IsSet}
-use Rattle.peer_cli.specs.Games.{ended_by, front_of, with_player}
-use Rattle.peer_cli.specs.Program.{answer_of, answer_to, playing}
+use Rattle.old_log.specs.Old.{Fault, dropped_at, old_entries, old_fault}
+use Rattle.peer_cli.specs.Causes.{HasCause, IsNamed, IsSeated, IsSet}
+use Rattle.peer_cli.specs.Games.{Beginning, begun, empty_beginning, ended_by, front_of, log_front_of, old_beginning, with_log, with_player}
+use Rattle.peer_cli.specs.Program.{answer_of, answer_to, dropped_text, playing}
 use Rattle.peer_cli.specs.Words.{Command, Drive, command_of}
 
--- the answer where a session is set
-pub set_answer : (words : List (List ℕ)) (files : List ℕ → Option (List ℕ)) (input : List ℕ) (game : Game) (player : ℕ) → IsSet words files game player → answer_to words files input ≡ drive game player [] input
-set_answer words files input game player s =
-    ap (λ (o : Option Command). answer_of o files input) s.named.command ∙
-    ap (λ (r : Result Game SessionFault). playing player (with_player player (ended_by r)) input) s.named.read ∙
-    ap (λ (b : Bool). playing player (if b then Ok game else Err Usage) input) (lt-ltb player (players_of game) s.player_is)
+-- the answer where a run begins with this
+pub set_answer : (words : List (List ℕ)) (files : List ℕ → Option (List ℕ)) (input : List ℕ) (player : ℕ) (b : Beginning) → IsSet words files player b →
+    answer_to words files input ≡ after_text (dropped_text b.dropped) (drive b.game player b.first input)
+set_answer words files input player b s =
+    let old = option_map files s.old in
+    ap (λ (o : Option Command). answer_of o files input) s.seated.named.command ∙
+    ap (λ (r : Result Game SessionFault). playing player (with_log player (with_player player (ended_by r)) old) input) s.seated.named.read ∙
+    ap (λ (c : Bool). playing player (with_log player (if c then Ok b.game else Err Usage) old) input) (lt-ltb player (players_of b.game) s.seated.player_is) ∙
+    ap (λ (r : Result Beginning Status). playing player r input) s.begins
 
 -- a fault that is not of what is made last is of what came before
 bound_fault : (A B : Type 0) (r : Result A SessionFault) (f : A → B) (e : SessionFault) → (r >>= (λ x. Ok (f x))) ≡ Err e → fault_of r ≡ Some e
@@ -38,31 +42,47 @@ unfolding game_at session_fault
 fault_said text e h = bound_fault _ _ (said_by (L.lines_of text)) _ e h
 
 module _ (words : List (List ℕ)) (files : List ℕ → Option (List ℕ)) (input : List ℕ) where
-  played : (game : Game) (player : ℕ) → IsSet words files game player → (clean : Bool) → is_clean game (drive_log game player [] input) ≡ clean → (bad : Option ℕ) → bad_line 0 (lines_of input) ≡ bad →
+  played : (player : ℕ) (b : Beginning) → IsSet words files player b → (clean : Bool) → is_clean b.game (drive_log b.game player b.first input) ≡ clean → (bad : Option ℕ) → bad_line 0 (lines_of input) ≡ bad →
       HasCause words files input (status_for clean bad)
-  played game player set false e bad l = record { game = game; player = player; set = set; found = e }
-  played game player set true e None l = record { game = game; player = player; set = set; clean = e; lines = l }
-  played game player set true e (Some n) l = record { game = game; player = player; set = set; clean = e; lines = l }
+  played player b set false e bad l = record { player = player; begins = b; set = set; found = e }
+  played player b set true e None l = record { player = player; begins = b; set = set; clean = e; lines = l }
+  played player b set true e (Some n) l = record { player = player; begins = b; set = set; clean = e; lines = l }
+
+  -- a run that begins with this
+  begins : (player : ℕ) (b : Beginning) → IsSet words files player b → HasCause words files input (after_text (dropped_text b.dropped) (drive b.game player b.first input)).status
+  begins player b set =
+      subst (λ (s : Status). HasCause words files input s) (sym (drive_status b.game player b.first input))
+      (played player b set (is_clean b.game (drive_log b.game player b.first input)) refl (bad_line 0 (lines_of input)) refl)
+
+  -- a log that is named, by the fault for which the player can't go on from it
+  named_log : (game : Game) (player : ℕ) (name : List ℕ) → IsSeated words files game player (Some name) → (fault : Option Fault) → old_fault game player (log_front_of (files name)) ≡ fault →
+      HasCause words files input (playing player (old_beginning game (log_front_of (files name)) fault) input).status
+  named_log game player name seated None e =
+      let bytes = log_front_of (files name) in
+      let b : Beginning = record { game = game; first = old_entries game bytes; dropped = dropped_at game bytes } in
+      begins player b (record { old = Some name; seated = seated; begins = ap (old_beginning game bytes) e })
+  named_log game player name seated (Some f) e = record { game = game; player = player; name = name; seated = seated; log_is = refl; fault_is = e }
+
+  with_old : (game : Game) (player : ℕ) (old : Option (List ℕ)) → IsSeated words files game player old → HasCause words files input (playing player (begun player game (option_map files old)) input).status
+  with_old game player None seated = begins player (empty_beginning game) (record { old = None; seated = seated; begins = refl })
+  with_old game player (Some name) seated = named_log game player name seated (old_fault game player (log_front_of (files name))) refl
 
   -- a session of which the player may be one
-  seated : (game : Game) (player : ℕ) → IsNamed words files game player → (b : Bool) → nat_lt player (players_of game) ≡ b →
-      HasCause words files input (playing player (if b then Ok game else Err Usage) input).status
-  seated game player named true e =
-      let set : IsSet words files game player = record { named = named; player_is = ltb-true player (players_of game) e } in
-      subst (λ (s : Status). HasCause words files input s) (sym (drive_status game player [] input))
-      (played game player set (is_clean game (drive_log game player [] input)) refl (bad_line 0 (lines_of input)) refl)
-  seated game player named false e = inr (record { game = game; player = player; named = named; past = grind (arith, e) })
+  seated : (game : Game) (player : ℕ) (old : Option (List ℕ)) → IsNamed words files game player old → (b : Bool) → nat_lt player (players_of game) ≡ b →
+      HasCause words files input (playing player (with_log player (if b then Ok game else Err Usage) (option_map files old)) input).status
+  seated game player old named true e = with_old game player old (record { named = named; player_is = ltb-true player (players_of game) e })
+  seated game player old named false e = inr (record { game = game; player = player; old = old; named = named; past = grind (arith, e) })
 
-  read : (session : List ℕ) (player : ℕ) → command_of words ≡ Some (Drive session player) → (r : Result Game SessionFault) → game_at (front_of (files session)) ≡ r →
-      HasCause words files input (playing player (with_player player (ended_by r)) input).status
-  read session player e (Ok game) f = seated game player (record { session = session; command = e; read = f }) (nat_lt player (players_of game)) refl
-  read session player e (Err Memory) f = tt
-  read session player e (Err (At line what)) f =
-      record { session = session; player = player; command = e; fault_is = fault_said (front_of (files session)) (At line what) f }
+  read : (session : List ℕ) (player : ℕ) (old : Option (List ℕ)) → command_of words ≡ Some (Drive session player old) → (r : Result Game SessionFault) → game_at (front_of (files session)) ≡ r →
+      HasCause words files input (playing player (with_log player (with_player player (ended_by r)) (option_map files old)) input).status
+  read session player old e (Ok game) f = seated game player old (record { session = session; command = e; read = f }) (nat_lt player (players_of game)) refl
+  read session player old e (Err Memory) f = tt
+  read session player old e (Err (At line what)) f =
+      record { session = session; player = player; old = old; command = e; fault_is = fault_said (front_of (files session)) (At line what) f }
 
   commanded : (o : Option Command) → command_of words ≡ o → HasCause words files input (answer_of o files input).status
   commanded None e = inl e
-  commanded (Some (Drive session player)) e = read session player e (game_at (front_of (files session))) refl
+  commanded (Some (Drive session player old)) e = read session player old e (game_at (front_of (files session))) refl
 
 -- the status that is due has its cause
 pub caused : (words : List (List ℕ)) (files : List ℕ → Option (List ℕ)) (input : List ℕ) → HasCause words files input (answer_to words files input).status

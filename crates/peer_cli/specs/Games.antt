@@ -1,13 +1,16 @@
--- Games: the session that a file has, or how the run ends where it has none.
-use Rattle.std.specs.Prelude.{◌≡◌, ℕ, List, [], take, Result, Ok, Err, Option, nat_lt, if◌then◌else◌}
+-- Games: the session that a file has and the log that a player goes on from, or how the run ends where there is none.
+use Rattle.std.specs.Prelude.{◌≡◌, ℕ, List, [], take, Result, Ok, Err, Option, Some, None, nat_lt, if◌then◌else◌}
+use Rattle.definitions.specs.declared.logs.Entry.{Entry}
 use Rattle.definitions.specs.World.{Game, players_of}
+use Rattle.definitions.specs.Honest.{IsHonest}
 use Rattle.station.specs.Outside.{known}
 use Rattle.text_io.specs.declared.statuses.Status.{Status}
-use Rattle.text_io.specs.declared.statuses.Status.TheVariants.{NoMemory, Usage, BadSession, InputFault}
+use Rattle.text_io.specs.declared.statuses.Status.TheVariants.{NoMemory, Usage, BadSession, InputFault, BadLog}
 use Rattle.grid_world.specs.declared.fault.SessionFault.{SessionFault}
 use Rattle.grid_world.specs.declared.fault.SessionFault.TheVariants.{At, Memory}
 use Rattle.grid_world.specs.Reading.{game_at}
-use Rattle.peer_core.specs.Views.{PeerState}
+use Rattle.old_log.specs.declared.resuming.Resumed.{Resumed}
+use Rattle.old_log.specs.Old.{Fault, old_entries, dropped_at, old_fault}
 
 -- the bytes of a session's file that are read
 unfoldable pub front_of : Option (List ℕ) → List ℕ
@@ -32,6 +35,38 @@ session_in content = ended_by (game_at (front_of content))
 abbrev pub game_for : ℕ → Option (List ℕ) → Result Game Status
 game_for player content = with_player player (session_in content)
 
+-- the bytes of a log's file that are read: one more than a log may have, so that a longer one is told from it
+unfoldable pub log_front_of : Option (List ℕ) → List ℕ
+log_front_of content = take 67108865 (known content)
+
+-- what a run begins with: a session, the log of its player, and the byte from which on the log's file is dropped, if it is
+pub record Beginning : Type 0 where
+  pub game : Game
+  pub first : List Entry
+  pub dropped : Option ℕ
+
+-- where no log is named
+abbrev pub empty_beginning : Game → Beginning
+empty_beginning game = record { game = game; first = []; dropped = None }
+
+-- the log of these bytes, unless the player can't go on from it
+abbrev pub old_beginning : Game → List ℕ → Option Fault → Result Beginning Status
+old_beginning game bytes None = Ok (record { game = game; first = old_entries game bytes; dropped = dropped_at game bytes })
+old_beginning game bytes (Some f) = Err (BadLog 0 f.at f.why)
+
+-- the log that the player goes on from: that of a file, if one is named
+abbrev pub begun : ℕ → Game → Option (Option (List ℕ)) → Result Beginning Status
+begun player game None = Ok (empty_beginning game)
+begun player game (Some content) = old_beginning game (log_front_of content) (old_fault game player (log_front_of content))
+
+abbrev pub with_log : ℕ → Result Game Status → Option (Option (List ℕ)) → Result Beginning Status
+with_log player (Err status) old = Err status
+with_log player (Ok game) old = begun player game old
+
+-- what the player's run begins with, by its session's file and by the file of its log, if one is named
+abbrev pub beginning_for : ℕ → Option (List ℕ) → Option (Option (List ℕ)) → Result Beginning Status
+beginning_for player content old = with_log player (game_for player content) old
+
 -- What is read is what is due, unless memory was wanting or the shelf failed.
 abbrev pub IsDue : Result Game Status → Result Game Status → Type 0
 IsDue due (Ok game) = due ≡ Ok game
@@ -39,9 +74,15 @@ IsDue due (Err NoMemory) = Unit {0}
 IsDue due (Err InputFault) = Unit {0}
 IsDue due (Err status) = due ≡ Err status
 
--- What a peer with an empty log is made for is what is due, unless memory was wanting or the shelf failed.
-abbrev pub IsPeerFor : ℕ → Result Game Status → Result PeerState Status → Type 0
-IsPeerFor player due (Ok peer) = (due ≡ Ok peer.game) × (peer ≡ record { game = peer.game; me = player; entries = [] })
-IsPeerFor player due (Err NoMemory) = Unit {0}
-IsPeerFor player due (Err InputFault) = Unit {0}
-IsPeerFor player due (Err status) = due ≡ Err status
+-- a peer of the player with the log that a run begins with
+pub record IsPeerFor (player : ℕ) (due : Result Beginning Status) (r : Resumed) : Type 0 where
+  pub due_is : due ≡ Ok (record { game = r.peer.game; first = r.peer.entries; dropped = r.dropped })
+  pub player_is : r.peer.me ≡ player
+  pub honest : IsHonest r.peer.game player r.peer.entries
+
+-- What a peer begins with is what is due, unless memory was wanting or the shelf failed.
+abbrev pub IsStartFor : ℕ → Result Beginning Status → Result Resumed Status → Type 0
+IsStartFor player due (Ok r) = IsPeerFor player due r
+IsStartFor player due (Err NoMemory) = Unit {0}
+IsStartFor player due (Err InputFault) = Unit {0}
+IsStartFor player due (Err status) = due ≡ Err status

@@ -1,27 +1,44 @@
 -- Program: what the program answers to its words, its files and its input.
-use Rattle.std.specs.Prelude.{ℕ, List, [], Option, Some, None, Result, Ok, Err}
-use Rattle.definitions.specs.World.{Game}
-use Rattle.text_io.specs.Frame.{Answer, bare_answer}
+use Rattle.std.specs.Prelude.{◌≡◌, ℕ, List, [], ◌++◌, Option, Some, None, Result, Ok, Err, codes, decimal, option_map}
+use Rattle.definitions.specs.declared.logs.Entry.{Entry}
+use Rattle.text_io.specs.Frame.{Answer, after_text, bare_answer}
 use Rattle.text_io.specs.declared.statuses.Status.{Status}
 use Rattle.text_io.specs.declared.statuses.Status.TheVariants.{Usage}
 use Rattle.drive_script.specs.Drive as D
+use Rattle.drive_script.specs.Telling.{TellsLog}
 use Rattle.peer_cli.specs.Words.{Command, Drive, command_of}
-use Rattle.peer_cli.specs.Games.{game_for}
+use Rattle.peer_cli.specs.Games.{Beginning, beginning_for}
 
--- the answer to a script, where there is a session that the player plays
-abbrev pub playing : ℕ → Result Game Status → List ℕ → Answer
+-- what is written about the byte from which on a log is dropped
+unfoldable pub dropped_line : ℕ → List ℕ
+dropped_line at = codes "dropped " ++ decimal at ++ codes "\n"
+
+abbrev pub dropped_text : Option ℕ → List ℕ
+dropped_text None = []
+dropped_text (Some at) = dropped_line at
+
+-- the answer to a script, where there is a session that the player plays and a log that it begins with
+abbrev pub playing : ℕ → Result Beginning Status → List ℕ → Answer
 playing player (Err status) input = bare_answer status
-playing player (Ok game) input = D.drive game player [] input
+playing player (Ok b) input = after_text (dropped_text b.dropped) (D.drive b.game player b.first input)
 
--- the answer to the command that drives the player of the session in this file by the input
-abbrev pub driving : ℕ → Option (List ℕ) → List ℕ → Answer
-driving player content input = playing player (game_for player content) input
+-- the answer to the command that drives the player of the session in this file by the input, from the log in that file on, if
+-- one is named
+abbrev pub driving : ℕ → Option (List ℕ) → Option (Option (List ℕ)) → List ℕ → Answer
+driving player content old input = playing player (beginning_for player content old) input
 
 -- the answer to a command
 abbrev pub answer_of : Option Command → (List ℕ → Option (List ℕ)) → List ℕ → Answer
 answer_of None files input = bare_answer Usage
-answer_of (Some (Drive session player)) files input = driving player (files session) input
+answer_of (Some (Drive session player old)) files input = driving player (files session) (option_map files old) input
 
 -- the answer to the program's words
 abbrev pub answer_to : List (List ℕ) → (List ℕ → Option (List ℕ)) → List ℕ → Answer
 answer_to words files input = answer_of (command_of words) files input
+
+-- The body of an answer tells from which byte on the log is dropped that the run begins with, if it is, and then how this log
+-- came from its entries.
+pub record TellsRun (player : ℕ) (b : Beginning) (log : List Entry) (body : List ℕ) : Type 0 where
+  pub told : List ℕ
+  pub body_is : body ≡ dropped_text b.dropped ++ told
+  pub tells : TellsLog b.game player b.first log told

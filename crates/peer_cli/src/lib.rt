@@ -1,4 +1,5 @@
-//! The program as one call: the command words, the session from the shelf, and a peer that is driven by the input.
+//! The program as one call: the command words, the session and perhaps a log from the shelf, and a peer that is driven by the
+//! input.
 //!
 //! `run` carries the promises of the whole: what is written for these words, files and input, why each status comes, that
 //! nothing but memory can be wanting where all is good, and that the log behind the text is one of fair play. The crate

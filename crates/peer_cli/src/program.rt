@@ -1,33 +1,82 @@
 //! The program.
 
-ghost use Rattle.std.specs.Prelude.{◌≡◌, ◌≤◌, ◌⊎◌, ℕ, [], map, None, IsSome, IsTrue};
-ghost use Rattle.definitions.specs.World.{Game};
+ghost use Rattle.std.specs.Prelude.{◌≡◌, ◌≤◌, ◌⊎◌, ℕ, [], map, None, option_map, IsSome, IsTrue};
 ghost use Rattle.definitions.specs.Findings.{is_clean};
 ghost use Rattle.station.specs.Outside.{known, Rose};
-ghost use Rattle.text_io.specs.Frame.{line_by_line, Ran, EndCause, OnDone, UnlessInputFault, UnlessOutputFault, UnlessFault};
+ghost use Rattle.text_io.specs.Frame.{line_by_line, after_text, Ended, Ran, EndCause, OnDone, UnlessInputFault, UnlessOutputFault, UnlessFault};
 ghost use Rattle.text_io.specs.Lines.{lines_of};
+ghost use Rattle.text_io.specs.Texts.{Wrote, OnUnwritten, OnWritten};
 ghost use Rattle.text_io.specs.Ends.{Finished};
 ghost use Rattle.drive_script.specs.Drive.{bad_line, drive_log};
 ghost use Rattle.drive_script.specs.FairPlay.{IsFairPlay};
-ghost use Rattle.drive_script.specs.Telling.{TellsLog};
+ghost use Rattle.drive_script.specs.Drive as D;
+ghost use Rattle.drive_script.specs.Ends.{ScriptEnds};
 ghost use Rattle.peer_cli.specs.Ends.{RunEnds};
 ghost use Rattle.peer_cli.specs.Words.{command_of};
 ghost use Rattle.peer_cli.specs.Causes.{HasCause, IsSet};
-ghost use Rattle.peer_cli.specs.Program.{driving, answer_to};
+ghost use Rattle.peer_cli.specs.Games.{Beginning};
+ghost use Rattle.peer_cli.specs.Program.{driving, answer_to, dropped_line, dropped_text, TellsRun};
 
 use crate::sessions::open_peer;
-use crate::words::read_command;
-use definitions::PlayerId;
+use crate::words::{Driving, read_command};
+use arrayvec::ArrayVec;
 use drive_script::play;
+use itoa::Buffer;
+use old_log::Resumed;
 use station::{Shelf, Sink, Source};
 use std::alloc::Global;
-use text_io::{Status, refuse};
+use text_io::{Status, Written, put, refuse};
 
-/// Drives a peer for the player of a file's session by the input.
+/// The line that tells from which byte on a log is dropped.
+#[tactic(auto, unfolding(crate::specs::Program::dropped_line))]
+fn line_of_dropped(at: u32) -> ArrayVec<u8, 32>
+    ensures { result.items ≡ dropped_line at }
+{
+    let mut line = ArrayVec::new();
+    line.try_extend_from_slice(b"dropped ").unwrap();
+    line.try_extend_from_slice(Buffer::new().format(at).as_bytes())
+        .unwrap();
+    line.push(b'\n');
+    line
+}
+
+/// Writes from which byte on a log is dropped, if it is.
+fn put_dropped<O: Sink>(dropped: Option<u32>, out: &mut O) -> Written
+    ensures told { IsSome (O.held out.old) → IsSome (O.held out.new) }
+    ensures text { IsSome (O.held out.old) → Wrote (known (O.held out.old)) (known (O.held out.new)) (dropped_text dropped) result }
+    ensures later { O.faults out.old ≤ O.faults out.new }
+    ensures cause { OnUnwritten result (Rose (O.faults out.old) (O.faults out.new)) }
+    ensures steady { OnWritten result (O.faults out.new ≡ O.faults out.old) }
+{
+    match dropped {
+        None => put(out, b""),
+        Some(at) => put(out, line_of_dropped(at).as_slice()),
+    }
+}
+
+/// Tells what of its log was dropped, and then plays the input as the script of the peer.
+fn play_on<I: Source, O: Sink>(begun: Resumed, input: &mut I, out: &mut O) -> Status
+    ensures told_in { IsSome (I.left input.old) → IsSome (I.left input.new) }
+    ensures told_out { IsSome (O.held out.old) → IsSome (O.held out.new) }
+    ensures text { IsSome (I.left input.old) → IsSome (O.held out.old) →
+        Ended (known (O.held out.old)) (known (O.held out.new)) (after_text (dropped_text begun.dropped) (D.drive begun.peer.game begun.peer.me begun.peer.entries (known (I.left input.old)))) result }
+    ensures later_in { I.faults input.old ≤ I.faults input.new }
+    ensures later_out { O.faults out.old ≤ O.faults out.new }
+    ensures cause { EndCause ScriptEnds (Rose (I.faults input.old) (I.faults input.new)) (Rose (O.faults out.old) (O.faults out.new)) result }
+    ensures steady_in { UnlessInputFault result (I.faults input.new ≡ I.faults input.old) }
+    ensures steady_out { UnlessOutputFault result (O.faults out.new ≡ O.faults out.old) }
+    ensures read { IsSome (I.left input.old) → OnDone result (known (I.left input.new) ≡ []) }
+{
+    match put_dropped(begun.dropped, out) {
+        Written::All => play(begun.peer, input, out),
+        Written::Failed => Status::OutputFault,
+    }
+}
+
+/// Drives a peer for the player of a file's session by the input, from the log in the other file on, if one is named.
 fn drive<I: Source, O: Sink, H: Shelf>(
     alloc: Global,
-    session: &[u8],
-    player: PlayerId,
+    words: Driving<'_>,
     input: &mut I,
     out: &mut O,
     shelf: &mut H,
@@ -35,7 +84,8 @@ fn drive<I: Source, O: Sink, H: Shelf>(
     ensures told_in { IsSome (I.left input.old) → IsSome (I.left input.new) }
     ensures told_out { IsSome (O.held out.old) → IsSome (O.held out.new) }
     ensures text { IsSome (I.left input.old) → IsSome (O.held out.old) → H.told shelf.old →
-        Ran line_by_line (known (O.held out.old)) (known (O.held out.new)) (driving player (H.content shelf.old session.now) (known (I.left input.old))) result }
+        Ran line_by_line (known (O.held out.old)) (known (O.held out.new))
+        (driving words.entry.player (H.content shelf.old words.entry.session.now) (option_map (λ name. H.content shelf.old name.now) words.entry.old) (known (I.left input.old))) result }
     ensures later_in { I.faults input.old ≤ I.faults input.new }
     ensures later_out { O.faults out.old ≤ O.faults out.new }
     ensures later_shelf { H.faults shelf.old ≤ H.faults shelf.new }
@@ -46,8 +96,8 @@ fn drive<I: Source, O: Sink, H: Shelf>(
     ensures steady_out { UnlessOutputFault result (O.faults out.new ≡ O.faults out.old) }
     ensures read { IsSome (I.left input.old) → OnDone result (known (I.left input.new) ≡ []) }
 {
-    match open_peer(alloc, shelf, session, player) {
-        Ok(peer) => play(peer, input, out),
+    match open_peer(alloc, shelf, words.session, words.player, words.old) {
+        Ok(begun) => play_on(begun, input, out),
         Err(status) => status,
     }
 }
@@ -77,12 +127,13 @@ fn work<I: Source, O: Sink, H: Shelf>(
 {
     match read_command(words) {
         None => Status::Usage,
-        Some((session, player)) => drive(alloc, session, player, input, out, shelf),
+        Some(words) => drive(alloc, words, input, out, shelf),
     }
 }
 
 /// Does what the words ask for: `drive SESSION PLAYER` lets the input drive a peer for the player of the session in that
-/// file, and writes what the peer does.
+/// file, and writes what the peer does; `drive SESSION PLAYER OLD` does so with a peer that goes on from the log in the file
+/// OLD.
 pub fn run<I: Source, O: Sink, H: Shelf>(
     alloc: Global,
     words: &[Vec<u8>],
@@ -107,22 +158,23 @@ pub fn run<I: Source, O: Sink, H: Shelf>(
 
     // Where all is good, the log has no finding and nothing fails, only memory can be wanting, and at the end the input was
     // read to its end.
-    ensures complete { IsSome (I.left input.old) → IsSome (O.held out.old) → H.told shelf.old → (game : Game) → (player : ℕ) →
-        IsSet (map (λ w. w.items) words.now) (H.content shelf.old) game player →
+    ensures complete { IsSome (I.left input.old) → IsSome (O.held out.old) → H.told shelf.old → (player : ℕ) → (begins : Beginning) →
+        IsSet (map (λ w. w.items) words.now) (H.content shelf.old) player begins →
         bad_line 0 (lines_of (known (I.left input.old))) ≡ None →
-        IsTrue (is_clean game (drive_log game player [] (known (I.left input.old)))) →
+        IsTrue (is_clean begins.game (drive_log begins.game player begins.first (known (I.left input.old)))) →
         ¬ Rose (I.faults input.old) (I.faults input.new) →
         ¬ Rose (H.faults shelf.old) (H.faults shelf.new) →
         ¬ Rose (O.faults out.old) (O.faults out.new) →
         (result ≡ Status.Done) ⊎ (result ≡ Status.NoMemory) }
     ensures read { IsSome (I.left input.old) → OnDone result (known (I.left input.new) ≡ []) }
 
-    // The log that is told by what is written, and fair play in it: each reveal made stands behind a commitment received from
-    // every player who meets, and each move accepted of another player opens the digest held.
-    ensures tells { (game : Game) → (player : ℕ) → IsSet (map (λ w. w.items) words.now) (H.content shelf.old) game player →
-        TellsLog game player [] (drive_log game player [] (known (I.left input.old))) (answer_to (map (λ w. w.items) words.now) (H.content shelf.old) (known (I.left input.old))).body }
-    ensures fair { (game : Game) → (player : ℕ) → IsSet (map (λ w. w.items) words.now) (H.content shelf.old) game player →
-        IsFairPlay game player (drive_log game player [] (known (I.left input.old))) }
+    // The log that is told by what is written, behind the one that the run begins with, and fair play in it: each reveal made
+    // stands behind a commitment received from every player who meets, and each move accepted of another player opens the
+    // digest held.
+    ensures tells { (player : ℕ) → (begins : Beginning) → IsSet (map (λ w. w.items) words.now) (H.content shelf.old) player begins →
+        TellsRun player begins (drive_log begins.game player begins.first (known (I.left input.old))) (answer_to (map (λ w. w.items) words.now) (H.content shelf.old) (known (I.left input.old))).body }
+    ensures fair { (player : ℕ) → (begins : Beginning) → IsSet (map (λ w. w.items) words.now) (H.content shelf.old) player begins →
+        IsFairPlay begins.game player (drive_log begins.game player begins.first (known (I.left input.old))) }
 {
     let status = work(alloc, words, input, out, shelf);
     refuse(status, out)

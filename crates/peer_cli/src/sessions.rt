@@ -1,14 +1,18 @@
 //! The session of a file, and a peer for it.
 
-ghost use Rattle.std.specs.Prelude.{◌≡◌, ◌≤◌};
+ghost use Rattle.std.specs.Prelude.{◌≡◌, ◌≤◌, ◌<◌, List, ℕ, Some, option_map};
 ghost use Rattle.station.specs.Outside.{Rose};
 ghost use Rattle.text_io.specs.Frame.{StartCause, StartSteady};
-ghost use Rattle.peer_cli.specs.Ends.{SessionEnds, StartEnds};
-ghost use Rattle.peer_cli.specs.Games.{IsDue, IsPeerFor, ended_by, session_in, game_for, with_player};
 ghost use Rattle.grid_world.specs.Reading.{game_at};
+ghost use Rattle.definitions.specs.World.{players_of};
+ghost use Rattle.peer_cli.specs.Ends.{SessionEnds, StartEnds, LogEnds};
+ghost use Rattle.old_log.specs.Old.{old_fault};
+ghost use Rattle.peer_cli.specs.Games as G;
+ghost use Rattle.peer_cli.specs.Games.{IsDue, IsStartFor};
 
 use definitions::PlayerId;
 use grid_world::{Session, SessionFault, read_session};
+use old_log::{OldFault, Resumed, resume_from};
 use peer_core::Peer;
 use station::Shelf;
 use std::alloc::Global;
@@ -17,9 +21,12 @@ use text_io::{FrontFault, Status, read_front};
 /// The most bytes that are read of a session's file.
 const FRONT: usize = 1_048_576;
 
+/// The most bytes that are read of a log's file: one more than a log may have.
+const LOG_FRONT: usize = 67_108_865;
+
 /// The session of a text.
 fn session_of(alloc: Global, text: &[u8]) -> Result<Session, Status>
-    ensures due { IsDue (ended_by (game_at text.now)) result }
+    ensures due { IsDue (G.ended_by (game_at text.now)) result }
     ensures cause { StartCause SessionEnds ⊥ result }
 {
     match read_session(alloc, text) {
@@ -32,7 +39,9 @@ fn session_of(alloc: Global, text: &[u8]) -> Result<Session, Status>
 /// The session of a file.
 #[tactic(auto, unfolding(crate::specs::Games::front_of))]
 fn open_session<H: Shelf>(alloc: Global, shelf: &mut H, name: &[u8]) -> Result<Session, Status>
-    ensures due { H.told shelf.old → IsDue (session_in (H.content shelf.old name.now)) result }
+    ensures due { H.told shelf.old → IsDue (G.session_in (H.content shelf.old name.now)) result }
+    ensures told { H.told shelf.old → H.told shelf.new }
+    ensures keeps { H.told shelf.old → (n : List ℕ) → H.content shelf.new n ≡ H.content shelf.old n }
     ensures later { H.faults shelf.old ≤ H.faults shelf.new }
     ensures cause { StartCause SessionEnds (Rose (H.faults shelf.old) (H.faults shelf.new)) result }
     ensures steady { StartSteady result (H.faults shelf.new ≡ H.faults shelf.old) }
@@ -44,34 +53,100 @@ fn open_session<H: Shelf>(alloc: Global, shelf: &mut H, name: &[u8]) -> Result<S
     }
 }
 
-/// A peer for the player of the session, with an empty log.
-fn peer_of(alloc: Global, session: &Session, player: PlayerId) -> Result<Peer, Status>
-    ensures due { IsPeerFor player (with_player player (Ok session.now)) result }
-    ensures cause { StartCause StartEnds ⊥ result }
+/// A peer with an empty log.
+fn begin_empty(alloc: Global, session: &Session, player: PlayerId) -> Result<Resumed, Status>
+    requires { player < players_of session.now }
+    ensures due { IsStartFor player (Ok (G.empty_beginning session.now)) result }
+    ensures cause { StartCause LogEnds ⊥ result }
 {
-    if player >= session.players() {
-        return Err(Status::Usage);
-    }
     match Peer::new(alloc, session, player) {
-        Ok(peer) => Ok(peer),
+        Ok(peer) => Ok(Resumed {
+            peer,
+            dropped: None,
+        }),
         Err(_) => Err(Status::NoMemory),
     }
 }
 
-/// A peer with an empty log for the player of a file's session.
+/// A peer that goes on from the log with these bytes.
+fn begin_with(
+    alloc: Global,
+    session: &Session,
+    player: PlayerId,
+    bytes: &[u8],
+) -> Result<Resumed, Status>
+    requires { player < players_of session.now }
+    ensures due { IsStartFor player (G.old_beginning session.now bytes.now (old_fault session.now player bytes.now)) result }
+    ensures cause { StartCause LogEnds ⊥ result }
+{
+    match resume_from(alloc, session, player, bytes) {
+        Ok(resumed) => Ok(resumed),
+        Err(OldFault::NoMemory) => Err(Status::NoMemory),
+        Err(OldFault::Bad { at, why }) => Err(Status::BadLog { log: 0, at, why }),
+    }
+}
+
+/// A peer that goes on from the log in a file.
+#[tactic(auto, unfolding(crate::specs::Games::log_front_of))]
+fn begin_with_file<H: Shelf>(
+    alloc: Global,
+    shelf: &mut H,
+    session: &Session,
+    player: PlayerId,
+    name: &[u8],
+) -> Result<Resumed, Status>
+    requires { player < players_of session.now }
+    ensures due { H.told shelf.old → IsStartFor player (G.begun player session.now (Some (H.content shelf.old name.now))) result }
+    ensures later { H.faults shelf.old ≤ H.faults shelf.new }
+    ensures cause { StartCause LogEnds (Rose (H.faults shelf.old) (H.faults shelf.new)) result }
+    ensures steady { StartSteady result (H.faults shelf.new ≡ H.faults shelf.old) }
+{
+    match read_front(alloc, shelf, name, LOG_FRONT) {
+        Err(FrontFault::NoMemory) => Err(Status::NoMemory),
+        Err(FrontFault::Failed) => Err(Status::InputFault),
+        Ok(bytes) => begin_with(alloc, session, player, bytes.as_slice()),
+    }
+}
+
+/// A peer for the player of the session, with the log in a file, if one is named.
+fn begin<H: Shelf>(
+    alloc: Global,
+    shelf: &mut H,
+    session: &Session,
+    player: PlayerId,
+    old: Option<&[u8]>,
+) -> Result<Resumed, Status>
+    ensures due { H.told shelf.old →
+        IsStartFor player (G.with_log player (G.with_player player (Ok session.now)) (option_map (λ name. H.content shelf.old name.now) old.entry)) result }
+    ensures later { H.faults shelf.old ≤ H.faults shelf.new }
+    ensures cause { StartCause StartEnds (Rose (H.faults shelf.old) (H.faults shelf.new)) result }
+    ensures steady { StartSteady result (H.faults shelf.new ≡ H.faults shelf.old) }
+{
+    if player >= session.players() {
+        return Err(Status::Usage);
+    }
+    match old {
+        None => begin_empty(alloc, session, player),
+        Some(name) => begin_with_file(alloc, shelf, session, player, name),
+    }
+}
+
+/// A peer for the player of a file's session, with the log in the other file, if one is named.
 pub(crate) fn open_peer<H: Shelf>(
     alloc: Global,
     shelf: &mut H,
     name: &[u8],
     player: PlayerId,
-) -> Result<Peer, Status>
-    ensures due { H.told shelf.old → IsPeerFor player (game_for player (H.content shelf.old name.now)) result }
+    old: Option<&[u8]>,
+) -> Result<Resumed, Status>
+    ensures due { H.told shelf.old →
+        IsStartFor player (G.beginning_for player (H.content shelf.old name.now) (option_map (λ name. H.content shelf.old name.now) old.entry)) result }
     ensures later { H.faults shelf.old ≤ H.faults shelf.new }
     ensures cause { StartCause StartEnds (Rose (H.faults shelf.old) (H.faults shelf.new)) result }
     ensures steady { StartSteady result (H.faults shelf.new ≡ H.faults shelf.old) }
 {
     match open_session(alloc, shelf, name) {
-        Ok(session) => peer_of(alloc, &session, player),
+        Ok(session) => begin(alloc, shelf, &session, player, old),
         Err(status) => Err(status),
     }
 }

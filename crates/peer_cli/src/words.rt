@@ -6,8 +6,16 @@ ghost use Rattle.std.specs.Str.{is_utf8};
 ghost use Rattle.peer_cli.specs.Words as W;
 
 use definitions::PlayerId;
-use drive_script::read_number;
+use script_grammar::read_number;
 use std::str::from_utf8;
+
+/// The command to drive: the session's file, the player, and the file of a log to go on from, if one is named.
+#[derive(Clone, Copy)]
+pub(crate) struct Driving<'a> {
+    pub(crate) session: &'a [u8],
+    pub(crate) player: PlayerId,
+    pub(crate) old: Option<&'a [u8]>,
+}
 
 /// Whether the bytes are UTF-8.
 fn is_text(word: &[u8]) -> bool
@@ -45,26 +53,55 @@ fn are_words(words: &[Vec<u8>]) -> bool
     true
 }
 
-/// The file and the player of the command that the words are.
-fn read_drive(words: &[Vec<u8>]) -> Option<(&[u8], PlayerId)>
-    ensures { option_map (λ c. W.Drive c.0.now c.1) result ≡ W.command_in (map (λ w. w.items) words.now) }
+/// The command to drive, where the first of these words is its name and the third a player's number.
+fn read_driving<'a>(
+    name: &[u8],
+    session: &'a [u8],
+    player: &[u8],
+    old: Option<&'a [u8]>,
+) -> Option<Driving<'a>>
+    ensures { option_map (λ c. W.Drive c.session.now c.player (option_map (λ o. o.now) c.old)) result ≡
+        W.driving_words name.now session.now player.now (option_map (λ o. o.now) old.entry) }
+{
+    if name != b"drive".as_slice() {
+        return None;
+    }
+    let player = read_number(15, player)?;
+    Some(Driving {
+        session,
+        player: player as u8,
+        old,
+    })
+}
+
+/// The command that the words are.
+fn read_words(words: &[Vec<u8>]) -> Option<Driving<'_>>
+    ensures { option_map (λ c. W.Drive c.session.now c.player (option_map (λ o. o.now) c.old)) result ≡ W.command_in (map (λ w. w.items) words.now) }
 {
     match words {
-        [name, session, player] if name.as_slice() == b"drive".as_slice() => {
-            let player = read_number(15, player.as_slice())?;
-            Some((session.as_slice(), player as u8))
-        }
+        [name, session, player] => read_driving(
+            name.as_slice(),
+            session.as_slice(),
+            player.as_slice(),
+            None,
+        ),
+        [name, session, player, old] => read_driving(
+            name.as_slice(),
+            session.as_slice(),
+            player.as_slice(),
+            Some(old.as_slice()),
+        ),
         _ => None,
     }
 }
 
-/// The session's file and the player, where the words are the command to drive.
+/// The command that the program's words are.
 #[tactic(auto, unfolding(crate::specs::Words::command_of))]
-pub(crate) fn read_command(words: &[Vec<u8>]) -> Option<(&[u8], PlayerId)>
-    ensures { option_map (λ c. W.Drive c.0.now c.1) result ≡ W.command_of (map (λ w. w.items) words.now) }
+pub(crate) fn read_command(words: &[Vec<u8>]) -> Option<Driving<'_>>
+    ensures { option_map (λ c. W.Drive c.session.now c.player (option_map (λ o. o.now) c.old)) result ≡ W.command_of (map (λ w. w.items) words.now) }
 {
     if are_words(words) {
-        read_drive(words)
+        read_words(words)
     } else {
         None
     }

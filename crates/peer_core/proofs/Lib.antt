@@ -5,3 +5,4 @@ pub mod Answering
 pub mod Tables
 pub mod Peers
 pub mod Choices
+pub mod Replaying

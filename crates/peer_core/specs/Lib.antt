@@ -4,3 +4,4 @@ pub mod Others
 pub mod Choosing
 pub mod Standing
 pub mod Inside
+pub mod Resuming

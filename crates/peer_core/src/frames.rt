@@ -2,6 +2,7 @@
 
 ghost use Rattle.std.specs.Prelude.{◌≡◌};
 ghost use Rattle.definitions.specs.Advance as A;
+ghost use Rattle.definitions.specs.Logs.{frame_eq};
 
 use commitment::digest_of;
 use definitions::{Opening, TurnFrame, What};
@@ -24,4 +25,11 @@ pub(crate) fn frame_of(session: &Session, what: What, opening: &Opening) -> Turn
             nonce: opening.nonce,
         },
     }
+}
+
+/// Whether the two are one frame.
+pub(crate) fn is_frame(a: &TurnFrame, b: &TurnFrame) -> bool
+    ensures { result ≡ frame_eq a.now b.now }
+{
+    a == b
 }

@@ -2,13 +2,15 @@
 //!
 //! The crate promises that a peer's log is always honest: each choice, and each frame that it makes by itself, was allowed
 //! by the protocol after the entries before it, and it makes every frame as soon as that is allowed. It tells whom it
-//! waits for. A peer takes all its memory when it is made, and touches nothing outside.
+//! waits for. A peer goes on from the entries of a log exactly where they are honest. It takes all its memory when it is
+//! made, and touches nothing outside.
 #![tactic(auto)]
 
 mod choosing;
 mod frames;
 mod others;
 mod peer;
+mod resuming;
 mod room;
 mod stages;
 mod views;
@@ -16,5 +18,6 @@ mod views;
 pub use definitions::{Entry, Finding, GotAnswer, Need, OwnFault, Progress, What};
 pub use log_scan::place_of;
 pub use peer::Peer;
+pub use resuming::ResumeFault;
 pub use views::{Choice, PlayerView};
 pub use wait_rule::NeedList;

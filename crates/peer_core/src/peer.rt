@@ -194,7 +194,7 @@ impl Peer {
     }
 
     /// The frame that the peer makes next, where one is allowed.
-    fn next_made(&self) -> Option<TurnFrame>
+    pub(crate) fn next_made(&self) -> Option<TurnFrame>
         ensures frame { result ≡ A.next_made self.now.game self.now.me self.now.entries }
         ensures facts { IsStanding self.now }
     {
@@ -211,7 +211,7 @@ impl Peer {
     }
 
     /// Makes the next frame.
-    fn make(&mut self, frame: TurnFrame)
+    pub(crate) fn make(&mut self, frame: TurnFrame)
         requires { A.next_made self.old.game self.old.me self.old.entries ≡ Some frame }
         ensures { self.new ≡ record self.old { entries = self.old.entries ++ Entry.Made frame ∷ [] } }
     {

@@ -87,8 +87,9 @@ impl Model for FrameReader {
 }
 
 impl FrameReader {
-    ghost use Rattle.std.specs.Prelude.{◌≡◌, ◌+◌, ◌≤◌, ◌<◌, ◌^◌, length, IsTrue};
-    ghost use Rattle.wire_frames.specs.Reading.{at_start, fed_step};
+    ghost use Rattle.std.specs.Prelude.{◌≡◌, ◌+◌, ◌≤◌, ◌<◌, ◌^◌, drop, length, IsTrue};
+    ghost use Rattle.wire_frames.specs.Reading.{at_start, fed_step, IsFedSo};
+    ghost use Rattle.wire_frames.specs.Streams.{given_of, given_on};
 
     /// A reader of a stream of which nothing came yet.
     pub fn new() -> FrameReader
@@ -103,13 +104,8 @@ impl FrameReader {
     }
 
     /// Reads on in the stream with these bytes, up to the end of the first frame that ends in them.
-    ///
-    /// Whole comes as soon as a frame is whole, and `used` is then the number of the bytes up to its end: the rest is to be
-    /// fed next. More comes where all bytes are used, none is bad, and they end no frame. Bad comes with the place in the
-    /// stream of the first byte that no frame can go on with, and `used` is the number of the bytes before it; from then
-    /// on every feed uses nothing and answers the same.
     #[tactic(auto, unfolding(crate::specs::Reading::fed_step))]
-    pub fn feed(&mut self, bytes: &[u8]) -> Fed
+    fn read_on(&mut self, bytes: &[u8]) -> Fed
         requires { self.old.place + length bytes.now < 2 ^ 64 }
         ensures reader { self.new ≡ (fed_step self.old bytes.now).reader }
         ensures fed { result ≡ (fed_step self.old bytes.now).fed }
@@ -153,5 +149,28 @@ impl FrameReader {
                 }
             }
         }
+    }
+
+    /// Reads on in the stream with these bytes, up to the end of the first frame that ends in them.
+    ///
+    /// Whole comes as soon as a frame is whole, and `used` is then the number of the bytes up to its end, one at least: the
+    /// rest is to be fed next. More comes where all bytes are used, none is bad, and they end no frame. Bad comes with the
+    /// place in the stream of the first byte that no frame can go on with, and `used` is the number of the bytes before it;
+    /// from then on every feed uses nothing and answers the same.
+    pub fn feed(&mut self, bytes: &[u8]) -> Fed
+        requires { self.old.place + length bytes.now < 2 ^ 64 }
+        ensures reader { self.new ≡ (fed_step self.old bytes.now).reader }
+        ensures fed { result ≡ (fed_step self.old bytes.now).fed }
+        ensures within { result.used ≤ length bytes.now }
+        ensures place { self.new.place ≡ self.old.place + result.used }
+        ensures still { IsTrue self.old.bad → (result ≡ record { used = 0; what = FedWhat.Bad self.old.place }) × (self.new ≡ self.old) }
+
+        // What the bytes give is what was found, and then what the rest of them gives.
+        ensures rest { given_of self.old bytes.now ≡ given_on result.what self.new (given_of self.new (drop result.used bytes.now)) }
+        ensures so { IsFedSo result.what result.used self.new }
+    {
+        // the held bytes are less than a frame
+        let _ = &self.held;
+        self.read_on(bytes)
     }
 }

@@ -1,5 +1,6 @@
 use Rattle.drive_script.proofs.Ends.{drive_status}
 use Rattle.drive_script.proofs.Fair.{drive_fair}
+use Rattle.drive_script.proofs.Streams.{gives_next}
 use Rattle.drive_script.proofs.Tellings.{drive_tells}
 use Rattle.drive_script.proofs.laws.scripts.Goals as goal
 
@@ -11,3 +12,6 @@ returns-clause-fair c = drive_fair
 
 pub returns-clause-tell : goal.returns-clause-tell
 returns-clause-tell c = drive_tells
+
+pub returns-clause-streams : goal.returns-clause-streams
+returns-clause-streams c = gives_next

@@ -1,8 +1,15 @@
-use Rattle.wire_frames.proofs.Holding.{none_held}
+use Rattle.std.proofs.Common.{IsTrue, subst}
+use Rattle.wire_frames.specs.Fronts as F
+use Rattle.wire_frames.specs.Reading.{Reading, is_part}
+use Rattle.wire_frames.proofs.Feeding.{given_rest, fed_so}
 use Rattle.wire_frames.proofs.reader.FrameReader.feed.Goals as goal
 
-pub invariant_of-self-in-Whole : goal.invariant_of-self-in-Whole
-invariant_of-self-in-Whole c = none_held
+pub returns-clause-rest : goal.returns-clause-rest
+returns-clause-rest c =
+    let HoldsPart : Reading → Type 0 = λ r. IsTrue (is_part (F.front_of r.held)) in
+    rw (c.read_on.ensures.reader, c.read_on.ensures.fed) (given_rest _ _ (subst HoldsPart c.self.view_is c.self.invariant.1))
 
-pub invariant_of-self-in-Bad : goal.invariant_of-self-in-Bad
-invariant_of-self-in-Bad c = none_held
+pub returns-clause-so : goal.returns-clause-so
+returns-clause-so c =
+    let HoldsPart : Reading → Type 0 = λ r. IsTrue (is_part (F.front_of r.held)) in
+    rw (c.read_on.ensures.reader, c.read_on.ensures.fed) (fed_so _ _ (subst HoldsPart c.self.view_is c.self.invariant.1))

@@ -1,0 +1,36 @@
+# What the benchmarks share; each reads this file. $here is bench/, $work a folder that goes when the script ends.
+set -e
+here=$(cd "$(dirname "$0")" && pwd)
+work=$(mktemp -d)
+trap 'rm -rf "$work"' EXIT
+
+# build NAME DEPS: the program of bench/NAME, proved and built over a copy of the repository's crates; its file is $proved then
+build() {
+    tar -C "$here/.." --exclude=out -cf - crates crates.txt HANDLES | tar -C "$work" -xf -
+    crate="$work/crates/$1"
+    mkdir -p "$crate/src"
+    # under other endings, since the gate reads every .rt and .antt file of the repository
+    cp "$here/$1/main.rattle" "$crate/src/main.rt"
+    for invariants in "$here/$1"/*.txt; do
+        of=$(basename "$invariants" .txt)
+        mkdir -p "$crate/proofs/$of"
+        cp "$invariants" "$crate/proofs/$of/Invariants.antt"
+    done
+    echo "$1: $2" >> "$work/crates.txt"
+    (cd "$crate" && rt run) > "$work/log" 2>&1 || { cat "$work/log" >&2; exit 1; }
+    proved="$crate/out/$1"
+}
+
+# build_plain NAME: the program of bench/NAME in plain Rust; its file is $plain then
+build_plain() {
+    plain="$work/plain"
+    rustc --edition 2021 -O -o "$plain" "$here/$1/plain.rs"
+}
+
+# the processor seconds of a command
+seconds() {
+    python3 -c 'import resource, subprocess, sys
+subprocess.run(sys.argv[1:], check=True, stdout=subprocess.DEVNULL)
+used = resource.getrusage(resource.RUSAGE_CHILDREN)
+print(used.ru_utime + used.ru_stime)' "$@"
+}

@@ -1,0 +1,147 @@
+//! Session logs as bytes: a whole log, logs that no writer writes, and the chain by itself.
+
+ghost use Rattle.std.specs.Prelude.{◌≤◌, length};
+
+use commitment::digest_of;
+use definitions::{Cell, Entry, Move, Nonce, Opening, PlayerId, Turn, TurnFrame};
+use grid_world::{Session, read_session};
+use session_log::{LogReader, LogWriter, Next};
+use sha2::{Digest as _, Sha256};
+use std::alloc::{AllocError, Global};
+use std::test::Fail;
+
+pub static PATH: &[u8] =
+    b"playout 1\ngrid 12 1\nrules 1 1 0\ncharge 1 2 1\nturns 8\nplayers 2\nplayer 0 0 0\nplayer 1 9 0\nend\n";
+
+fn stays() -> Move {
+    Move {
+        to: Cell { x: 9, y: 0 },
+        strike: None,
+    }
+}
+
+fn nonce_of(turn: Turn) -> Nonce {
+    Nonce {
+        bytes: [(turn % 256) as u8; 32],
+    }
+}
+
+/// The commitment of player 1, who stays where it is.
+fn commit(session: &Session, turn: Turn) -> TurnFrame {
+    let player: PlayerId = 1;
+    let opening = Opening {
+        player,
+        turn,
+        mv: stays(),
+        nonce: nonce_of(turn),
+    };
+    TurnFrame::Commit {
+        player,
+        turn,
+        digest: digest_of(session.id(), &opening),
+    }
+}
+
+/// The reveal of player 1, who stays where it is.
+fn reveal(turn: Turn) -> TurnFrame {
+    TurnFrame::Reveal {
+        player: 1,
+        turn,
+        mv: stays(),
+        nonce: nonce_of(turn),
+    }
+}
+
+/// Adds bytes at the end.
+fn add(log: &mut Vec<u8>, bytes: &[u8]) -> Result<(), AllocError> {
+    for byte in bytes {
+        log.push(*byte)?;
+    }
+    Ok(())
+}
+
+/// So many bytes from a place on, as far as they go.
+pub fn part(bytes: &[u8], from: usize, count: usize) -> &[u8]
+    ensures { length result.now ≤ count }
+{
+    let rest = &bytes[from.min(bytes.len())..];
+    &rest[..count.min(rest.len())]
+}
+
+/// The log of player 0 who received a turn of player 1 and the next turn's commitment.
+pub fn log_of(alloc: Global, session: &Session) -> Result<Vec<u8>, AllocError> {
+    let mut writer = LogWriter::new(session, 0);
+    let mut log = Vec::new(alloc);
+    for frame in [commit(session, 0), reveal(0), commit(session, 1)] {
+        let mut out = [0; 96];
+        let count = writer.put(&Entry::Got(1, frame), &mut out);
+        add(&mut log, part(&out, 0, count))?;
+    }
+    Ok(log)
+}
+
+/// The first answers of a log's reader.
+pub fn answers(session: &Session, log: &[u8]) -> [Next; 5] {
+    // no log here is longer
+    let log = part(log, 0, 1000);
+    let mut reader = LogReader::new(session);
+    let mut answers = [Next::End; 5];
+    'answers: for answer in &mut answers {
+        *answer = reader.next(session, log);
+    }
+    answers
+}
+
+/// The answers where so many entries are read, and then this is answered again and again.
+pub fn behind(session: &Session, entries: usize, last: Next) -> [Next; 5] {
+    let mut answers = [last; 5];
+    let frames = [commit(session, 0), reveal(0), commit(session, 1)];
+    for (answer, frame) in answers.iter_mut().zip(frames.iter()).take(entries) {
+        *answer = Next::Entry(Entry::Got(1, *frame));
+    }
+    answers
+}
+
+#[test]
+fn an_owner_that_is_no_player_is_refused(rt: HostRuntime) -> Result<(), Fail> {
+    let session = read_session(rt.alloc(), PATH).map_err(|_| "refused")?;
+    assert_eq!(rt; answers(&session, &[2, 0]), [Next::BadEntry(0); 5]);
+    Ok(())
+}
+
+/// The log with a kind in its third entry that no entry has, under the digest that belongs to it.
+fn with_no_kind(alloc: Global, log: &[u8]) -> Result<Vec<u8>, AllocError> {
+    let mut chained = Vec::new(alloc);
+    add(&mut chained, part(log, 0, 160))?;
+    add(&mut chained, &[9])?;
+    add(&mut chained, part(log, 161, 41))?;
+    let mut hasher = Sha256::new();
+    // the digest of the entry before, and the entry up to its own
+    hasher.update(part(chained.as_slice(), 126, 76));
+    add(&mut chained, &hasher.finalize())?;
+    Ok(chained)
+}
+
+#[test]
+fn a_kind_that_no_entry_has_is_refused(rt: HostRuntime) -> Result<(), Fail> {
+    let session = read_session(rt.alloc(), PATH).map_err(|_| "refused")?;
+    let log = log_of(rt.alloc(), &session)?;
+    let chained = with_no_kind(rt.alloc(), log.as_slice())?;
+    let told = answers(&session, chained.as_slice());
+    assert_eq!(rt; told, behind(&session, 2, Next::BadEntry(158)));
+    Ok(())
+}
+
+#[test]
+fn entries_are_chained_from_the_session_on(rt: HostRuntime) -> Result<(), Fail> {
+    let alloc = rt.alloc();
+    let session = read_session(alloc, PATH).map_err(|_| "refused")?;
+    let log = log_of(alloc, &session)?;
+    let mut hasher = Sha256::new();
+    hasher.update(session.id());
+    // the owner's byte, and the entry up to its digest
+    hasher.update(part(log.as_slice(), 0, 45));
+    let digest = hasher.finalize();
+    assert_eq!(rt; part(log.as_slice(), 45, 32), digest.as_slice());
+    Ok(())
+}

@@ -1,0 +1,21 @@
+use Rattle.std.proofs.Common.{◌∙◌}
+use Rattle.text_io.specs.declared.statuses.Status.TheVariants.{OutputFault}
+use Rattle.text_io.proofs.Frames.{onward_ended, onward_trans}
+use Rattle.drive_script.proofs.answering.bring.Goals as goal
+
+pub parts-preserved : goal.parts-preserved
+parts-preserved g c =
+    let more = c.in-On.ensures.more in
+    record {
+      told = λ t. c.in-On.ensures.told (c.parts.invariant.told t);
+      steady = c.in-On.ensures.steady ∙ c.parts.invariant.steady;
+      text = λ t lines. onward_trans _ _ _ _ _ _ (c.parts.invariant.text t lines) (rw c.split_at.ensures.back (c.in-On.ensures.text (c.parts.invariant.told t) lines));
+      may = rw c.split_at.ensures.back more.2;
+      lines = c.in-On.ensures.lines ∙ c.parts.invariant.lines;
+    }
+
+pub returns-in-Over-clause-text : goal.returns-in-Over-clause-text
+returns-in-Over-clause-text g c = λ t lines. onward_trans _ _ _ _ _ _ (c.parts.invariant.text t lines) (c.in-Over.ensures.text (c.parts.invariant.told t) lines)
+
+pub returns-in-Failed-clause-text : goal.returns-in-Failed-clause-text
+returns-in-Failed-clause-text g c = λ t lines. onward_ended _ _ _ _ _ OutputFault (c.parts.invariant.text t lines) (c.in-Failed.ensures.text (c.parts.invariant.told t) lines)

@@ -1,0 +1,11 @@
+use Rattle.drive_script.specs.Lines.{log_text}
+use Rattle.drive_script.proofs.Pieces.{wrote_both, wrote_first}
+use Rattle.drive_script.proofs.logging.put_log.Goals as goal
+
+pub returns-in-All-clause-text : goal.returns-in-All-clause-text
+unfolding log_text
+returns-in-All-clause-text g c = λ t. wrote_both _ _ _ _ _ _ (c.in-All.ensures.text t) (c.put.ensures.text (c.put_word_and_field.ensures.told t))
+
+pub returns-in-Failed-clause-text : goal.returns-in-Failed-clause-text
+unfolding log_text
+returns-in-Failed-clause-text g c = λ t. wrote_first _ _ _ _ (c.in-Failed.ensures.text t)

@@ -1,0 +1,112 @@
+//! Lines that are answered.
+
+ghost use Rattle.std.specs.Prelude.{◌≡◌, ◌≤◌, ◌<◌, ◌+◌, ◌∷◌, List, ℕ, length, drop, IsSome, IsTrue};
+ghost use Rattle.definitions.specs.Findings.{is_clean};
+ghost use Rattle.station.specs.Outside.{known, Rose};
+ghost use Rattle.text_io.specs.Frame.{UnlessOutputFault, OnDone};
+ghost use Rattle.text_io.specs.Turns.{Turned, TurnCause, MatchTurn, OnOn};
+ghost use Rattle.drive_script.specs.Hearing.{driven_from, bytes_from, MayCome};
+ghost use Rattle.drive_script.specs.Bringing.{Brought, OnFailed, OnWell, OnMore};
+ghost use Rattle.drive_script.specs.Ends.{ScriptEnds};
+
+use crate::driver::{Driver, Heard, is_last};
+use crate::printing::{put_answered, put_part};
+use definitions::PlayerId;
+use station::Sink;
+use text_io::{LoopTurn, Status, TextName, Written};
+
+/// Whether more of a line's bytes are to be read.
+#[derive(Clone, Copy)]
+pub(crate) enum PartTurn {
+    /// Yes, behind so many of them.
+    On(usize),
+    /// No: all are read, or one is bad, or there is a finding, behind which the rest is dropped.
+    Over,
+    /// The sink failed.
+    Failed,
+}
+
+/// The status of the line that comes next, if it is in no grammar.
+pub(crate) fn bad_line(driver: &Driver) -> Status
+    ensures { result ≡ Status.BadLine TextName.Script (driver.now.lines + 1) }
+{
+    Status::BadLine {
+        text: TextName::Script,
+        line: driver.next_line(),
+    }
+}
+
+/// Reads on in bytes that come from a player, up to the end of a frame, and tells of it.
+fn bring_part<O: Sink>(driver: &mut Driver, from: PlayerId, bytes: &[u8], out: &mut O) -> PartTurn
+    requires { MayCome driver.old from bytes.now }
+    ensures told { IsSome (O.held out.old) → IsSome (O.held out.new) }
+    ensures text { IsSome (O.held out.old) → (lines : List (List ℕ)) → Brought
+        (known (O.held out.old)) (bytes_from driver.old from bytes.now lines)
+        (known (O.held out.new)) driver.new from bytes.now lines result }
+    ensures later { O.faults out.old ≤ O.faults out.new }
+    ensures cause { OnFailed result (Rose (O.faults out.old) (O.faults out.new)) }
+    ensures steady { OnWell result (O.faults out.new ≡ O.faults out.old) }
+    ensures lines { driver.new.lines ≡ driver.old.lines }
+    ensures more { OnMore result (λ used. (0 < used) × (used ≤ length bytes.now) × MayCome driver.new from (drop used bytes.now)) }
+{
+    let part = driver.hear_part(from, bytes);
+    let found = part.found;
+    match put_part(driver.peer(), from, &found, out) {
+        Written::Failed => PartTurn::Failed,
+        Written::All => {
+            if is_last(&found) || driver.peer().finding().is_some() {
+                PartTurn::Over
+            } else {
+                PartTurn::On(part.used)
+            }
+        }
+    }
+}
+
+/// Reads the bytes that come from a player, and tells of each frame that they make whole, up to the first that makes a finding,
+/// and of a bad byte.
+fn bring<O: Sink>(driver: &mut Driver, from: PlayerId, bytes: &[u8], out: &mut O) -> LoopTurn
+    requires { MayCome driver.old from bytes.now }
+    ensures told { IsSome (O.held out.old) → IsSome (O.held out.new) }
+    ensures text { IsSome (O.held out.old) → (lines : List (List ℕ)) → Turned
+        (known (O.held out.old)) (bytes_from driver.old from bytes.now lines)
+        (known (O.held out.new)) (driven_from driver.new lines) result }
+    ensures later { O.faults out.old ≤ O.faults out.new }
+    ensures cause { TurnCause ScriptEnds ⊥ (Rose (O.faults out.old) (O.faults out.new)) result }
+    ensures steady { MatchTurn result (O.faults out.new ≡ O.faults out.old) (λ s. UnlessOutputFault s (O.faults out.new ≡ O.faults out.old)) }
+    ensures lines { OnOn result (driver.new.lines ≡ driver.old.lines) }
+    ensures read { MatchTurn result (Unit {0}) (λ s. OnDone s ⊥) }
+{
+    let mut rest = bytes;
+    'parts: loop {
+        match bring_part(driver, from, rest, out) {
+            PartTurn::On(used) => rest = rest.split_at(used).1,
+            PartTurn::Over => return LoopTurn::On,
+            PartTurn::Failed => return LoopTurn::Over(Status::OutputFault),
+        }
+    }
+}
+
+/// Takes the line that was read, and answers it.
+pub(crate) fn answer<O: Sink>(driver: &mut Driver, line: &[u8], out: &mut O) -> LoopTurn
+    requires short { length line.now ≤ 1024 }
+    requires clean { IsTrue (is_clean driver.old.game driver.old.state.log) }
+    ensures told { IsSome (O.held out.old) → IsSome (O.held out.new) }
+    ensures text { IsSome (O.held out.old) → (lines : List (List ℕ)) → Turned
+        (known (O.held out.old)) (driven_from driver.old (line.now ∷ lines))
+        (known (O.held out.new)) (driven_from driver.new lines) result }
+    ensures later { O.faults out.old ≤ O.faults out.new }
+    ensures cause { TurnCause ScriptEnds ⊥ (Rose (O.faults out.old) (O.faults out.new)) result }
+    ensures steady { MatchTurn result (O.faults out.new ≡ O.faults out.old) (λ s. UnlessOutputFault s (O.faults out.new ≡ O.faults out.old)) }
+    ensures counted { OnOn result ((driver.new.lines ≡ driver.old.lines + 1) × (driver.new.lines ≤ 1048576)) }
+    ensures read { MatchTurn result (Unit {0}) (λ s. OnDone s ⊥) }
+{
+    match driver.hear(line) {
+        Heard::Bad => LoopTurn::Over(bad_line(driver)),
+        Heard::Bytes(from, piece) => bring(driver, from, piece.as_slice(), out),
+        Heard::Line(answered) => match put_answered(driver.peer(), &answered, out) {
+            Written::All => LoopTurn::On,
+            Written::Failed => LoopTurn::Over(Status::OutputFault),
+        },
+    }
+}

@@ -1,9 +1,0 @@
-use Rattle.std.proofs.Common.{◌≡◌, ◌<◌, ◌^◌, drop}
-use Rattle.grid_world.specs.Lines.{value_from}
-use Rattle.grid_world.proofs.lines.read_value.Given as goal
-
-abbrev pub invariant-loop-digit : goal.invariant-loop-digit
-invariant-loop-digit l = record {
-  rest : value_from l.value (drop l.digit-index l.digits) ≡ value_from 0 l.digits;
-  small : l.value < 2 ^ 32;
-}

@@ -1,0 +1,16 @@
+//! A peer that goes on from a log: what its bytes say, and a peer that has logged just that.
+//!
+//! A log that was cut short or changed is used as far as it is whole: its bytes from the first fault on are dropped, and
+//! the entries before it are replayed. The crate promises that a peer is had exactly where the log isn't too long and these
+//! entries are its player's own and honest, unless memory runs out, that the peer's log is then these entries and nothing
+//! else, and that a log which is refused is answered with the byte from which on it can't be used. It takes memory from the
+//! allocator that it is given, and touches nothing else.
+#![tactic(auto)]
+
+mod places;
+mod reading;
+mod resuming;
+
+pub use definitions::LogWhy;
+pub use peer_core::Peer;
+pub use resuming::{LONGEST, OldFault, Resumed, resume_from};

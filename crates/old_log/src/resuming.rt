@@ -1,0 +1,81 @@
+//! A peer from the bytes of a log.
+
+ghost use Rattle.std.specs.Prelude.{◌<◌, IfOk};
+ghost use Rattle.definitions.specs.World.{players_of};
+ghost use Rattle.definitions.specs.Honest.{IsHonest};
+ghost use Rattle.old_log.specs.Resumed as R;
+
+use crate::places::place_behind;
+use crate::reading::{is_anothers, read_old};
+use definitions::{LogWhy, PlayerId};
+use grid_world::Session;
+use peer_core::{Peer, ResumeFault};
+use std::alloc::Global;
+
+/// How many bytes a log may have at most.
+pub const LONGEST: usize = 67_108_864;
+
+/// Why a peer can't go on from a log.
+#[derive(Clone, Copy, Debug, PartialEq, Eq)]
+pub enum OldFault {
+    /// There was no memory for the entries or the peer.
+    NoMemory,
+    /// The log can't be used from this byte on, counted from 0.
+    Bad { at: u32, why: LogWhy },
+}
+
+/// A peer that goes on from a log.
+#[derive(Drop)]
+pub struct Resumed {
+    /// Its log is the entries before the log's first fault.
+    pub peer: Peer,
+    /// The byte, counted from 0, from which on the log is dropped, where it has a fault: that of the first entry that is
+    /// torn, isn't chained to those before it, or is none of the owner's log. It is 0 where the log has its first byte
+    /// alone, or that is no player's number, and None where the log ends behind an entry or has no bytes.
+    pub dropped: Option<u32>,
+}
+
+/// A peer for this player of the session that goes on from the log with these bytes. The log's bytes from its first fault
+/// on are dropped, and the peer replays the entries before it; a log without a whole entry is gone on from as an empty one.
+///
+/// These are refused, in this order: TooLong, at 67108864, where the log has more bytes than that; NotReplayed, at 1, where
+/// it has an entry and is another player's; NotReplayed, at the byte where the entry begins, where an entry may not follow
+/// those before it. Nothing else is refused, but that memory may run out.
+pub fn resume_from(
+    alloc: Global,
+    session: &Session,
+    me: PlayerId,
+    bytes: &[u8],
+) -> Result<Resumed, OldFault>
+    requires player { me < players_of session.now }
+    ensures exact { R.Resumes session.now me bytes.now result }
+    ensures honest { IfOk result (λ r. IsHonest session.now me r.peer.entries) }
+{
+    if bytes.len() > LONGEST {
+        return Err(OldFault::Bad {
+            at: LONGEST as u32,
+            why: LogWhy::TooLong,
+        });
+    }
+    let Ok(log) = read_old(alloc, session, bytes) else {
+        return Err(OldFault::NoMemory);
+    };
+    let entries = log.entries.as_slice();
+    if is_anothers(me, log.owner, entries) {
+        return Err(OldFault::Bad {
+            at: 1,
+            why: LogWhy::NotReplayed,
+        });
+    }
+    match Peer::resume(alloc, session, me, entries) {
+        Ok(peer) => Ok(Resumed {
+            peer,
+            dropped: log.dropped,
+        }),
+        Err(ResumeFault::Memory) => Err(OldFault::NoMemory),
+        Err(ResumeFault::NotReplayed(i)) => Err(OldFault::Bad {
+            at: place_behind(session, me, &entries[..i as usize]),
+            why: LogWhy::NotReplayed,
+        }),
+    }
+}

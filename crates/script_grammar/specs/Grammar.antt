@@ -1,0 +1,110 @@
+-- Grammar: what a line of a script says.
+use Rattle.std.specs.Prelude.{ℕ, ◌≤◌, Bool, true, false, List, [], ◌∷◌, length, take, drop, Option, Some, None, bytes_eq, ◌==◌, codes, if◌then◌else◌}
+use Rattle.definitions.specs.declared.world.Cell.{Cell}
+use Rattle.script_grammar.specs.Numbers.{number_then}
+use Rattle.script_grammar.specs.Hexes.{nonce_of, frame_of, bytes_of}
+use Rattle.script_grammar.specs.declared.grammar.DriveLine.{DriveLine}
+use Rattle.script_grammar.specs.declared.grammar.DriveLine.TheVariants.{Nothing, Choose, Got, Bytes, Log, Bad}
+
+infixl 10 ◌>>=◌
+-- what the function gives of the value that is there
+abbrev pub ◌>>=◌ : {A B : Type 0} → Option A → (A → Option B) → Option B
+None >>= f = None
+(Some x) >>= f = f x
+
+-- `X Y ` and what stands behind it
+unfoldable pub cell_then : List ℕ → Option (Cell × List ℕ)
+cell_then text = do
+  x ← number_then 65535 text
+  y ← number_then 65535 x.1
+  Some (record { x = x.0; y = y.0 }, y.1)
+
+-- `X Y NONCE`
+unfoldable pub step_of : List ℕ → Option DriveLine
+step_of text = do
+  to ← cell_then text
+  nonce ← nonce_of to.1
+  Some (Choose (record { to = to.0; strike = None }) nonce)
+
+-- `X Y SX SY NONCE`
+unfoldable pub strike_of : List ℕ → Option DriveLine
+strike_of text = do
+  to ← cell_then text
+  at ← cell_then to.1
+  nonce ← nonce_of at.1
+  Some (Choose (record { to = to.0; strike = Some at.0 }) nonce)
+
+-- `Q FRAME`
+unfoldable pub got_of : List ℕ → Option DriveLine
+got_of text = do
+  from ← number_then 255 text
+  frame ← frame_of from.1
+  Some (Got from.0 frame)
+
+-- `Q HEX`
+unfoldable pub piece_of : List ℕ → Option DriveLine
+piece_of text = do
+  from ← number_then 15 text
+  bytes ← bytes_of from.1
+  Some (Bytes from.0 bytes)
+
+-- what stands behind this front
+abbrev pub behind : List ℕ → List ℕ → Option (List ℕ)
+behind front text = if bytes_eq (take (length front) text) front then Some (drop (length front) text) else None
+
+-- the first of two readings that there is
+abbrev pub or_else : Option DriveLine → Option DriveLine → Option DriveLine
+or_else None second = second
+or_else (Some line) second = Some line
+
+-- the reading, or none of the grammar
+abbrev pub or_bad : Option DriveLine → DriveLine
+or_bad None = Bad
+or_bad (Some line) = line
+
+-- `choose X Y NONCE` or `choose X Y SX SY NONCE`
+unfoldable pub choose_of : List ℕ → Option DriveLine
+choose_of line = behind (codes "choose ") line >>= (λ text. or_else (step_of text) (strike_of text))
+
+-- `got Q FRAME`
+unfoldable pub frame_from : List ℕ → Option DriveLine
+frame_from line = behind (codes "got ") line >>= got_of
+
+-- `bytes Q HEX`
+unfoldable pub bytes_from : List ℕ → Option DriveLine
+bytes_from line = behind (codes "bytes ") line >>= piece_of
+
+-- a frame or bytes that come from a player
+unfoldable pub coming_of : List ℕ → Option DriveLine
+coming_of line = or_else (frame_from line) (bytes_from line)
+
+-- `log`, a choice, or what comes from a player
+unfoldable pub word_line : List ℕ → Option DriveLine
+word_line line = if bytes_eq line (codes "log") then Some Log else or_else (choose_of line) (coming_of line)
+
+-- it is empty, or a comment
+abbrev pub is_passed_over : List ℕ → Bool
+is_passed_over [] = true
+is_passed_over (b ∷ line) = b == 35
+
+-- what a line says
+unfoldable pub line_of : List ℕ → DriveLine
+line_of line = if is_passed_over line then Nothing else or_bad (word_line line)
+
+-- bytes come from a player up to 15, and are at most 512
+abbrev pub IsFew : DriveLine → Type 0
+IsFew (Bytes q bytes) = (q ≤ 15) × (length bytes ≤ 512)
+IsFew Nothing = Unit {0}
+IsFew (Choose mv nonce) = Unit {0}
+IsFew (Got q f) = Unit {0}
+IsFew Log = Unit {0}
+IsFew Bad = Unit {0}
+
+-- the line is in no grammar
+abbrev pub is_bad : DriveLine → Bool
+is_bad Bad = true
+is_bad Nothing = false
+is_bad (Choose mv nonce) = false
+is_bad (Got q f) = false
+is_bad (Bytes q bytes) = false
+is_bad Log = false

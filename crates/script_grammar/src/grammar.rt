@@ -1,0 +1,163 @@
+//! What a line of a script says.
+
+ghost use Rattle.std.specs.Prelude.{◌≡◌, ◌≤◌, length, option_map, IfSome};
+ghost use Rattle.script_grammar.specs.Grammar as G;
+
+use crate::hexes::{read_frame, read_nonce, read_piece};
+use crate::numbers::number_then;
+use crate::pieces::Piece;
+use definitions::{Cell, Move, Nonce, PlayerId, TurnFrame};
+
+/// What a line of a script says.
+#[derive(Drop)]
+pub enum DriveLine {
+    /// Nothing: it is empty or a comment, and is passed over.
+    Nothing,
+    /// The peer's player chooses this move, with this nonce.
+    Choose(Move, Nonce),
+    /// This frame comes from this player.
+    Got(PlayerId, TurnFrame),
+    /// These bytes come from this player, behind those that came from it before.
+    Bytes(PlayerId, Piece),
+    /// The log is to be printed.
+    Log,
+    /// It is not in the grammar.
+    Bad,
+}
+
+/// The two numbers of a cell, each before a space, and what stands behind them.
+#[tactic(auto, unfolding(crate::specs::Grammar::cell_then))]
+fn cell_then(text: &[u8]) -> Option<(Cell, &[u8])>
+    ensures { option_map (λ c. (c.0, c.1.now)) result ≡ G.cell_then text.now }
+{
+    let (x, rest) = number_then(65535, text)?;
+    let (y, rest) = number_then(65535, rest)?;
+    let cell = Cell {
+        x: x as u16,
+        y: y as u16,
+    };
+    Some((cell, rest))
+}
+
+/// A choice of a move that does not strike.
+#[tactic(auto, unfolding(crate::specs::Grammar::step_of))]
+fn read_step(text: &[u8]) -> Option<DriveLine>
+    ensures value { result ≡ G.step_of text.now }
+    ensures few { IfSome result G.IsFew }
+{
+    let (to, rest) = cell_then(text)?;
+    let nonce = read_nonce(rest)?;
+    Some(DriveLine::Choose(Move { to, strike: None }, nonce))
+}
+
+/// A choice of a move that strikes.
+#[tactic(auto, unfolding(crate::specs::Grammar::strike_of))]
+fn read_strike(text: &[u8]) -> Option<DriveLine>
+    ensures value { result ≡ G.strike_of text.now }
+    ensures few { IfSome result G.IsFew }
+{
+    let (to, rest) = cell_then(text)?;
+    let (at, rest) = cell_then(rest)?;
+    let nonce = read_nonce(rest)?;
+    let strike = Some(at);
+    Some(DriveLine::Choose(Move { to, strike }, nonce))
+}
+
+/// A choice.
+#[tactic(auto, unfolding(crate::specs::Grammar::choose_of))]
+fn read_choose(line: &[u8]) -> Option<DriveLine>
+    ensures value { result ≡ G.choose_of line.now }
+    ensures few { IfSome result G.IsFew }
+{
+    let text = line.strip_prefix(b"choose ")?;
+    match read_step(text) {
+        Some(step) => Some(step),
+        None => read_strike(text),
+    }
+}
+
+/// A frame and the player from whom it comes.
+#[tactic(auto, unfolding(crate::specs::Grammar::got_of))]
+fn read_received(text: &[u8]) -> Option<DriveLine>
+    requires { length text.now ≤ 1024 }
+    ensures value { result ≡ G.got_of text.now }
+    ensures few { IfSome result G.IsFew }
+{
+    let (from, rest) = number_then(255, text)?;
+    let frame = read_frame(rest)?;
+    Some(DriveLine::Got(from as u8, frame))
+}
+
+/// A frame that comes.
+#[tactic(auto, unfolding(crate::specs::Grammar::frame_from))]
+fn read_got(line: &[u8]) -> Option<DriveLine>
+    requires { length line.now ≤ 1024 }
+    ensures value { result ≡ G.frame_from line.now }
+    ensures few { IfSome result G.IsFew }
+{
+    read_received(line.strip_prefix(b"got ")?)
+}
+
+/// Bytes and the player from whom they come, up to 15.
+#[tactic(auto, unfolding(crate::specs::Grammar::piece_of))]
+fn read_pieces(text: &[u8]) -> Option<DriveLine>
+    requires { length text.now ≤ 1024 }
+    ensures value { result ≡ G.piece_of text.now }
+    ensures few { IfSome result G.IsFew }
+{
+    let (from, rest) = number_then(15, text)?;
+    let piece = read_piece(rest)?;
+    Some(DriveLine::Bytes(from as u8, piece))
+}
+
+/// Bytes that come.
+#[tactic(auto, unfolding(crate::specs::Grammar::bytes_from))]
+fn read_bytes(line: &[u8]) -> Option<DriveLine>
+    requires { length line.now ≤ 1024 }
+    ensures value { result ≡ G.bytes_from line.now }
+    ensures few { IfSome result G.IsFew }
+{
+    read_pieces(line.strip_prefix(b"bytes ")?)
+}
+
+/// What comes from a player, a frame or bytes.
+#[tactic(auto, unfolding(crate::specs::Grammar::coming_of))]
+fn read_coming(line: &[u8]) -> Option<DriveLine>
+    requires { length line.now ≤ 1024 }
+    ensures value { result ≡ G.coming_of line.now }
+    ensures few { IfSome result G.IsFew }
+{
+    match read_got(line) {
+        Some(got) => Some(got),
+        None => read_bytes(line),
+    }
+}
+
+/// What a line says that is neither empty nor a comment.
+#[tactic(auto, unfolding(crate::specs::Grammar::word_line))]
+fn read_words(line: &[u8]) -> Option<DriveLine>
+    requires { length line.now ≤ 1024 }
+    ensures value { result ≡ G.word_line line.now }
+    ensures few { IfSome result G.IsFew }
+{
+    if line == b"log".as_slice() {
+        return Some(DriveLine::Log);
+    }
+    match read_choose(line) {
+        Some(choose) => Some(choose),
+        None => read_coming(line),
+    }
+}
+
+/// What the line says, which has at most 1,024 bytes.
+#[tactic(auto, unfolding(crate::specs::Grammar::line_of))]
+pub fn read_line(line: &[u8]) -> DriveLine
+    requires { length line.now ≤ 1024 }
+    ensures value { result ≡ G.line_of line.now }
+    ensures few { G.IsFew result }
+{
+    if line.is_empty() || line[0] == b'#' {
+        return DriveLine::Nothing;
+    }
+    read_words(line).unwrap_or(DriveLine::Bad)
+}

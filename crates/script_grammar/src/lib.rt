@@ -1,0 +1,15 @@
+//! What a line of a script says: a choice, a frame or bytes that come from a player, or that the log is to be printed.
+//!
+//! This crate promises that a line is read exactly as the definitions in `specs/Grammar.antt` have it: numbers in their one
+//! form, fields parted by one space, and hexadecimal text in lower-case digits; any other line is answered as one of no
+//! grammar. It takes no memory and touches nothing outside.
+#![tactic(auto)]
+
+pub mod grammar;
+mod hexes;
+mod numbers;
+pub mod pieces;
+
+pub use grammar::{DriveLine, read_line};
+pub use numbers::read_number;
+pub use pieces::Piece;
