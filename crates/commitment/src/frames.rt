@@ -7,6 +7,7 @@ ghost use Rattle.definitions.specs.declared.frames.TurnFrame.{TurnFrame};
 
 use crate::openings::spell_move;
 use arrayvec::ArrayVec;
+use byte_fields::{put_slice, take_array, take_u16, take_u32};
 use definitions::{Cell, Digest, Move, Nonce, TurnFrame};
 
 /// A frame's 40, 45 or 49 bytes.
@@ -52,9 +53,8 @@ pub fn put_turn(frame: &TurnFrame, out: &mut [u8; 64]) -> usize
     ensures count { result ≡ length (frame_bytes frame.now) }
 {
     let bytes = spell(frame);
-    let count = bytes.len();
-    out[..count].copy_from_slice(bytes.as_slice());
-    count
+    put_slice(out, 0, bytes.as_slice());
+    bytes.len()
 }
 
 /// The two bytes from this one on as a number.
@@ -62,7 +62,7 @@ fn short_at(bytes: &[u8], at: usize) -> u16
     requires { at + 1 < length bytes.now }
     ensures { result ≡ S.short_at bytes.now at }
 {
-    u16::from_be_bytes([bytes[at], bytes[at + 1]])
+    take_u16(bytes, at).unwrap()
 }
 
 /// The four bytes from this one on as a cell.
@@ -81,7 +81,7 @@ fn turn_at(bytes: &[u8]) -> u32
     requires { 7 < length bytes.now }
     ensures { result ≡ S.turn_at bytes.now }
 {
-    u32::from_be_bytes([bytes[4], bytes[5], bytes[6], bytes[7]])
+    take_u32(bytes, 4).unwrap()
 }
 
 /// The 32 bytes from this one on.
@@ -89,9 +89,7 @@ fn array_at(bytes: &[u8], at: usize) -> [u8; 32]
     requires { at + 32 ≤ length bytes.now }
     ensures { result ≡ slice_range bytes.now at (at + 32) }
 {
-    let mut array = [0; 32];
-    array.copy_from_slice(&bytes[at..at + 32]);
-    array
+    take_array(bytes, at).unwrap()
 }
 
 /// Whether the bytes are of this kind, with a payload as long as its length says.

@@ -4,6 +4,7 @@ ghost use Rattle.std.specs.Prelude.{◌≡◌, ◌↔◌, ◌⊎◌, ◌+◌, �
 ghost use Rattle.definitions.specs.Openings as O;
 
 use arrayvec::ArrayVec;
+use byte_fields::put_slice;
 use definitions::{Cell, Digest, Move, Opening};
 use sha2::{Digest as _, Sha256};
 
@@ -59,9 +60,8 @@ pub fn opening_bytes(id: &[u8; 32], opening: &Opening, out: &mut [u8; 78]) -> us
     ensures count { result ≡ length (O.opening id.now opening.now) }
 {
     let bytes = spell(id, opening);
-    let count = bytes.len();
-    out[..count].copy_from_slice(bytes.as_slice());
-    count
+    put_slice(out, 0, bytes.as_slice());
+    bytes.len()
 }
 
 /// The commitment to an opening in the session with this id: the SHA-256 digest of its bytes (FIPS 180-4).

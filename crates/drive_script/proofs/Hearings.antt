@@ -17,7 +17,6 @@ use Rattle.text_io.specs.Lines.{StartsLonger}
 use Rattle.text_io.specs.Texts.{Between}
 use Rattle.text_io.specs.declared.statuses.Status.TheVariants.{BadLine, Caught}
 use Rattle.text_io.specs.declared.statuses.TextName.TheVariants.{Script}
-use Rattle.text_io.proofs.Frames.{onward_start}
 use Rattle.text_io.proofs.Writing.{grew}
 use Rattle.script_grammar.specs.declared.grammar.DriveLine.{DriveLine}
 use Rattle.script_grammar.specs.declared.grammar.DriveLine.TheVariants.{Bad, Nothing, Choose, Got, Bytes, Log}
@@ -100,10 +99,6 @@ pub too_long : (game : Game) (me : ℕ) (s : State) (n : ℕ) (lines : List (Lis
 too_long game me s n [] c l = absurd l
 too_long game me s n (line ∷ lines) c l = refused game me s n line lines c (sym (overlong n line l))
 
--- nothing was written, and the whole answer is the rest
-pub onward_same : (a : List ℕ) (p q : Answer) → p ≡ q → Onward a p a q
-onward_same a p q e = let F : Answer → Type 0 = λ r. Onward a p a r in subst F e (onward_start a p)
-
 -- the text before the rest was written
 pub onward_text : (a b t : List ℕ) (p q : Answer) → p ≡ after_text t q → b ≡ a ++ t → Onward a p b q
 onward_text a b t p q e w =
@@ -126,10 +121,6 @@ bad_ends a p n e = (sym (append-nil a) ∙ ap (λ (r : Answer). a ++ r.body) (sy
 pub told_none : (b clean : Bool) → b ≡ not clean → b ≡ false → clean ≡ true
 told_none b true e f = refl
 told_none b false e f = cc
-
-pub told_one : (b clean : Bool) → b ≡ not clean → b ≡ true → clean ≡ false
-told_one b false e f = refl
-told_one b true e f = cc
 
 -- where nothing is pending or left, nothing is left
 pub none_left : (a b : List ℕ) → a ++ b ≡ [] → b ≡ []

@@ -1,9 +1,9 @@
 -- Pieces: texts of several pieces, one behind the other.
-use Rattle.std.proofs.Common.{◌≡◌, ℕ, List, [], ◌++◌, ap, sym, ◌∙◌, append_assoc, append-nil, refl}
+use Rattle.std.proofs.Common.{◌≡◌, ℕ, List, [], ◌++◌, ap, sym, ◌∙◌, append_assoc, append-nil}
 use Rattle.text_io.specs.Texts.{Between, Underway, Wrote}
 use Rattle.text_io.specs.declared.texts.Written.{Written}
 use Rattle.text_io.specs.declared.texts.Written.TheVariants.{All, Failed}
-use Rattle.text_io.proofs.Writing.{begins_trans, between, from_before, grew, to_after}
+use Rattle.text_io.proofs.Writing.{begins_trans, between, from_before, to_after}
 
 -- the second piece, behind the first
 pub wrote_both : (a b c t u : List ℕ) (r : Written) → b ≡ a ++ t → Wrote b c u r → Wrote a c (t ++ u) r
@@ -17,10 +17,6 @@ pub wrote_first : (a b t u : List ℕ) → Between a t b → Between a (t ++ u) 
 wrote_first a b t u p =
     let w = to_after a t b p in
     between a (t ++ u) b (from_before a t b p) (w.0 ++ u, sym (append_assoc a t u) ∙ ap (λ x. x ++ u) w.1 ∙ append_assoc b w.0 u)
-
--- nothing is written yet
-pub underway_start : (a t : List ℕ) → Underway a t a t
-underway_start a t = let k = grew a a ([], sym (append-nil a)) in record { longer = k.longer; kept = k.kept; whole = refl }
 
 -- all is written
 pub underway_end : (a t now rest : List ℕ) → Underway a t now rest → rest ≡ [] → now ≡ a ++ t

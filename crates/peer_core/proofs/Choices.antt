@@ -53,9 +53,6 @@ parity n = by_test (n % 2 == 0) refl
     by_test true e = let z = eqb-true (n % 2) 0 e in inl (e, omega arith)
     by_test false e = inr (e, odd (λ z. false_true (sym e ∙ eq-eqb (n % 2) 0 z)))
 
-if_same : {X : Type 0} (a b : Bool) (x y : X) → a ≡ b → (if a then x else y) ≡ (if b then x else y)
-if_same a b x y e = ap (λ (c : Bool). if c then x else y) e
-
 -- where the turn of a place isn't chosen nothing is made for it
 frame_or_none : (game : Game) (me : ℕ) (h : List Entry) (w : What) (b : Bool) (o : Option Opening) →
     ((p : Opening) → o ≡ Some p → allowed game me h (Made (frame_of game w p)) ≡ b) →
@@ -141,9 +138,6 @@ next_free game me n h os false none is i c e o f = caught_next game me h (sym c)
 pub empty_is : {X : Type 0} (b : Bool) (xs : List X) → b ≡ (length xs == 0) → b ≡ is_empty xs
 empty_is b [] e = e
 empty_is b (x ∷ xs) e = e ∙ ne_eqb (length (x ∷ xs)) 0 (omega arith)
-
-some_true : (b : Bool) → b ≡ true → not b ≡ false
-some_true b e = rw e refl
 
 unchosen_even : (game : Game) (me t : ℕ) (h : List Entry) → IsSession game → IsHonest game me h → made_count h ≡ 2 * t → t < game.turns →
     nat_le (length (chosen me h)) t ≡ is_unchosen me h (slot_at game (made_count h))
@@ -280,12 +274,3 @@ not_refused game me h m b t u e n at v =
     let found = (judged_none game t m (move_fault game me t m) u v).0 in
     let Fault : Track → Option MoveFault = λ k. move_fault game me k m in
     rw test (ap own_fault (sym found ∙ ap Fault at))
-
-pub legal_fault : (game : Game) (me : ℕ) (h : List Entry) (m : Move) (t u : Track) → t ≡ chosen_track game me h → Ok u ≡ verdict game me t m → move_fault game me (chosen_track game me h) m ≡ None
-legal_fault game me h m t u at v =
-    let Fault : Track → Option MoveFault = λ k. move_fault game me k m in
-    ap Fault (sym at) ∙ (judged_none game t m (move_fault game me t m) u v).0
-
-pub legal_next : (game : Game) (me : ℕ) (h : List Entry) (m : Move) (t u : Track) → t ≡ chosen_track game me h → Ok u ≡ verdict game me t m → u ≡ next_track game (chosen_track game me h) m
-legal_next game me h m t u at v =
-    (judged_none game t m (move_fault game me t m) u v).1 ∙ ap (λ (k : Track). next_track game k m) at

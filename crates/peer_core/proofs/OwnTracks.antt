@@ -3,7 +3,6 @@ use Rattle.std.proofs.Common.{◌≡◌, ℕ, zero, suc, ◌+◌, ◌*◌, ◌�
 use Rattle.std.specs.Prelude.{◌&&◌, not, map, Some, is_none, if◌then◌else◌}
 use Rattle.std.proofs.lemmas.Bool.{and_parts}
 use Rattle.std.proofs.lemmas.List.{take-append-drop, length-map}
-use Rattle.definitions.specs.declared.world.Cell.{Cell}
 use Rattle.definitions.specs.declared.world.Move.{Move}
 use Rattle.definitions.specs.declared.world.Track.{Track}
 use Rattle.definitions.specs.declared.world.MoveFault.TheVariants.{Outside, Wall, TooFar}
@@ -116,34 +115,11 @@ open_inside : (i w : Bool) → (i && w) ≡ true → i ≡ true
 open_inside true w h = refl
 open_inside false w h = h
 
-pub own_cell_inside : (game : Game) (me t : ℕ) (h : List Entry) (tracks : List Track) (d : Track) → IsSession game → me < players_of game → IsHonest game me h → AreOwnTracks game me h tracks →
-    t ≤ resolved_count game me h me → is_inside game.grid (get_or tracks t d).at ≡ true
-own_cell_inside game me t h tracks d is lt i are le =
-    let P : Cell → Type 0 = λ c. is_inside game.grid c ≡ true in
-    subst P (sym (own_track_at game me t h tracks d (ahead game is) i are le))
-    (open_inside (is_inside game.grid (cell_before game me h me t)) (not (is_wall game.grid (cell_before game me h me t))) (own_cell_open game me t h (ahead game is) i (seat_open game me is lt) le))
-
--- the turns that the owner resolved are turns of the session
-pub own_turns : (game : Game) (me : ℕ) (h : List Entry) → IsSession game → IsHonest game me h → resolved_count game me h me ≤ game.turns
-own_turns game me h is i =
-    let n = own_counts game me h (ahead game is) i in
-    let before = n.before in
-    let enough = n.enough in
-    let few = n.few in
-    omega arith
-
 -- the track that is known of a player stands on an open cell
 pub known_open : (game : Game) (me q : ℕ) (h : List Entry) → IsSession game → q < players_of game → is_open game.grid (track_after game q (known game me h q).moves).at ≡ true
 unfolding known AreKnownLegal
 known_open game me q h is lt =
     moves-open game q (start_track game q) (known game me h q).moves (seat_open game q is lt) (known_to_legal game q (frames_of me q h) (2 * game.turns))
-
--- a player starts inside the grid
-pub start_inside : (game : Game) (q : ℕ) (at : Track) → IsSession game → q < players_of game → at ≡ start_track game q → is_inside game.grid at.at ≡ true
-start_inside game q at is lt e =
-    let P : Track → Type 0 = λ t. is_inside game.grid t.at ≡ true in
-    let c : Cell = (start_track game q).at in
-    subst P (sym e) (open_inside (is_inside game.grid c) (not (is_wall game.grid c)) (seat_open game q is lt))
 
 -- where the owner stands after its choices is open
 pub chosen_open : (game : Game) (me : ℕ) (h : List Entry) → IsSession game → me < players_of game → IsHonest game me h → is_open game.grid (chosen_track game me h).at ≡ true

@@ -1,5 +1,5 @@
 -- Tables: what a peer keeps of the other players, as the log grows.
-use Rattle.std.proofs.Common.{◌≡◌, ℕ, zero, suc, ◌+◌, ◌<◌, List, [], ◌∷◌, ◌++◌, refl, Bool, true, false, sym, ◌∙◌, ap, subst, arith, length, get_or, set, length-append, length-set, get_or-set_same, get_or-set_other, replicate}
+use Rattle.std.proofs.Common.{◌≡◌, ℕ, zero, suc, ◌+◌, ◌<◌, List, [], ◌∷◌, ◌++◌, refl, Bool, true, false, sym, ◌∙◌, ap, subst, arith, length, get_or, set, length-set, get_or-set_same, get_or-set_other, replicate}
 use Rattle.std.specs.Prelude.{◌==◌, ◌&&◌, not, nat_lt, if◌then◌else◌, slice_get, is_some}
 use Rattle.std.proofs.lemmas.List.{get_or-replicate, length-replicate}
 use Rattle.std.proofs.lemmas.Bool.{and_parts, ltb-true, eqb-true, eqb-false, ne_eqb, false≢true}
@@ -275,9 +275,6 @@ pub record AreOpening (game : Game) (n : ℕ) (ws : List Seen) : Type 0 where
   pub count : length ws ≡ n
   pub each : (q : ℕ) (d : Seen) → q < n → IsOpened game q (get_or ws q d)
 
-pub opening_none : (game : Game) (ws : List Seen) → ws ≡ [] → AreOpening game 0 ws
-opening_none game ws e = record { count = ap (λ (xs : List Seen). length xs) e; each = λ q d lt. absurd (omega arith) }
-
 at_front : {X : Type 0} (xs ys : List X) (n : ℕ) (d : X) → n < length xs → get_or (xs ++ ys) n d ≡ get_or xs n d
 at_front [] ys n d lt = absurd (omega arith)
 at_front (x ∷ xs) ys zero d lt = refl
@@ -286,26 +283,6 @@ at_front (x ∷ xs) ys (suc n) d lt = at_front xs ys n d (omega arith)
 at_seam : {X : Type 0} (xs : List X) (y d : X) → get_or (xs ++ y ∷ []) (length xs) d ≡ y
 at_seam [] y d = refl
 at_seam (x ∷ xs) y d = at_seam xs y d
-
-pub opening_more : (game : Game) (n : ℕ) (ws ws' : List Seen) (w : Seen) → AreOpening game n ws → ws' ≡ ws ++ w ∷ [] → IsWindow game w → w.player ≡ n → w.frames ≡ [] → w.closed ≡ false → AreOpening game (n + 1) ws'
-opening_more game n ws ws' w o e window player empty still = record {
-  count = ap (λ (xs : List Seen). length xs) e ∙ length-append ws (w ∷ []) ∙ ap (λ k. k + 1) o.count;
-  each = λ q d lt. subst (λ (xs : List Seen). IsOpened game q (get_or xs q d)) (sym e) (by_player q d lt (q == n) refl);
-}
-  where
-    by_player : (q : ℕ) (d : Seen) → q < n + 1 → (b : Bool) → (q == n) ≡ b → IsOpened game q (get_or (ws ++ w ∷ []) q d)
-    by_player q d lt true t =
-        let same : q ≡ n = eqb-true q n t in
-        let at : get_or (ws ++ w ∷ []) q d ≡ w = ap (λ k. get_or (ws ++ w ∷ []) k d) (same ∙ sym o.count) ∙ at_seam ws w d in
-        subst (λ (x : Seen). IsOpened game q x) (sym at) (record { window = window; player = player ∙ sym same; empty = empty; still = still })
-    by_player q d lt false t =
-        let apart : q ≡ n → ⊥ = eqb-false q n t in
-        let count = o.count in
-        let below : q < n = omega (arith, apart) in
-        subst (λ (x : Seen). IsOpened game q x) (sym (at_front ws (w ∷ []) q d (omega arith))) (o.each q d below)
-
-pub opening_all : (game : Game) (n : ℕ) (ws : List Seen) → n ≡ players_of game → AreOpening game n ws → AreOpened game ws
-opening_all game n ws all o = record { count = o.count ∙ all; each = λ q d lt. o.each q d (omega arith) }
 
 -- the entries that a window was offered stand below the log's next
 pub offered_below : (game : Game) (me q : ℕ) (h : List Entry) (w : Seen) → IsWindowOf game me h q w → EachIs (λ r. r.entry < length h) w.frames
