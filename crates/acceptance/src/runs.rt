@@ -106,18 +106,25 @@ fn shelf_of_two(
     alloc: Global,
     first: ShelfFile,
     second: ShelfFile,
+    fails: &'static [u32],
 ) -> Result<MemoryShelf, AllocError>
     requires { bytes_eq first.name second.name ≡ false }
 {
     let files = pair_of(alloc, first, second)?;
-    Ok(MemoryShelf::new(files, Vec::new(alloc)))
+    let fails = Vec::from_slice(alloc, fails)?;
+    Ok(MemoryShelf::new(files, fails))
 }
 
 /// A shelf with a session's file of the name `s`, and a log's file of the name `o`.
-fn shelf_with_log(alloc: Global, session: &[u8], old: &[u8]) -> Result<MemoryShelf, AllocError> {
+fn shelf_with_log(
+    alloc: Global,
+    session: &[u8],
+    old: &[u8],
+    fails: &'static [u32],
+) -> Result<MemoryShelf, AllocError> {
     let first = file_of(alloc, b"s", session)?;
     let second = file_of(alloc, b"o", old)?;
-    shelf_of_two(alloc, first, second)
+    shelf_of_two(alloc, first, second, fails)
 }
 
 /// The words of `drive` that name the session's file, this player, and a log's file.
@@ -130,19 +137,26 @@ fn words_with_log(alloc: Global, name: &[u8], player: &[u8]) -> Result<Vec<Vec<u
     Ok(words)
 }
 
-/// Runs `drive` for this player, who goes on from the log in the file of this name.
-pub fn run_named(
+/// A session, the name by which the words ask for a log, and the log in the file `o`.
+#[derive(Clone, Copy)]
+pub struct Files<'a> {
+    pub session: &'a [u8],
+    pub name: &'a [u8],
+    pub old: &'a [u8],
+}
+
+/// Runs `drive` for this player, who goes on from a log.
+pub fn run_files(
     alloc: Global,
-    name: &[u8],
     player: &[u8],
-    session: &[u8],
-    old: &[u8],
+    files: &Files<'_>,
     script: &[u8],
+    fails: &Fails,
 ) -> Result<(Status, Vec<u8>), AllocError> {
-    let mut shelf = shelf_with_log(alloc, session, old)?;
-    let words = words_with_log(alloc, name, player)?;
-    let mut input = source_of(alloc, script, NONE.source)?;
-    let mut out = sink_of(alloc, NONE.sink)?;
+    let mut shelf = shelf_with_log(alloc, files.session, files.old, fails.shelf)?;
+    let words = words_with_log(alloc, files.name, player)?;
+    let mut input = source_of(alloc, script, fails.source)?;
+    let mut out = sink_of(alloc, fails.sink)?;
     let status = run(alloc, words.as_slice(), &mut input, &mut out, &mut shelf);
     Ok((status, Vec::from_slice(alloc, out.bytes())?))
 }
@@ -155,5 +169,10 @@ pub fn run_old(
     old: &[u8],
     script: &[u8],
 ) -> Result<(Status, Vec<u8>), AllocError> {
-    run_named(alloc, b"o", player, session, old, script)
+    let files = Files {
+        session,
+        name: b"o",
+        old,
+    };
+    run_files(alloc, player, &files, script, &NONE)
 }

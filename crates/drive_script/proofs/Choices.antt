@@ -58,7 +58,7 @@ extends_made : (h : List Entry) (o : Option TurnFrame) → Extends h (with_made 
 extends_made h None = ([], sym (append-nil h))
 extends_made h (Some f) = (Made f ∷ [], refl)
 
-extends_by : (game : Game) (me n : ℕ) (h : List Entry) → Extends h (advance_by game me n h)
+pub extends_by : (game : Game) (me n : ℕ) (h : List Entry) → Extends h (advance_by game me n h)
 unfolding advance_by
 extends_by game me zero h = ([], sym (append-nil h))
 extends_by game me (suc n) h =

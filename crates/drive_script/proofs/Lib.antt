@@ -8,3 +8,4 @@ pub mod Tellings
 pub mod Parts
 pub mod Digits
 pub mod Streams
+pub mod Runs

@@ -5,9 +5,14 @@ use Rattle.definitions.specs.World.{Game}
 use Rattle.definitions.specs.Findings.{is_clean}
 use Rattle.definitions.specs.Honest.{IsHonest}
 use Rattle.text_io.specs.Lines.{lines_of}
+use Rattle.definitions.specs.Advance.{advance}
+use Rattle.definitions.specs.Steps.{LogStep, Chooses, Comes, log_run}
+use Rattle.wire_frames.specs.declared.frames.Frame.{Frame}
+use Rattle.wire_frames.specs.declared.frames.Frame.TheVariants.{Hello, Turn, Want}
 use Rattle.wire_frames.specs.Streams.{end_of, given_of, stream_of}
 use Rattle.script_grammar.specs.declared.grammar.DriveLine.{DriveLine}
 use Rattle.script_grammar.specs.declared.grammar.DriveLine.TheVariants.{Nothing, Choose, Got, Bytes, Log, Bad}
+use Rattle.script_grammar.specs.Grammar.{is_bad}
 use Rattle.drive_script.specs.Driven.{State, fresh, reader_of}
 use Rattle.drive_script.specs.Drive.{drive, drive_log, bad_line, said_behind, state_behind, status_for}
 use Rattle.drive_script.specs.FairPlay.{IsFairPlay}
@@ -57,3 +62,31 @@ pub record GivesTheNext (game : Game) (me : ℕ) (first : List Entry) (lines : L
 -- what comes from a player in lines is one stream, however the lines cut it
 abbrev pub LinesAreOneStream : Type 0
 LinesAreOneStream = (game : Game) (me : ℕ) (first : List Entry) (lines : List (List ℕ)) (q : ℕ) (bytes : List ℕ) → q < 16 → GivesTheNext game me first lines q bytes
+
+-- the commitments and reveals among frames that come from the player, as steps of a log
+abbrev pub steps_in : (q : ℕ) → List Frame → List LogStep
+steps_in q [] = []
+steps_in q (Turn f ∷ fs) = Comes q f ∷ steps_in q fs
+steps_in q (Hello id p pass next ∷ fs) = steps_in q fs
+steps_in q (Want place ∷ fs) = steps_in q fs
+
+-- the steps that a line brings, where the peer has this
+abbrev pub steps_of : State → DriveLine → List LogStep
+steps_of s (Choose mv nonce) = Chooses mv nonce ∷ []
+steps_of s (Got q f) = Comes q f ∷ []
+steps_of s (Bytes q bytes) = steps_in q (given_of (reader_of s q) bytes).frames
+steps_of s Nothing = []
+steps_of s Log = []
+steps_of s Bad = []
+
+-- the steps of these lines, which come behind n lines, up to the first that is in no grammar
+abbrev pub steps_from : Game → ℕ → State → ℕ → List (List ℕ) → List LogStep
+steps_from game me s n [] = []
+steps_from game me s n (line ∷ lines) =
+    if is_bad (said_behind n line) then [] else steps_of s (said_behind n line) ++ steps_from game me (state_behind game me s (said_behind n line)) (n + 1) lines
+
+-- The log that a peer has at the end of its run is that of the protocol's steps, one behind the other, which its script's lines
+-- bring: behind a finding no step changes a log.
+abbrev pub DrivesAreRuns : Type 0
+DrivesAreRuns = (game : Game) (me : ℕ) (first : List Entry) (script : List ℕ) → let h = advance game me first in
+    drive_log game me first script ≡ log_run game me h (steps_from game me (fresh h) 0 (lines_of script))

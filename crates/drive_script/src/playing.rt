@@ -1,6 +1,7 @@
 //! A script that is answered line by line.
 
 ghost use Rattle.std.specs.Prelude.{◌≡◌, ◌≤◌, ◌+◌, ◌++◌, ◌∷◌, [], List, ℕ, false, length, IsSome, IsTrue};
+ghost use Rattle.definitions.specs.Advance.{advance};
 ghost use Rattle.definitions.specs.Findings.{is_clean};
 ghost use Rattle.log_scan.specs.First.{finding_of_log};
 ghost use Rattle.station.specs.Outside.{known, Rose};
@@ -109,6 +110,7 @@ fn follow<I: Source, O: Sink>(
     ensures told_out { IsSome (O.held out.old) → IsSome (O.held out.new) }
     ensures text { IsSome (I.left input.old) → IsSome (O.held out.old) → Ended (known (O.held out.old)) (known (O.held out.new))
         (after_text (added_text entries driver.old.state.log ++ found_text (finding_of_log driver.old.game driver.old.state.log)) (driven_from driver.old (lines_of (known (I.left input.old))))) result }
+    ensures untouched { is_clean driver.old.game driver.old.state.log ≡ false → input.new ≡ input.old }
     ensures later_in { I.faults input.old ≤ I.faults input.new }
     ensures later_out { O.faults out.old ≤ O.faults out.new }
     ensures cause { EndCause ScriptEnds (Rose (I.faults input.old) (I.faults input.new)) (Rose (O.faults out.old) (O.faults out.new)) result }
@@ -118,7 +120,13 @@ fn follow<I: Source, O: Sink>(
 {
     let mut reader = LineReader::new();
     match put_start(driver.peer(), entries, out) {
-        Written::All => answer_lines(driver, &mut reader, input, out),
+        Written::All => {
+            // the input is left alone behind a finding with which the peer begins
+            if driver.peer().finding().is_some() {
+                return end_caught(driver, out);
+            }
+            answer_lines(driver, &mut reader, input, out)
+        }
         Written::Failed => Status::OutputFault,
     }
 }
@@ -131,6 +139,9 @@ pub fn play<I: Source, O: Sink>(peer: Peer, input: &mut I, out: &mut O) -> Statu
     // What is written, and how the run ends.
     ensures text { IsSome (I.left input.old) → IsSome (O.held out.old) →
         Ended (known (O.held out.old)) (known (O.held out.new)) (drive peer.game peer.me peer.entries (known (I.left input.old))) result }
+
+    // Where the log that the peer begins with has a finding, the input is left alone.
+    ensures untouched { is_clean peer.game (advance peer.game peer.me peer.entries) ≡ false → input.new ≡ input.old }
 
     // A fault is answered exactly where its count rose, and no other status than these comes.
     ensures later_in { I.faults input.old ≤ I.faults input.new }

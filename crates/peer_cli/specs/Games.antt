@@ -1,4 +1,5 @@
--- Games: the session that a file has and the log that a player goes on from, or how the run ends where there is none.
+-- Games: the session that a file has and the log that a player goes on from, or how the run ends where there is none. A file that
+-- isn't there counts as one without bytes here; reading it is a fault of the shelf, which is answered before any of this.
 use Rattle.std.specs.Prelude.{◌≡◌, ℕ, List, [], take, Result, Ok, Err, Option, Some, None, nat_lt, if◌then◌else◌}
 use Rattle.definitions.specs.declared.logs.Entry.{Entry}
 use Rattle.definitions.specs.World.{Game, players_of}

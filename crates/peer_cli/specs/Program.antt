@@ -1,6 +1,8 @@
 -- Program: what the program answers to its words, its files and its input.
-use Rattle.std.specs.Prelude.{◌≡◌, ℕ, List, [], ◌++◌, Option, Some, None, Result, Ok, Err, codes, decimal, option_map}
+use Rattle.std.specs.Prelude.{◌≡◌, ℕ, false, List, [], ◌++◌, Option, Some, None, Result, Ok, Err, codes, decimal, option_map}
 use Rattle.definitions.specs.declared.logs.Entry.{Entry}
+use Rattle.definitions.specs.Findings.{is_clean}
+use Rattle.definitions.specs.Advance.{advance}
 use Rattle.text_io.specs.Frame.{Answer, after_text, bare_answer}
 use Rattle.text_io.specs.declared.statuses.Status.{Status}
 use Rattle.text_io.specs.declared.statuses.Status.TheVariants.{Usage}
@@ -26,6 +28,16 @@ playing player (Ok b) input = after_text (dropped_text b.dropped) (D.drive b.gam
 -- one is named
 abbrev pub driving : ℕ → Option (List ℕ) → Option (Option (List ℕ)) → List ℕ → Answer
 driving player content old input = playing player (beginning_for player content old) input
+
+-- there is nothing to begin with, or the log that the run begins with has a finding once the peer advanced
+abbrev pub NeedsNoInput : ℕ → Result Beginning Status → Type 0
+NeedsNoInput player (Err status) = Unit {0}
+NeedsNoInput player (Ok b) = is_clean b.game (advance b.game player b.first) ≡ false
+
+-- the same of a command
+abbrev pub IsOverAtFirst : Option Command → (List ℕ → Option (List ℕ)) → Type 0
+IsOverAtFirst None files = Unit {0}
+IsOverAtFirst (Some (Drive session player old)) files = NeedsNoInput player (beginning_for player (files session) (option_map files old))
 
 -- the answer to a command
 abbrev pub answer_of : Option Command → (List ℕ → Option (List ℕ)) → List ℕ → Answer

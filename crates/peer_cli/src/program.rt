@@ -1,6 +1,7 @@
 //! The program.
 
-ghost use Rattle.std.specs.Prelude.{◌≡◌, ◌≤◌, ◌⊎◌, ℕ, [], map, None, option_map, IsSome, IsTrue};
+ghost use Rattle.std.specs.Prelude.{◌≡◌, ◌≤◌, ◌⊎◌, ℕ, [], false, map, None, option_map, IsSome, IsTrue};
+ghost use Rattle.definitions.specs.Advance.{advance};
 ghost use Rattle.definitions.specs.Findings.{is_clean};
 ghost use Rattle.station.specs.Outside.{known, Rose};
 ghost use Rattle.text_io.specs.Frame.{line_by_line, after_text, Ended, Ran, EndCause, OnDone, UnlessInputFault, UnlessOutputFault, UnlessFault};
@@ -9,13 +10,14 @@ ghost use Rattle.text_io.specs.Texts.{Wrote, OnUnwritten, OnWritten};
 ghost use Rattle.text_io.specs.Ends.{Finished};
 ghost use Rattle.drive_script.specs.Drive.{bad_line, drive_log};
 ghost use Rattle.drive_script.specs.FairPlay.{IsFairPlay};
+ghost use Rattle.drive_script.specs.Laws.{DrivesAreRuns, LinesAreOneStream};
 ghost use Rattle.drive_script.specs.Drive as D;
 ghost use Rattle.drive_script.specs.Ends.{ScriptEnds};
 ghost use Rattle.peer_cli.specs.Ends.{RunEnds};
 ghost use Rattle.peer_cli.specs.Words.{command_of};
 ghost use Rattle.peer_cli.specs.Causes.{HasCause, IsSet};
-ghost use Rattle.peer_cli.specs.Games.{Beginning};
-ghost use Rattle.peer_cli.specs.Program.{driving, answer_to, dropped_line, dropped_text, TellsRun};
+ghost use Rattle.peer_cli.specs.Games.{Beginning, beginning_for};
+ghost use Rattle.peer_cli.specs.Program.{driving, answer_to, NeedsNoInput, IsOverAtFirst, dropped_line, dropped_text, TellsRun};
 
 use crate::sessions::open_peer;
 use crate::words::{Driving, read_command};
@@ -60,6 +62,7 @@ fn play_on<I: Source, O: Sink>(begun: Resumed, input: &mut I, out: &mut O) -> St
     ensures told_out { IsSome (O.held out.old) → IsSome (O.held out.new) }
     ensures text { IsSome (I.left input.old) → IsSome (O.held out.old) →
         Ended (known (O.held out.old)) (known (O.held out.new)) (after_text (dropped_text begun.dropped) (D.drive begun.peer.game begun.peer.me begun.peer.entries (known (I.left input.old)))) result }
+    ensures untouched { is_clean begun.peer.game (advance begun.peer.game begun.peer.me begun.peer.entries) ≡ false → input.new ≡ input.old }
     ensures later_in { I.faults input.old ≤ I.faults input.new }
     ensures later_out { O.faults out.old ≤ O.faults out.new }
     ensures cause { EndCause ScriptEnds (Rose (I.faults input.old) (I.faults input.new)) (Rose (O.faults out.old) (O.faults out.new)) result }
@@ -86,6 +89,9 @@ fn drive<I: Source, O: Sink, H: Shelf>(
     ensures text { IsSome (I.left input.old) → IsSome (O.held out.old) → H.told shelf.old →
         Ran line_by_line (known (O.held out.old)) (known (O.held out.new))
         (driving words.entry.player (H.content shelf.old words.entry.session.now) (option_map (λ name. H.content shelf.old name.now) words.entry.old) (known (I.left input.old))) result }
+    ensures untouched { H.told shelf.old →
+        NeedsNoInput words.entry.player (beginning_for words.entry.player (H.content shelf.old words.entry.session.now) (option_map (λ name. H.content shelf.old name.now) words.entry.old)) →
+        input.new ≡ input.old }
     ensures later_in { I.faults input.old ≤ I.faults input.new }
     ensures later_out { O.faults out.old ≤ O.faults out.new }
     ensures later_shelf { H.faults shelf.old ≤ H.faults shelf.new }
@@ -114,6 +120,7 @@ fn work<I: Source, O: Sink, H: Shelf>(
     ensures told_out { IsSome (O.held out.old) → IsSome (O.held out.new) }
     ensures text { IsSome (I.left input.old) → IsSome (O.held out.old) → H.told shelf.old →
         Ran line_by_line (known (O.held out.old)) (known (O.held out.new)) (answer_to (map (λ w. w.items) words.now) (H.content shelf.old) (known (I.left input.old))) result }
+    ensures untouched { H.told shelf.old → IsOverAtFirst (command_of (map (λ w. w.items) words.now)) (H.content shelf.old) → input.new ≡ input.old }
     ensures later_in { I.faults input.old ≤ I.faults input.new }
     ensures later_out { O.faults out.old ≤ O.faults out.new }
     ensures later_shelf { H.faults shelf.old ≤ H.faults shelf.new }
@@ -131,9 +138,10 @@ fn work<I: Source, O: Sink, H: Shelf>(
     }
 }
 
-/// Does what the words ask for: `drive SESSION PLAYER` lets the input drive a peer for the player of the session in that
-/// file, and writes what the peer does; `drive SESSION PLAYER OLD` does so with a peer that goes on from the log in the file
-/// OLD.
+/// Does what the words ask for, which are those behind the program's name: `drive SESSION PLAYER` lets the input drive a peer
+/// for the player of the session in that file, and writes what the peer does; `drive SESSION PLAYER OLD` does so with a peer
+/// that goes on from the log in the file OLD. The words are asked first, then the session, the player, the log, and then the
+/// input line by line; the first that is refused decides.
 pub fn run<I: Source, O: Sink, H: Shelf>(
     alloc: Global,
     words: &[Vec<u8>],
@@ -141,12 +149,22 @@ pub fn run<I: Source, O: Sink, H: Shelf>(
     out: &mut O,
     shelf: &mut H,
 ) -> Status
+    ensures told_in { IsSome (I.left input.old) → IsSome (I.left input.new) }
+    ensures told_out { IsSome (O.held out.old) → IsSome (O.held out.new) }
+
     // What is written: all that is due, or the part of it that the status tells of.
     ensures text { IsSome (I.left input.old) → IsSome (O.held out.old) → H.told shelf.old →
         Finished line_by_line (known (O.held out.old)) (known (O.held out.new)) (answer_to (map (λ w. w.items) words.now) (H.content shelf.old) (known (I.left input.old)))
         (Rose (I.faults input.old) (I.faults input.new) ⊎ Rose (H.faults shelf.old) (H.faults shelf.new)) result }
 
-    // Why each status comes. A fault is answered only where its count rose, and is never passed over.
+    // Where there is no session, player or log to begin with, or that log has a finding, the input is left alone.
+    ensures untouched { H.told shelf.old → IsOverAtFirst (command_of (map (λ w. w.items) words.now)) (H.content shelf.old) → input.new ≡ input.old }
+
+    // Why each status comes. A fault is answered only where its count rose, and none is passed over, but for a fault of the sink,
+    // which decides.
+    ensures later_in { I.faults input.old ≤ I.faults input.new }
+    ensures later_out { O.faults out.old ≤ O.faults out.new }
+    ensures later_shelf { H.faults shelf.old ≤ H.faults shelf.new }
     ensures cause { EndCause RunEnds (Rose (I.faults input.old) (I.faults input.new) ⊎ Rose (H.faults shelf.old) (H.faults shelf.new))
         (Rose (O.faults out.old) (O.faults out.new)) result }
     ensures usage { command_of (map (λ w. w.items) words.now) ≡ None → (result ≡ Status.Usage) ⊎ (result ≡ Status.OutputFault) }
@@ -168,9 +186,11 @@ pub fn run<I: Source, O: Sink, H: Shelf>(
         (result ≡ Status.Done) ⊎ (result ≡ Status.NoMemory) }
     ensures read { IsSome (I.left input.old) → OnDone result (known (I.left input.new) ≡ []) }
 
-    // The log that is told by what is written, behind the one that the run begins with, and fair play in it: each reveal made
-    // stands behind a commitment received from every player who meets, and each move accepted of another player opens the
-    // digest held.
+    // Laws on the body of which `text` speaks: it tells a log, behind the one that the run begins with, which is that of the
+    // protocol's steps that the lines of the input bring, their bytes in whatever pieces. In that log each reveal made stands
+    // behind a commitment received from every player who meets, and each move accepted of another player opens the digest held.
+    ensures runs { DrivesAreRuns }
+    ensures streams { LinesAreOneStream }
     ensures tells { (player : ℕ) → (begins : Beginning) → IsSet (map (λ w. w.items) words.now) (H.content shelf.old) player begins →
         TellsRun player begins (drive_log begins.game player begins.first (known (I.left input.old))) (answer_to (map (λ w. w.items) words.now) (H.content shelf.old) (known (I.left input.old))).body }
     ensures fair { (player : ℕ) → (begins : Beginning) → IsSet (map (λ w. w.items) words.now) (H.content shelf.old) player begins →

@@ -1,6 +1,6 @@
 use Rattle.std.specs.List.{IsDistinct}
 use Rattle.acceptance.proofs.runs.shelf_of_two.Goals as goal
 
-pub new-requires-2 : goal.new-requires-2
+pub new-requires : goal.new-requires
 unfolding IsDistinct
-new-requires-2 c = rw c.in_ok-files.ensures ((c.requires, tt), (tt, tt))
+new-requires c = rw c.in_ok-files.ensures ((c.requires, tt), (tt, tt))

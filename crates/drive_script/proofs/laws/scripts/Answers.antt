@@ -1,5 +1,6 @@
 use Rattle.drive_script.proofs.Ends.{drive_status}
 use Rattle.drive_script.proofs.Fair.{drive_fair}
+use Rattle.drive_script.proofs.Runs.{drive_runs}
 use Rattle.drive_script.proofs.Streams.{gives_next}
 use Rattle.drive_script.proofs.Tellings.{drive_tells}
 use Rattle.drive_script.proofs.laws.scripts.Goals as goal
@@ -15,3 +16,6 @@ returns-clause-tell c = drive_tells
 
 pub returns-clause-streams : goal.returns-clause-streams
 returns-clause-streams c = gives_next
+
+pub returns-clause-runs : goal.returns-clause-runs
+returns-clause-runs c = drive_runs

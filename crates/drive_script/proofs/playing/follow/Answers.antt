@@ -9,8 +9,12 @@ use Rattle.drive_script.proofs.playing.follow.Goals as goal
 pub put_start-requires : goal.put_start-requires
 put_start-requires g c = rw c.peer.ensures c.requires
 
-pub returns-in-All-clause-text : goal.returns-in-All-clause-text
-returns-in-All-clause-text g c = λ t u.
+pub returns-then-is_some-clause-text : goal.returns-then-is_some-clause-text
+returns-then-is_some-clause-text g c = λ t u.
+    onward_ended _ _ _ _ _ _ (onward_text _ _ _ _ _ refl (rw c.peer.ensures at (c.in-All.ensures.text u))) (c.end_caught.ensures.text (c.put_start.ensures.told u) _)
+
+pub returns-else-is_some-clause-text : goal.returns-else-is_some-clause-text
+returns-else-is_some-clause-text g c = λ t u.
     onward_ended _ _ _ _ _ _ (onward_text _ _ _ _ _ refl (rw c.peer.ensures at (c.in-All.ensures.text u)))
     (rw c.new-reader.ensures at (c.answer_lines.ensures.text t (c.put_start.ensures.told u)))
 

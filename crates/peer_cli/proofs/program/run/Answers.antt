@@ -9,6 +9,8 @@ use Rattle.text_io.specs.Lines.{lines_of}
 use Rattle.drive_script.specs.Drive.{bad_line, drive, status_for}
 use Rattle.drive_script.proofs.Ends.{drive_status}
 use Rattle.drive_script.proofs.Fair.{drive_fair}
+use Rattle.drive_script.proofs.Runs.{drive_runs}
+use Rattle.drive_script.proofs.Streams.{gives_next}
 use Rattle.drive_script.proofs.Tellings.{drive_tells}
 use Rattle.peer_cli.specs.Causes.{HasCause}
 use Rattle.peer_cli.specs.Ends.{RunEnds}
@@ -54,3 +56,9 @@ returns-clause-fair g c = λ player b set.
     let ahead : 1 ≤ b.game.ahead = omega (arith, read.session.ahead) in
     let begins = begun_honest b.game player _ b set.begins in
     drive_fair b.game player b.first _ ahead (begins.honest)
+
+pub returns-clause-runs : goal.returns-clause-runs
+returns-clause-runs g c = drive_runs
+
+pub returns-clause-streams : goal.returns-clause-streams
+returns-clause-streams g c = gives_next
