@@ -10,15 +10,17 @@ static SESSION: &[u8] =
 static SCRIPT: &[u8] =
     b"choose 12 0 0000000000000000000000000000000000000000000000000000000000000000\n";
 
-/// The calls that fail, the status, and what is written.
+/// The script, the calls that fail, the status, and what is written.
 struct Failure {
+    script: &'static [u8],
     fails: Fails,
     status: u8,
     text: &'static [u8],
 }
 
-static FAILURES: [Failure; 6] = [
+static FAILURES: [Failure; 8] = [
     Failure {
+        script: b"choose 12 0 0000000000000000000000000000000000000000000000000000000000000000\n",
         fails: Fails {
             shelf: &[1],
             source: &[],
@@ -28,6 +30,7 @@ static FAILURES: [Failure; 6] = [
         text: b"input fault\n",
     },
     Failure {
+        script: b"choose 12 0 0000000000000000000000000000000000000000000000000000000000000000\n",
         fails: Fails {
             shelf: &[],
             source: &[1],
@@ -37,6 +40,7 @@ static FAILURES: [Failure; 6] = [
         text: b"input fault\n",
     },
     Failure {
+        script: b"choose 12 0 0000000000000000000000000000000000000000000000000000000000000000\n",
         fails: Fails {
             shelf: &[],
             source: &[2],
@@ -46,6 +50,7 @@ static FAILURES: [Failure; 6] = [
         text: b"illegal M1\ninput fault\n",
     },
     Failure {
+        script: b"choose 12 0 0000000000000000000000000000000000000000000000000000000000000000\n",
         fails: Fails {
             shelf: &[],
             source: &[],
@@ -55,6 +60,7 @@ static FAILURES: [Failure; 6] = [
         text: b"",
     },
     Failure {
+        script: b"choose 12 0 0000000000000000000000000000000000000000000000000000000000000000\n",
         fails: Fails {
             shelf: &[],
             source: &[],
@@ -64,9 +70,32 @@ static FAILURES: [Failure; 6] = [
         text: b"illegal M1\n",
     },
     Failure {
+        script: b"choose 12 0 0000000000000000000000000000000000000000000000000000000000000000\n",
         fails: Fails {
             shelf: &[],
             source: &[],
+            sink: &[],
+        },
+        status: 0,
+        text: b"illegal M1\nchoose 0\nplayer 0 turns 0 at 0 0 charge 1 next 0\nplayer 1 turns 0 at 9 0 charge 1 next 0\nend\n",
+    },
+    // a line that has no LF yet when the source fails is not answered
+    Failure {
+        script: b"choose 12 0 0000000000000000000000000000000000000000000000000000000000000000",
+        fails: Fails {
+            shelf: &[],
+            source: &[2],
+            sink: &[],
+        },
+        status: 4,
+        text: b"input fault\n",
+    },
+    // at the end of the input it is, and the source is not called again
+    Failure {
+        script: b"choose 12 0 0000000000000000000000000000000000000000000000000000000000000000",
+        fails: Fails {
+            shelf: &[],
+            source: &[3],
             sink: &[],
         },
         status: 0,
@@ -77,7 +106,14 @@ static FAILURES: [Failure; 6] = [
 #[test]
 fn a_failed_call_ends_the_run(rt: HostRuntime) -> Result<(), Fail> {
     for failure in &FAILURES {
-        let (status, text) = run_drive(rt.alloc(), b"s", b"0", SESSION, SCRIPT, &failure.fails)?;
+        let (status, text) = run_drive(
+            rt.alloc(),
+            b"s",
+            b"0",
+            SESSION,
+            failure.script,
+            &failure.fails,
+        )?;
         assert_eq!(rt; status.code(), failure.status);
         assert!(rt; text.as_slice() == failure.text);
     }

@@ -9,7 +9,7 @@ use Rattle.definitions.specs.World.{Ground, has_cell, cells_in, cells_of, gap, d
 use Rattle.definitions.specs.Walk.{is_step, stepped}
 use Rattle.definitions.specs.Sphere.{spread}
 use Rattle.definitions.proofs.Cells.{has-filter, has-cells, any-cell, any-from}
-use Rattle.cell_set.specs.Regions.{Region, IsSizeOf, AreOpen, ground_of}
+use Rattle.cell_set.specs.Regions.{AreOpen}
 use Rattle.cell_set.specs.Bits.{lit, cells_lit, near, IsRows}
 use Rattle.cell_set.proofs.RowPlaces.{lit_past, lit_wide}
 use Rattle.cell_set.proofs.CellLists.{filter_cells, has_inside}
@@ -205,10 +205,3 @@ cells_walked grid old middle new w h width height facts free_cells grown cut =
     ∙ sym (walk_test grid (cells_lit old w h) c free_cells (and_from _ _ (lt-ltb c.x grid.width (omega arith)) (lt-ltb c.y grid.height (omega arith)))))
     ∙ ap (λ (n : ℕ). filter (λ c. list_any (λ b. is_step grid b c) (cells_lit old w h)) (cells_in n h)) width
     ∙ ap (λ (n : ℕ). filter (λ c. list_any (λ b. is_step grid b c) (cells_lit old w h)) (cells_in grid.width n)) height
-
--- the cells within a distance are those over any ground of the size
-pub spread_sized : (grid : Ground) (region : Region) (radius : ℕ) (cells : List Cell) → IsSizeOf grid region → spread (ground_of region) radius cells ≡ spread grid radius cells
-unfolding spread
-spread_sized grid region radius cells size =
-    ap (λ (n : ℕ). filter (λ c. list_any (λ b. nat_le (distance b c) radius) cells) (cells_in n region.height)) size.width
-    ∙ ap (λ (n : ℕ). filter (λ c. list_any (λ b. nat_le (distance b c) radius) cells) (cells_in grid.width n)) size.height

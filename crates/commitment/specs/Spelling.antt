@@ -45,7 +45,7 @@ turn_frame_of bytes =
     then Some (Reveal (slice_index bytes 3) (turn_at bytes) (record { to = cell_at bytes 8; strike = Some (cell_at bytes 13) }) (record { bytes = slice_range bytes 17 49 }))
     else None
 
--- the frame's numbers fit their fields, as those of every value of its type do
+-- the frame's numbers fit their fields, and its digest or nonce has 32 items, as those of every value of its type do
 abbrev pub FitsFrame : TurnFrame → Type 0
 FitsFrame (Commit p t d) = (p < 2 ^ 8) × (t < 2 ^ 32) × (length d.bytes ≡ 32)
 FitsFrame (Reveal p t m n) = (p < 2 ^ 8) × (t < 2 ^ 32) × FitsCell m.to × FitsStrike m.strike × (length n.bytes ≡ 32)

@@ -1,11 +1,6 @@
-//! Laws of openings and frames: functions that do nothing, whose clauses are proved.
+//! A law of frames: a function that does nothing, whose clause is proved.
 
-ghost use Rattle.commitment.specs.Laws.{OpeningsDiffer, NoSpellingBeginsAnother};
-
-/// Two different openings have different bytes.
-pub fn openings_differ()
-    ensures { OpeningsDiffer }
-{}
+ghost use Rattle.commitment.specs.Laws.{NoSpellingBeginsAnother};
 
 /// No frame's spelling begins another's, so frames that follow one another are told apart.
 pub fn frames_differ()

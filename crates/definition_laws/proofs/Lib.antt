@@ -34,7 +34,6 @@ pub mod Standing
 pub mod Stepping
 pub mod Deliveries
 pub mod Groups
-pub mod Around
 pub mod Innocent
 pub mod Authentic
 pub mod Rows

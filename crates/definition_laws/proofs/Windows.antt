@@ -1,7 +1,7 @@
 -- Windows: what is known of a player after one frame more, step by step from what was known before.
 use Rattle.std.proofs.Common.{Bool, List, [], ap, arith, false, inl, inr, refl, suc, suc-add, sym, true, zero, zero-add, ℕ, ◌*◌, ◌++◌, ◌+◌, ◌-◌, ◌<◌, ◌∙◌, ◌∷◌, ◌≡◌, ◌≤◌, ◌⊎◌}
 use Rattle.std.specs.Prelude.{if◌then◌else◌, ◌==◌}
-use Rattle.std.proofs.lemmas.Bool.{cases_lt, cond-false, cond-true, eq-eqb, ne_eqb}
+use Rattle.std.proofs.lemmas.Bool.{cases_lt, cond-false, ne_eqb}
 use Rattle.definitions.specs.declared.world.Move.{Move}
 use Rattle.definitions.specs.declared.openings.Nonce.{Nonce}
 use Rattle.definitions.specs.declared.frames.TurnFrame.{TurnFrame}
@@ -102,18 +102,3 @@ known_got_other game me p q h f apart = same_known game me p h (Got q f) (none (
     none : (b : Bool) → (if b then made (Got q f ∷ []) else got_of p (Got q f ∷ [])) ≡ []
     none true = refl
     none false = ap (λ (fs : List TurnFrame). fs ++ []) (cond-false (q == p) (f ∷ []) [] (ne_eqb q p apart))
-
-pub frames_got : (me q : ℕ) (h : List Entry) (f : TurnFrame) → (q ≡ me → ⊥) → frames_of me q (h ++ Got q f ∷ []) ≡ frames_of me q h ++ f ∷ []
-unfolding made got_of
-frames_got me q h f other =
-    frames_of_append me q h (Got q f ∷ [])
-    ∙ ap (λ (fs : List TurnFrame). frames_of me q h ++ fs)
-    (cond-false (q == me) (made (Got q f ∷ [])) (got_of q (Got q f ∷ [])) (ne_eqb q me other) ∙ ap (λ (fs : List TurnFrame). fs ++ []) (cond-true (q == q) (f ∷ []) [] (eq-eqb q q refl)))
-
--- what is known of a player after a frame of it came, by steps from what was known before until none leads on
-pub known_got : (game : Game) (me q n : ℕ) (h : List Entry) (f : TurnFrame) → (q ≡ me → ⊥) →
-    next_known game q (frames_of me q h ++ f ∷ []) (known_steps game q (frames_of me q h ++ f ∷ []) n (known game me h q)) ≡ known_steps game q (frames_of me q h ++ f ∷ []) n (known game me h q) →
-    known game me (h ++ Got q f ∷ []) q ≡ known_steps game q (frames_of me q h ++ f ∷ []) n (known game me h q)
-unfolding known
-known_got game me q n h f other stuck =
-    ap (λ (fs : List TurnFrame). known_to game q fs (2 * game.turns)) (frames_got me q h f other) ∙ known_to_grown game q (frames_of me q h) (f ∷ []) n stuck

@@ -33,7 +33,7 @@ abbrev pub frame_at : Game → ℕ → List Entry → Option Slot → Option Tur
 frame_at game me h None = None
 frame_at game me h (Some s) = frame_chosen game s.what (chosen_for me h s.turn)
 
--- the entry, where it is allowed
+-- the frame, where it may be made
 abbrev pub if_allowed : Game → ℕ → List Entry → Option TurnFrame → Option TurnFrame
 if_allowed game me h None = None
 if_allowed game me h (Some f) = if allowed game me h (Made f) then Some f else None

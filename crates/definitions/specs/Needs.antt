@@ -16,11 +16,11 @@ use Rattle.definitions.specs.Held.{resolved_count, next_place}
 use Rattle.definitions.specs.Findings.{is_clean}
 use Rattle.definitions.specs.Honest.{others, lets_reveal, lets_commit, made_count, chosen_for, chosen_track}
 
--- the need of this frame of the player
+-- the need of q's commitment to the turn, or of its reveal
 abbrev pub need_of : Game → ℕ → List Entry → ℕ → What → ℕ → Need
 need_of game me h t what q = record { player = q; turn = t; next = next_place game me h q; what = what }
 
--- the needs of this frame of each other player that does not pass the test
+-- the need of that frame of each other player that does not pass the test
 abbrev pub needs_unless : Game → ℕ → List Entry → (ℕ → Bool) → ℕ → What → List Need
 needs_unless game me h test t what = map (need_of game me h t what) (filter (λ q. not (test q)) (others game me))
 
@@ -28,22 +28,22 @@ needs_unless game me h test t what = map (need_of game me h t what) (filter (λ 
 abbrev pub is_done : Game → ℕ → List Entry → ℕ → Bool
 is_done game me h q = not (nat_lt (resolved_count game me h q) game.turns)
 
--- the needs of the commitment of a turn
+-- what the owner misses for its commitment to a turn
 abbrev pub commit_needs : Game → ℕ → List Entry → ℕ → List Need
 commit_needs game me h t =
     if nat_lt t game.ahead then []
     else needs_unless game me h (lets_commit game me h (t - game.ahead)) (t - game.ahead) Reveal
 
--- the needs of the reveal of a turn
+-- what the owner misses for its reveal of a turn
 abbrev pub reveal_needs : Game → ℕ → List Entry → ℕ → List Need
 reveal_needs game me h t = needs_unless game me h (lets_reveal game me h t) t Commit
 
--- the needs of this frame of a turn
+-- what the owner misses for one of the two frames of a turn
 abbrev pub frame_needs : Game → ℕ → List Entry → What → ℕ → List Need
 frame_needs game me h Commit t = commit_needs game me h t
 frame_needs game me h Reveal t = reveal_needs game me h t
 
--- the needs of the owner's next frame
+-- what the owner misses for its next frame; behind its last, each player whose turns are not all resolved
 abbrev pub needs_at : Game → ℕ → List Entry → Option Slot → List Need
 needs_at game me h None = needs_unless game me h (is_done game me h) (game.turns - 1) Reveal
 needs_at game me h (Some s) = frame_needs game me h s.what s.turn

@@ -37,7 +37,7 @@ abbrev pub FitsStrike : Option Cell → Type 0
 FitsStrike None = Unit {0}
 FitsStrike (Some c) = FitsCell c
 
--- an opening whose numbers fit their fields
+-- an opening whose turn and cells fit their fields
 pub record FitsOpening (o : Opening) : Type 0 where
   pub turn : o.turn < 2 ^ 32
   pub to : FitsCell o.mv.to

@@ -18,17 +18,13 @@ pub record Slot : Type 0 where
   pub what : What
   pub turn : ℕ
 
--- the place of a frame
-abbrev pub slot_place : Game → What → ℕ → ℕ
-slot_place game Commit t = commit_place game t
-slot_place game Reveal t = reveal_place game t
-
--- the frame of this place, or none past the last turn
+-- the commitment of the turn, if there is one, and otherwise the reveal of the other, if there is one
 abbrev pub slot_or : Option ℕ → Option ℕ → Option Slot
 slot_or (Some t) o = Some (record { what = Commit; turn = t })
 slot_or None (Some t) = Some (record { what = Reveal; turn = t })
 slot_or None None = None
 
+-- the frame of this place, or none past the last turn
 unfoldable pub slot_at : Game → ℕ → Option Slot
 slot_at game place =
     slot_or (find (λ t. commit_place game t == place) (range_with_len 0 game.turns))

@@ -1,8 +1,8 @@
 -- The grid world: a session's values, and which cells are open.
-use Rattle.std.specs.Prelude.{ℕ, ◌+◌, ◌-◌, ◌≤◌, Bool, true, not, ◌&&◌, ◌||◌, List, [], ◌∷◌, map, length, nat_lt, ◌==◌, max, flat_map, IsTrue}
+use Rattle.std.specs.Prelude.{ℕ, ◌+◌, ◌-◌, Bool, true, not, ◌&&◌, ◌||◌, List, [], ◌∷◌, map, length, nat_lt, ◌==◌, max, flat_map}
 use Rattle.std.specs.List.{list_any, range_with_len}
 use Rattle.definitions.specs.declared.world.Cell.{Cell}
-use Rattle.definitions.specs.Lists.{item_or, EachIs}
+use Rattle.definitions.specs.Lists.{item_or}
 
 -- a rectangle of cells, some of which are walls, in row order
 pub record Ground : Type 0 where
@@ -103,11 +103,3 @@ is_before_first c (d ∷ ds) = is_before c d
 abbrev pub in_row_order : List Cell → Bool
 in_row_order [] = true
 in_row_order (c ∷ cs) = is_before_first c cs && in_row_order cs
-
--- what holds of every session that is played
-pub record IsSound (game : Game) : Type 0 where
-  pub ahead : 1 ≤ game.ahead
-  pub turns : 1 ≤ game.turns
-  pub starts : EachIs (λ s. IsTrue (is_open game.grid s.start)) game.seats
-  pub walls : IsTrue (in_row_order game.grid.walls)
-  pub inside : EachIs (λ c. IsTrue (is_inside game.grid c)) game.grid.walls

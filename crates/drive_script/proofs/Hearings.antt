@@ -13,9 +13,10 @@ use Rattle.definitions.specs.Findings.{is_clean}
 use Rattle.definitions.specs.Answers.{got_answer, place_of}
 use Rattle.definitions.specs.Steps.{after_choice, after_got}
 use Rattle.text_io.specs.Frame.{Answer, Ended, Onward, after_text, bare_answer}
+use Rattle.text_io.specs.Inputs.{Fault, Input, Line, lines_then}
 use Rattle.text_io.specs.Lines.{StartsLonger}
 use Rattle.text_io.specs.Texts.{Between}
-use Rattle.text_io.specs.declared.statuses.Status.TheVariants.{BadLine, Caught}
+use Rattle.text_io.specs.declared.statuses.Status.TheVariants.{BadLine, Caught, InputFault}
 use Rattle.text_io.specs.declared.statuses.TextName.TheVariants.{Script}
 use Rattle.text_io.proofs.Writing.{grew}
 use Rattle.script_grammar.specs.declared.grammar.DriveLine.{DriveLine}
@@ -34,56 +35,56 @@ goes_on game me h rest c = rw c refl
 pub comes_to_end : (game : Game) (me : ℕ) (h : List Entry) (rest : Answer) → is_clean game h ≡ false → going_on game me h rest ≡ record { body = end_text game me h; status = Caught }
 comes_to_end game me h rest c = rw c refl
 
--- the answer to lines that come behind n lines, where the peer has this
-abbrev pub answer_from : Game → ℕ → State → ℕ → List (List ℕ) → Answer
-answer_from game me s n lines = going_on game me s.log (drive_from game me s n lines)
+-- the answer to an input that comes behind n lines, where the peer has this
+abbrev pub answer_from : Game → ℕ → State → ℕ → Input → Answer
+answer_from game me s n input = going_on game me s.log (drive_from game me s n input)
 
 -- the answer from a line on that says this
-from_said : (game : Game) (me : ℕ) (s : State) (n : ℕ) (line : List ℕ) (lines : List (List ℕ)) (d : DriveLine) → is_clean game s.log ≡ true → d ≡ said_behind n line →
-    answer_from game me s n (line ∷ lines) ≡ answer_by (is_bad d) (n + 1) (text_behind game me s d) (answer_from game me (state_behind game me s d) (n + 1) lines)
-from_said game me s n line lines d c e =
-    goes_on game me s.log (drive_from game me s n (line ∷ lines)) c ∙
-    ap (λ (d : DriveLine). answer_by (is_bad d) (n + 1) (text_behind game me s d) (answer_from game me (state_behind game me s d) (n + 1) lines)) (sym e)
+from_said : (game : Game) (me : ℕ) (s : State) (n : ℕ) (line : List ℕ) (input : Input) (d : DriveLine) → is_clean game s.log ≡ true → d ≡ said_behind n line →
+    answer_from game me s n (Line line input) ≡ answer_by (is_bad d) (n + 1) (text_behind game me s d) (answer_from game me (state_behind game me s d) (n + 1) input)
+from_said game me s n line input d c e =
+    goes_on game me s.log (drive_from game me s n (Line line input)) c ∙
+    ap (λ (d : DriveLine). answer_by (is_bad d) (n + 1) (text_behind game me s d) (answer_from game me (state_behind game me s d) (n + 1) input)) (sym e)
 
 -- a line that is passed over
-pub passed_over : (game : Game) (me : ℕ) (s : State) (n : ℕ) (line : List ℕ) (lines : List (List ℕ)) → is_clean game s.log ≡ true → Nothing ≡ said_behind n line →
-    answer_from game me s n (line ∷ lines) ≡ answer_from game me s (n + 1) lines
+pub passed_over : (game : Game) (me : ℕ) (s : State) (n : ℕ) (line : List ℕ) (input : Input) → is_clean game s.log ≡ true → Nothing ≡ said_behind n line →
+    answer_from game me s n (Line line input) ≡ answer_from game me s (n + 1) input
 unfolding text_behind state_behind
-passed_over game me s n line lines c e = from_said game me s n line lines Nothing c e
+passed_over game me s n line input c e = from_said game me s n line input Nothing c e
 
 -- a line that chooses
-pub answered : (game : Game) (me : ℕ) (s : State) (n : ℕ) (line : List ℕ) (lines : List (List ℕ)) (mv : Move) (nonce : Nonce) → is_clean game s.log ≡ true → Choose mv nonce ≡ said_behind n line →
-    answer_from game me s n (line ∷ lines) ≡
+pub answered : (game : Game) (me : ℕ) (s : State) (n : ℕ) (line : List ℕ) (input : Input) (mv : Move) (nonce : Nonce) → is_clean game s.log ≡ true → Choose mv nonce ≡ said_behind n line →
+    answer_from game me s n (Line line input) ≡
     after_text (choice_text (length (chosen me s.log)) (choice_fault game me s.log mv) ++ added_text (length s.log) (after_choice game me s.log mv nonce))
-    (answer_from game me (with_log s (after_choice game me s.log mv nonce)) (n + 1) lines)
+    (answer_from game me (with_log s (after_choice game me s.log mv nonce)) (n + 1) input)
 unfolding text_behind state_behind
-answered game me s n line lines mv nonce c e = from_said game me s n line lines (Choose mv nonce) c e
+answered game me s n line input mv nonce c e = from_said game me s n line input (Choose mv nonce) c e
 
 -- a line that brings a frame
-pub received : (game : Game) (me : ℕ) (s : State) (n : ℕ) (line : List ℕ) (lines : List (List ℕ)) (q : ℕ) (f : TurnFrame) → is_clean game s.log ≡ true → Got q f ≡ said_behind n line →
-    answer_from game me s n (line ∷ lines) ≡
+pub received : (game : Game) (me : ℕ) (s : State) (n : ℕ) (line : List ℕ) (input : Input) (q : ℕ) (f : TurnFrame) → is_clean game s.log ≡ true → Got q f ≡ said_behind n line →
+    answer_from game me s n (Line line input) ≡
     after_text (got_text q (place_of game f) (got_answer game me s.log q f) ++ added_text (length s.log) (after_got game me s.log q f))
-    (answer_from game me (with_log s (after_got game me s.log q f)) (n + 1) lines)
+    (answer_from game me (with_log s (after_got game me s.log q f)) (n + 1) input)
 unfolding text_behind state_behind received_text
-received game me s n line lines q f c e = from_said game me s n line lines (Got q f) c e
+received game me s n line input q f c e = from_said game me s n line input (Got q f) c e
 
 -- a line that brings bytes
-pub brought : (game : Game) (me : ℕ) (s : State) (n : ℕ) (line : List ℕ) (lines : List (List ℕ)) (q : ℕ) (bytes : List ℕ) → is_clean game s.log ≡ true → Bytes q bytes ≡ said_behind n line →
-    answer_from game me s n (line ∷ lines) ≡ after_text (bytes_text game me s q bytes) (answer_from game me (bytes_state game me s q bytes) (n + 1) lines)
+pub brought : (game : Game) (me : ℕ) (s : State) (n : ℕ) (line : List ℕ) (input : Input) (q : ℕ) (bytes : List ℕ) → is_clean game s.log ≡ true → Bytes q bytes ≡ said_behind n line →
+    answer_from game me s n (Line line input) ≡ after_text (bytes_text game me s q bytes) (answer_from game me (bytes_state game me s q bytes) (n + 1) input)
 unfolding text_behind state_behind
-brought game me s n line lines q bytes c e = from_said game me s n line lines (Bytes q bytes) c e
+brought game me s n line input q bytes c e = from_said game me s n line input (Bytes q bytes) c e
 
 -- a line that prints the log
-pub printed : (game : Game) (me : ℕ) (s : State) (n : ℕ) (line : List ℕ) (lines : List (List ℕ)) → is_clean game s.log ≡ true → Log ≡ said_behind n line →
-    answer_from game me s n (line ∷ lines) ≡ after_text (log_text game me s.log) (answer_from game me s (n + 1) lines)
+pub printed : (game : Game) (me : ℕ) (s : State) (n : ℕ) (line : List ℕ) (input : Input) → is_clean game s.log ≡ true → Log ≡ said_behind n line →
+    answer_from game me s n (Line line input) ≡ after_text (log_text game me s.log) (answer_from game me s (n + 1) input)
 unfolding text_behind state_behind
-printed game me s n line lines c e = from_said game me s n line lines Log c e
+printed game me s n line input c e = from_said game me s n line input Log c e
 
 -- a line in no grammar
-pub refused : (game : Game) (me : ℕ) (s : State) (n : ℕ) (line : List ℕ) (lines : List (List ℕ)) → is_clean game s.log ≡ true → Bad ≡ said_behind n line →
-    answer_from game me s n (line ∷ lines) ≡ bare_answer (BadLine Script (n + 1))
+pub refused : (game : Game) (me : ℕ) (s : State) (n : ℕ) (line : List ℕ) (input : Input) → is_clean game s.log ≡ true → Bad ≡ said_behind n line →
+    answer_from game me s n (Line line input) ≡ bare_answer (BadLine Script (n + 1))
 unfolding text_behind state_behind
-refused game me s n line lines c e = from_said game me s n line lines Bad c e
+refused game me s n line input c e = from_said game me s n line input Bad c e
 
 -- a line of more than 1,024 bytes
 overlong : (n : ℕ) (line : List ℕ) → 1024 < length line → said_behind n line ≡ Bad
@@ -94,35 +95,36 @@ overlong n line l = go (nat_lt 1024 (length line)) (lt-ltb 1024 (length line) l)
     go true e = refl
     go false e = cc
 
-pub too_long : (game : Game) (me : ℕ) (s : State) (n : ℕ) (lines : List (List ℕ)) → is_clean game s.log ≡ true → StartsLonger 1024 lines →
-    answer_from game me s n lines ≡ bare_answer (BadLine Script (n + 1))
-too_long game me s n [] c l = absurd l
-too_long game me s n (line ∷ lines) c l = refused game me s n line lines c (sym (overlong n line l))
+pub too_long : (game : Game) (me : ℕ) (s : State) (n : ℕ) (lines : List (List ℕ)) (last : Input) → is_clean game s.log ≡ true → StartsLonger 1024 lines →
+    answer_from game me s n (lines_then lines last) ≡ bare_answer (BadLine Script (n + 1))
+too_long game me s n [] last c l = absurd l
+too_long game me s n (line ∷ lines) last c l = refused game me s n line (lines_then lines last) c (sym (overlong n line l))
 
 -- the text before the rest was written
-pub onward_text : (a b t : List ℕ) (p q : Answer) → p ≡ after_text t q → b ≡ a ++ t → Onward a p b q
-onward_text a b t p q e w =
-    let k = grew a b (t, w) in record {
-      longer = k.longer;
-      kept = k.kept;
-      text = ap (λ x. x ++ q.body) w ∙ append_assoc a t q.body ∙ ap (λ (r : Answer). a ++ r.body) (sym e);
-      status = ap (λ (r : Answer). r.status) (sym e);
-    }
+pub onward_text : (told : Type 0) (a b t : List ℕ) (p q : Answer) → p ≡ after_text t q → (told → b ≡ a ++ t) → Onward told a p b q
+onward_text told a b t p q e w = record {
+  longer = λ h. (grew a b (t, w h)).longer;
+  kept = λ h. (grew a b (t, w h)).kept;
+  text = λ h. ap (λ x. x ++ q.body) (w h) ∙ append_assoc a t q.body ∙ ap (λ (r : Answer). a ++ r.body) (sym e);
+  status = ap (λ (r : Answer). r.status) (sym e);
+}
 
 -- the sink failed in the text before the rest
 pub between_text : (a b t : List ℕ) (p q : Answer) → p ≡ after_text t q → Between a t b → Between a p.body b
 between_text a b t p q e w = let F : Answer → Type 0 = λ r. Between a r.body b in subst F (sym e) (wrote_first a b t q.body w)
 
 -- a line of no grammar ends the run, and nothing was written
-pub bad_ends : (a : List ℕ) (p : Answer) (n : ℕ) → p ≡ bare_answer (BadLine Script n) → Ended a a p (BadLine Script n)
-bad_ends a p n e = (sym (append-nil a) ∙ ap (λ (r : Answer). a ++ r.body) (sym e), ap (λ (r : Answer). r.status) (sym e))
+pub bad_ends : (told : Type 0) (a : List ℕ) (p : Answer) (n : ℕ) → p ≡ bare_answer (BadLine Script n) → Ended told a a p (BadLine Script n)
+bad_ends told a p n e = (λ h. sym (append-nil a) ∙ ap (λ (r : Answer). a ++ r.body) (sym e), ap (λ (r : Answer). r.status) (sym e))
+
+-- a fault of the source ends the run, and nothing was written
+pub fault_ends : (told : Type 0) (game : Game) (me : ℕ) (s : State) (n : ℕ) (a : List ℕ) (input : Input) → is_clean game s.log ≡ true → input ≡ Fault →
+    Ended told a a (answer_from game me s n input) InputFault
+fault_ends told game me s n a input c e =
+    let due : answer_from game me s n input ≡ bare_answer InputFault = ap (answer_from game me s n) e ∙ goes_on game me s.log (drive_from game me s n Fault) c in
+    (λ h. sym (append-nil a) ∙ ap (λ (r : Answer). a ++ r.body) (sym due), ap (λ (r : Answer). r.status) (sym due))
 
 -- a log has no finding where its peer tells of none, and has one where it tells of it
 pub told_none : (b clean : Bool) → b ≡ not clean → b ≡ false → clean ≡ true
 told_none b true e f = refl
 told_none b false e f = cc
-
--- where nothing is pending or left, nothing is left
-pub none_left : (a b : List ℕ) → a ++ b ≡ [] → b ≡ []
-none_left [] b e = e
-none_left (x ∷ a) b e = cc

@@ -1,5 +1,6 @@
 pub mod Choices
 pub mod Pieces
+pub mod Plays
 pub mod Players
 pub mod Hearings
 pub mod Fair

@@ -9,15 +9,16 @@ use Rattle.definitions.specs.Findings.{is_clean}
 use Rattle.definitions.specs.Answers.{got_answer, place_of}
 use Rattle.definitions.specs.Steps.{after_got}
 use Rattle.text_io.specs.Frame.{Answer, after_text}
+use Rattle.text_io.specs.Inputs.{Input}
 use Rattle.wire_frames.specs.declared.frames.Frame.{Frame}
 use Rattle.wire_frames.specs.declared.frames.Frame.TheVariants.{Turn}
 use Rattle.wire_frames.specs.declared.frames.FedWhat.TheVariants as what
 use Rattle.wire_frames.specs.Reading.{Reading, at_start}
 use Rattle.wire_frames.specs.Streams.{Given, given_of, given_on}
 use Rattle.drive_script.specs.Driven.{Driven, with_reader}
-use Rattle.drive_script.specs.Coming.{bad_byte_text, bytes_state, bytes_text, frame_text, log_after, log_through, received_text, text_through}
+use Rattle.drive_script.specs.Coming.{bad_byte_text, bytes_state, bytes_text, coming_text, log_after, log_through, received_text, text_through}
 use Rattle.drive_script.specs.Drive.{drive_from}
-use Rattle.drive_script.specs.declared.driver.Reply.{Reply}
+use Rattle.drive_script.specs.declared.heard.Reply.{Reply}
 use Rattle.drive_script.specs.Hearing.{bytes_from, driven_from, reply_text, rest_from}
 use Rattle.drive_script.specs.Lines.{bad_text}
 use Rattle.drive_script.proofs.Hearings.{answer_from, comes_to_end}
@@ -26,24 +27,24 @@ use Rattle.drive_script.proofs.Hearings.{answer_from, comes_to_end}
 abbrev pub driver : Game → ℕ → List Entry → List Reading → ℕ → Driven
 driver game me h readers n = record { game = game; me = me; state = record { log = h; readers = readers }; lines = n }
 
--- the answer to frames that bytes gave, and then to the lines
-by_given : Game → ℕ → List Entry → List Reading → ℕ → ℕ → Given → List (List ℕ) → Answer
-by_given game me h readers n q g lines =
+-- the answer to frames that bytes gave, and then to the input
+by_given : Game → ℕ → List Entry → List Reading → ℕ → ℕ → Given → Input → Answer
+by_given game me h readers n q g input =
     after_text (text_through game me h q g.frames g.reader)
-    (answer_from game me (record { log = log_through game me h q g.frames; readers = with_reader readers q g.reader }) n lines)
+    (answer_from game me (record { log = log_through game me h q g.frames; readers = with_reader readers q g.reader }) n input)
 
-is_by : (game : Game) (me : ℕ) (h : List Entry) (readers : List Reading) (n q : ℕ) (bytes : List ℕ) (lines : List (List ℕ)) →
-    bytes_from (driver game me h readers n) q bytes lines ≡ by_given game me h readers n q (given_of (get_or readers q at_start) bytes) lines
+is_by : (game : Game) (me : ℕ) (h : List Entry) (readers : List Reading) (n q : ℕ) (bytes : List ℕ) (input : Input) →
+    bytes_from (driver game me h readers n) q bytes input ≡ by_given game me h readers n q (given_of (get_or readers q at_start) bytes) input
 unfolding bytes_text bytes_state by_given
 is_by game me h readers n q bytes lines = refl
 
-given_as : (game : Game) (me : ℕ) (h : List Entry) (readers : List Reading) (n q : ℕ) (bytes : List ℕ) (g : Given) (lines : List (List ℕ)) → given_of (get_or readers q at_start) bytes ≡ g →
-    bytes_from (driver game me h readers n) q bytes lines ≡ by_given game me h readers n q g lines
-given_as game me h readers n q bytes g lines e = is_by game me h readers n q bytes lines ∙ ap (λ (g : Given). by_given game me h readers n q g lines) e
+given_as : (game : Game) (me : ℕ) (h : List Entry) (readers : List Reading) (n q : ℕ) (bytes : List ℕ) (g : Given) (input : Input) → given_of (get_or readers q at_start) bytes ≡ g →
+    bytes_from (driver game me h readers n) q bytes input ≡ by_given game me h readers n q g input
+given_as game me h readers n q bytes g input e = is_by game me h readers n q bytes input ∙ ap (λ (g : Given). by_given game me h readers n q g input) e
 
 -- the answer where no frame comes, by whether the reader stands at a bad byte
-none_given : (game : Game) (me : ℕ) (h : List Entry) (readers : List Reading) (n q : ℕ) (r : Reading) (lines : List (List ℕ)) →
-    by_given game me h readers n q (record { frames = []; reader = r }) lines ≡ after_text (bad_byte_text q r) (driven_from (driver game me h (with_reader readers q r) n) lines)
+none_given : (game : Game) (me : ℕ) (h : List Entry) (readers : List Reading) (n q : ℕ) (r : Reading) (input : Input) →
+    by_given game me h readers n q (record { frames = []; reader = r }) input ≡ after_text (bad_byte_text q r) (driven_from (driver game me h (with_reader readers q r) n) input)
 unfolding by_given text_through log_through
 none_given game me h readers n q r lines = refl
 
@@ -54,35 +55,35 @@ the_bad_text : (q place : ℕ) (r : Reading) → r.bad ≡ true → r.place ≡ 
 the_bad_text q place r e at = rw e (ap (bad_text q) at)
 
 -- no further frame is whole
-pub found_more : (game : Game) (me : ℕ) (h : List Entry) (readers readers' : List Reading) (n q : ℕ) (bytes rest : List ℕ) (lines : List (List ℕ)) → let r : Reading = get_or readers' q at_start in
+pub found_more : (game : Game) (me : ℕ) (h : List Entry) (readers readers' : List Reading) (n q : ℕ) (bytes rest : List ℕ) (input : Input) → let r : Reading = get_or readers' q at_start in
     readers' ≡ with_reader readers q r → given_of (get_or readers q at_start) bytes ≡ given_on what.More r (given_of r rest) → r.bad ≡ false →
-    bytes_from (driver game me h readers n) q bytes lines ≡ after_text [] (driven_from (driver game me h readers' n) lines)
-found_more game me h readers readers' n q bytes rest lines w e good =
+    bytes_from (driver game me h readers n) q bytes input ≡ after_text [] (driven_from (driver game me h readers' n) input)
+found_more game me h readers readers' n q bytes rest input w e good =
     let r : Reading = get_or readers' q at_start in
-    given_as game me h readers n q bytes (record { frames = []; reader = r }) lines e ∙
-    none_given game me h readers n q r lines ∙
-    ap (λ (t : List ℕ). after_text t (driven_from (driver game me h (with_reader readers q r) n) lines)) (no_bad_text q r good) ∙
-    ap (λ (rs : List Reading). after_text [] (driven_from (driver game me h rs n) lines)) (sym w)
+    given_as game me h readers n q bytes (record { frames = []; reader = r }) input e ∙
+    none_given game me h readers n q r input ∙
+    ap (λ (t : List ℕ). after_text t (driven_from (driver game me h (with_reader readers q r) n) input)) (no_bad_text q r good) ∙
+    ap (λ (rs : List Reading). after_text [] (driven_from (driver game me h rs n) input)) (sym w)
 
 -- a byte is bad
-pub found_bad : (game : Game) (me : ℕ) (h : List Entry) (readers readers' : List Reading) (n q place : ℕ) (bytes rest : List ℕ) (lines : List (List ℕ)) → let r : Reading = get_or readers' q at_start in
+pub found_bad : (game : Game) (me : ℕ) (h : List Entry) (readers readers' : List Reading) (n q place : ℕ) (bytes rest : List ℕ) (input : Input) → let r : Reading = get_or readers' q at_start in
     readers' ≡ with_reader readers q r → given_of (get_or readers q at_start) bytes ≡ given_on (what.Bad place) r (given_of r rest) → r.bad ≡ true → r.place ≡ place →
-    bytes_from (driver game me h readers n) q bytes lines ≡ after_text (bad_text q place) (driven_from (driver game me h readers' n) lines)
-found_bad game me h readers readers' n q place bytes rest lines w e bad at =
+    bytes_from (driver game me h readers n) q bytes input ≡ after_text (bad_text q place) (driven_from (driver game me h readers' n) input)
+found_bad game me h readers readers' n q place bytes rest input w e bad at =
     let r : Reading = get_or readers' q at_start in
-    given_as game me h readers n q bytes (record { frames = []; reader = r }) lines e ∙
-    none_given game me h readers n q r lines ∙
-    ap (λ (t : List ℕ). after_text t (driven_from (driver game me h (with_reader readers q r) n) lines)) (the_bad_text q place r bad at) ∙
-    ap (λ (rs : List Reading). after_text (bad_text q place) (driven_from (driver game me h rs n) lines)) (sym w)
+    given_as game me h readers n q bytes (record { frames = []; reader = r }) input e ∙
+    none_given game me h readers n q r input ∙
+    ap (λ (t : List ℕ). after_text t (driven_from (driver game me h (with_reader readers q r) n) input)) (the_bad_text q place r bad at) ∙
+    ap (λ (rs : List Reading). after_text (bad_text q place) (driven_from (driver game me h rs n) input)) (sym w)
 
 -- a frame is whole, and what comes behind it is dropped where it makes a finding
-frame_given : (game : Game) (me : ℕ) (h : List Entry) (readers readers' : List Reading) (n q : ℕ) (f : Frame) (rest : List ℕ) (lines : List (List ℕ)) → let r : Reading = get_or readers' q at_start in
+frame_given : (game : Game) (me : ℕ) (h : List Entry) (readers readers' : List Reading) (n q : ℕ) (f : Frame) (rest : List ℕ) (input : Input) → let r : Reading = get_or readers' q at_start in
     readers' ≡ with_reader readers q r →
-    by_given game me h readers n q (record { frames = f ∷ (given_of r rest).frames; reader = (given_of r rest).reader }) lines ≡
-    after_text (frame_text game me h q f)
-    (if is_clean game (log_after game me h q f) then bytes_from (driver game me (log_after game me h q f) readers' n) q rest lines else driven_from (driver game me (log_after game me h q f) readers' n) lines)
+    by_given game me h readers n q (record { frames = f ∷ (given_of r rest).frames; reader = (given_of r rest).reader }) input ≡
+    after_text (coming_text game me h q f)
+    (if is_clean game (log_after game me h q f) then bytes_from (driver game me (log_after game me h q f) readers' n) q rest input else driven_from (driver game me (log_after game me h q f) readers' n) input)
 unfolding by_given text_through log_through
-frame_given game me h readers readers' n q f rest lines w = go (is_clean game (log_after game me h q f)) refl
+frame_given game me h readers readers' n q f rest input w = go (is_clean game (log_after game me h q f)) refl
   where
     r : Reading
     r = get_or readers' q at_start
@@ -97,37 +98,37 @@ frame_given game me h readers readers' n q f rest lines w = go (is_clean game (l
     twice = ap (λ (rs : List Reading). with_reader rs q g.reader) w ∙ set-set readers q r g.reader
 
     go : (b : Bool) → is_clean game next ≡ b →
-        after_text (frame_text game me h q f ++ (if b then text_through game me next q g.frames g.reader else []))
-        (answer_from game me (record { log = if b then log_through game me next q g.frames else next; readers = with_reader readers q g.reader }) n lines) ≡
-        after_text (frame_text game me h q f) (if b then bytes_from (driver game me next readers' n) q rest lines else driven_from (driver game me next readers' n) lines)
+        after_text (coming_text game me h q f ++ (if b then text_through game me next q g.frames g.reader else []))
+        (answer_from game me (record { log = if b then log_through game me next q g.frames else next; readers = with_reader readers q g.reader }) n input) ≡
+        after_text (coming_text game me h q f) (if b then bytes_from (driver game me next readers' n) q rest input else driven_from (driver game me next readers' n) input)
     go true c =
         let all : List ℕ = text_through game me next q g.frames g.reader in
-        let behind : List Reading → Answer = λ rs. answer_from game me (record { log = log_through game me next q g.frames; readers = rs }) n lines in
-        ap (λ (t : List ℕ). record { body = t; status = (behind (with_reader readers q g.reader)).status }) (append_assoc (frame_text game me h q f) all (behind (with_reader readers q g.reader)).body) ∙
-        ap (λ (rs : List Reading). after_text (frame_text game me h q f) (after_text all (behind rs))) (sym twice) ∙
-        ap (λ (a : Answer). after_text (frame_text game me h q f) a) (sym (is_by game me next readers' n q rest lines))
+        let behind : List Reading → Answer = λ rs. answer_from game me (record { log = log_through game me next q g.frames; readers = rs }) n input in
+        ap (λ (t : List ℕ). record { body = t; status = (behind (with_reader readers q g.reader)).status }) (append_assoc (coming_text game me h q f) all (behind (with_reader readers q g.reader)).body) ∙
+        ap (λ (rs : List Reading). after_text (coming_text game me h q f) (after_text all (behind rs))) (sym twice) ∙
+        ap (λ (a : Answer). after_text (coming_text game me h q f) a) (sym (is_by game me next readers' n q rest input))
     go false c =
-        ap (λ (t : List ℕ). after_text t (answer_from game me (record { log = next; readers = with_reader readers q g.reader }) n lines)) (append-nil (frame_text game me h q f)) ∙
-        ap (λ (a : Answer). after_text (frame_text game me h q f) a)
-        (comes_to_end game me next (drive_from game me (record { log = next; readers = with_reader readers q g.reader }) n lines) c ∙
-        sym (comes_to_end game me next (drive_from game me (record { log = next; readers = readers' }) n lines) c))
+        ap (λ (t : List ℕ). after_text t (answer_from game me (record { log = next; readers = with_reader readers q g.reader }) n input)) (append-nil (coming_text game me h q f)) ∙
+        ap (λ (a : Answer). after_text (coming_text game me h q f) a)
+        (comes_to_end game me next (drive_from game me (record { log = next; readers = with_reader readers q g.reader }) n input) c ∙
+        sym (comes_to_end game me next (drive_from game me (record { log = next; readers = readers' }) n input) c))
 
-pub found_frame : (game : Game) (me : ℕ) (h : List Entry) (readers readers' : List Reading) (n q : ℕ) (f : Frame) (d : Driven) (last : Bool) (text bytes rest : List ℕ) (lines : List (List ℕ)) → let r : Reading = get_or readers' q at_start in
+pub found_frame : (game : Game) (me : ℕ) (h : List Entry) (readers readers' : List Reading) (n q : ℕ) (f : Frame) (d : Driven) (last : Bool) (text bytes rest : List ℕ) (input : Input) → let r : Reading = get_or readers' q at_start in
     readers' ≡ with_reader readers q r → given_of (get_or readers q at_start) bytes ≡ given_on (what.Whole f) r (given_of r rest) →
-    d ≡ driver game me (log_after game me h q f) readers' n → last ≡ false → text ≡ frame_text game me h q f →
-    bytes_from (driver game me h readers n) q bytes lines ≡ after_text text (rest_from last d q rest lines)
-found_frame game me h readers readers' n q f d last text bytes rest lines w e is further told =
+    d ≡ driver game me (log_after game me h q f) readers' n → last ≡ false → text ≡ coming_text game me h q f →
+    bytes_from (driver game me h readers n) q bytes input ≡ after_text text (rest_from last d q rest input)
+found_frame game me h readers readers' n q f d last text bytes rest input w e is further told =
     let r : Reading = get_or readers' q at_start in
     let g : Given = given_of r rest in
     let new : Driven = driver game me (log_after game me h q f) readers' n in
-    given_as game me h readers n q bytes (record { frames = f ∷ g.frames; reader = g.reader }) lines e ∙
-    frame_given game me h readers readers' n q f rest lines w ∙
-    ap (λ (t : List ℕ). after_text t (rest_from false new q rest lines)) (sym told) ∙
-    ap (λ (d : Driven). after_text text (rest_from false d q rest lines)) (sym is) ∙
-    ap (λ (b : Bool). after_text text (rest_from b d q rest lines)) (sym further)
+    given_as game me h readers n q bytes (record { frames = f ∷ g.frames; reader = g.reader }) input e ∙
+    frame_given game me h readers readers' n q f rest input w ∙
+    ap (λ (t : List ℕ). after_text t (rest_from false new q rest input)) (sym told) ∙
+    ap (λ (d : Driven). after_text text (rest_from false d q rest input)) (sym is) ∙
+    ap (λ (b : Bool). after_text text (rest_from b d q rest input)) (sym further)
 
 -- a frame of a turn, by the peer's reply to it
 pub turn_told : (game : Game) (me : ℕ) (h log : List Entry) (q : ℕ) (f : Frame) (t : TurnFrame) (reply : Reply) → f ≡ Turn t →
-    reply.place ≡ place_of game t → reply.answer ≡ got_answer game me h q t → reply.entries ≡ length h → log ≡ after_got game me h q t → reply_text q reply log ≡ frame_text game me h q f
+    reply.place ≡ place_of game t → reply.answer ≡ got_answer game me h q t → reply.entries ≡ length h → log ≡ after_got game me h q t → reply_text q reply log ≡ coming_text game me h q f
 unfolding received_text
 turn_told game me h log q f t reply is place answer entries after = rw (is, place, answer, entries, after) refl

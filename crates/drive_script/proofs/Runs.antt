@@ -9,7 +9,7 @@ use Rattle.definitions.specs.Findings.{is_clean}
 use Rattle.definitions.specs.Needs.{may_choose}
 use Rattle.definitions.specs.Advance.{advance}
 use Rattle.definitions.specs.Steps.{Chooses, Comes, LogStep, after_choice, after_got, log_after, log_run}
-use Rattle.text_io.specs.Lines.{lines_of}
+use Rattle.text_io.specs.Inputs.{Input, lines_in}
 use Rattle.wire_frames.specs.declared.frames.Frame.{Frame}
 use Rattle.wire_frames.specs.declared.frames.Frame.TheVariants.{Hello, Turn, Want}
 use Rattle.wire_frames.specs.Streams.{given_of}
@@ -80,9 +80,9 @@ module _ (game : Game) (me : ℕ) where
       go false e =
           e ∙ ap (λ (h : List Entry). log_run game me h (steps_from game me next (n + 1) lines)) (line_run s d) ∙ sym (run_append s.log (steps_of s d) (steps_from game me next (n + 1) lines))
 
-pub drive_runs : (game : Game) (me : ℕ) (first : List Entry) (script : List ℕ) → let h = advance game me first in
-    drive_log game me first script ≡ log_run game me h (steps_from game me (fresh h) 0 (lines_of script))
+pub drive_runs : (game : Game) (me : ℕ) (first : List Entry) (input : Input) → let h = advance game me first in
+    drive_log game me first input ≡ log_run game me h (steps_from game me (fresh h) 0 (lines_in input))
 unfolding drive_log
-drive_runs game me first script =
+drive_runs game me first input =
     let h = advance game me first in
-    run_on game me h (log_from game me (fresh h) 0 (lines_of script)) (steps_from game me (fresh h) 0 (lines_of script)) (from_run game me (fresh h) 0 (lines_of script))
+    run_on game me h (log_from game me (fresh h) 0 (lines_in input)) (steps_from game me (fresh h) 0 (lines_in input)) (from_run game me (fresh h) 0 (lines_in input))

@@ -21,7 +21,7 @@ use Rattle.std.proofs.lemmas.List.{drop_all}
 use Rattle.std.proofs.Math.Seq.{drop-append_seam}
 use Rattle.drive_script.proofs.Choices.{Extends, choice_refused, choice_taken, extends_advance, extends_by, logged_is}
 use Rattle.text_io.specs.Frame.{Answer}
-use Rattle.text_io.specs.Lines.{lines_of}
+use Rattle.text_io.specs.Inputs.{End, Fault, Input, Line, lines_in}
 use Rattle.wire_frames.specs.declared.frames.Frame.{Frame}
 use Rattle.wire_frames.specs.declared.frames.Frame.TheVariants.{Hello, Turn, Want}
 use Rattle.wire_frames.specs.Reading.{Reading}
@@ -30,7 +30,7 @@ use Rattle.script_grammar.specs.declared.grammar.DriveLine.{DriveLine}
 use Rattle.script_grammar.specs.declared.grammar.DriveLine.TheVariants as D
 use Rattle.script_grammar.specs.Grammar.{is_bad}
 use Rattle.drive_script.specs.Driven.{State, fresh, reader_of}
-use Rattle.drive_script.specs.Coming.{bad_byte_text, bytes_state, bytes_text, frame_text, log_after, log_on, log_through, received_text, text_on, text_through}
+use Rattle.drive_script.specs.Coming.{bad_byte_text, bytes_state, bytes_text, coming_text, log_after, log_on, log_through, received_text, text_on, text_through}
 use Rattle.drive_script.specs.Drive.{answer_by, drive, drive_from, drive_log, going_on, log_by, log_from, said_behind, start_text, state_behind, text_behind}
 use Rattle.drive_script.specs.Lines.{added_text, bad_text, choice_text, end_text, entry_text, found_text, got_text, made_text}
 use Rattle.drive_script.specs.Telling.{Chooses, Finds, Greets, IsTold, Makes, Prints, Receives, Refuses, Spoils, TellsLog, Telling, Wants, added_by, telling_text, told_text}
@@ -165,7 +165,7 @@ module _ (game : Game) (me : ℕ) where
           (subst (λ (x : List Entry). TellsLog game me x log (added_text (length h) h ++ body)) (sym (append-nil h)) (tells_same h log body t))
 
   -- any frame that came
-  tells_frame : (h : List Entry) (q : ℕ) (f : Frame) (log : List Entry) (body : List ℕ) → TellsLog game me (log_after game me h q f) log body → TellsLog game me h log (frame_text game me h q f ++ body)
+  tells_frame : (h : List Entry) (q : ℕ) (f : Frame) (log : List Entry) (body : List ℕ) → TellsLog game me (log_after game me h q f) log body → TellsLog game me h log (coming_text game me h q f ++ body)
   tells_frame h q (Turn f) log body t = tells_got h q f log body t
   tells_frame h q (Hello id p pass next) log body t = tells_aside h log body (Greets q) refl tt t
   tells_frame h q (Want place) log body t = tells_aside h log body (Wants q place) refl tt t
@@ -185,7 +185,7 @@ module _ (game : Game) (me : ℕ) where
   tells_through h log q [] r body t = tells_bad h log q r body t
   tells_through h log q (f ∷ fs) r body t =
       let next = log_after game me h q f in
-      subst (λ (b : List ℕ). TellsLog game me h log b) (sym (append_assoc (frame_text game me h q f) (text_on game next (text_through game me next q fs r)) body))
+      subst (λ (b : List ℕ). TellsLog game me h log b) (sym (append_assoc (coming_text game me h q f) (text_on game next (text_through game me next q fs r)) body))
       (tells_frame h q f log (text_on game next (text_through game me next q fs r) ++ body) (on_clean (is_clean game next) (tells_through next log q fs r body) t))
     where
       on_clean : (b : Bool) →
@@ -214,22 +214,23 @@ module _ (game : Game) (me : ℕ) where
   tells_line s D.Nothing n log rest t = t
   tells_line s (D.Choose mv nonce) n log rest t = tells_choice s.log mv nonce log rest.body t
 
-  tells_from : (s : State) (n : ℕ) (lines : List (List ℕ)) → TellsLog game me s.log (log_from game me s n lines) (drive_from game me s n lines).body
-  tells_from s n [] = tells_none s.log (end_text game me s.log) (inr refl)
-  tells_from s n (line ∷ lines) =
+  tells_from : (s : State) (n : ℕ) (input : Input) → TellsLog game me s.log (log_from game me s n (lines_in input)) (drive_from game me s n input).body
+  tells_from s n End = tells_none s.log (end_text game me s.log) (inr refl)
+  tells_from s n Fault = tells_none s.log [] (inl refl)
+  tells_from s n (Line line input) =
       let d = said_behind n line in
       let next : State = state_behind game me s d in
-      tells_line s d (n + 1) (log_on game next.log (log_from game me next (n + 1) lines)) (going_on game me next.log (drive_from game me next (n + 1) lines))
-      (tells_on next.log (log_from game me next (n + 1) lines) (drive_from game me next (n + 1) lines) (tells_from next (n + 1) lines))
+      tells_line s d (n + 1) (log_on game next.log (log_from game me next (n + 1) (lines_in input))) (going_on game me next.log (drive_from game me next (n + 1) input))
+      (tells_on next.log (log_from game me next (n + 1) (lines_in input)) (drive_from game me next (n + 1) input) (tells_from next (n + 1) input))
 
 -- the answer to a script tells the log behind it
-pub drive_tells : (game : Game) (me : ℕ) (first : List Entry) (script : List ℕ) → TellsLog game me first (drive_log game me first script) (drive game me first script).body
+pub drive_tells : (game : Game) (me : ℕ) (first : List Entry) (input : Input) → TellsLog game me first (drive_log game me first input) (drive game me first input).body
 unfolding drive drive_log start_text
-drive_tells game me first script =
+drive_tells game me first input =
     let next = advance game me first in
     let found = slice_get (findings game (next ∷ [])) 0 in
-    let rest = going_on game me next (drive_from game me (fresh next) 0 (lines_of script)) in
-    let log = log_on game next (log_from game me (fresh next) 0 (lines_of script)) in
+    let rest = going_on game me next (drive_from game me (fresh next) 0 input) in
+    let log = log_on game next (log_from game me (fresh next) 0 (lines_in input)) in
     subst (λ (b : List ℕ). TellsLog game me first log b) (sym (append_assoc (added_text (length first) next) (found_text found) rest.body))
     (tells_advance game me first log (found_text found ++ rest.body)
-    (tells_found game me next log rest.body found refl (tells_on game me next (log_from game me (fresh next) 0 (lines_of script)) (drive_from game me (fresh next) 0 (lines_of script)) (tells_from game me (fresh next) 0 (lines_of script)))))
+    (tells_found game me next log rest.body found refl (tells_on game me next (log_from game me (fresh next) 0 (lines_in input)) (drive_from game me (fresh next) 0 input) (tells_from game me (fresh next) 0 input))))

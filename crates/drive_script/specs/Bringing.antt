@@ -2,16 +2,17 @@
 use Rattle.std.specs.Prelude.{ℕ, List, drop}
 use Rattle.text_io.specs.Frame.{Answer, Onward}
 use Rattle.text_io.specs.Texts.{Between}
+use Rattle.text_io.specs.Inputs.{Input}
 use Rattle.drive_script.specs.declared.answering.PartTurn.{PartTurn}
 use Rattle.drive_script.specs.declared.answering.PartTurn.TheVariants.{On, Over, Failed}
 use Rattle.drive_script.specs.Driven.{Driven}
 use Rattle.drive_script.specs.Hearing.{driven_from, bytes_from}
 
 -- The whole stays, with the rest of the bytes or without it; or the sink failed in a front of it.
-abbrev pub Brought : (before : List ℕ) → (due : Answer) → (now : List ℕ) → Driven → ℕ → List ℕ → List (List ℕ) → PartTurn → Type 0
-Brought before due now d q bytes lines (On used) = Onward before due now (bytes_from d q (drop used bytes) lines)
-Brought before due now d q bytes lines Over = Onward before due now (driven_from d lines)
-Brought before due now d q bytes lines Failed = Between before due.body now
+abbrev pub Brought : (told : Type 0) → (before : List ℕ) → (due : Answer) → (now : List ℕ) → Driven → ℕ → List ℕ → Input → PartTurn → Type 0
+Brought told before due now d q bytes input (On used) = Onward told before due now (bytes_from d q (drop used bytes) input)
+Brought told before due now d q bytes input Over = Onward told before due now (driven_from d input)
+Brought told before due now d q bytes input Failed = told → Between before due.body now
 
 -- P, where the sink failed
 abbrev pub OnFailed : PartTurn → Type 0 → Type 0

@@ -18,10 +18,10 @@ unfoldable pub received_text : Game → ℕ → List Entry → ℕ → TurnFrame
 received_text game me h q f = got_text q (place_of game f) (got_answer game me h q f) ++ added_text (length h) (after_got game me h q f)
 
 -- what is written about any frame that comes from q
-abbrev pub frame_text : Game → ℕ → List Entry → ℕ → Frame → List ℕ
-frame_text game me h q (Turn f) = received_text game me h q f
-frame_text game me h q (Hello id p pass next) = hello_text q
-frame_text game me h q (Want place) = want_text q place
+abbrev pub coming_text : Game → ℕ → List Entry → ℕ → Frame → List ℕ
+coming_text game me h q (Turn f) = received_text game me h q f
+coming_text game me h q (Hello id p pass next) = hello_text q
+coming_text game me h q (Want place) = want_text q place
 
 -- the log behind it: only a commitment or a reveal changes it
 abbrev pub log_after : Game → ℕ → List Entry → ℕ → Frame → List Entry
@@ -50,7 +50,7 @@ bad_byte_text q r = if r.bad then bad_text q r.place else []
 -- at which the reader of q's bytes stands behind them
 unfoldable pub text_through : Game → ℕ → List Entry → ℕ → List Frame → Reading → List ℕ
 text_through game me h q [] r = bad_byte_text q r
-text_through game me h q (f ∷ fs) r = frame_text game me h q f ++ text_on game (log_after game me h q f) (text_through game me (log_after game me h q f) q fs r)
+text_through game me h q (f ∷ fs) r = coming_text game me h q f ++ text_on game (log_after game me h q f) (text_through game me (log_after game me h q f) q fs r)
 
 -- what is written about bytes that come from q behind those that came before: the frames that they make whole, and a bad byte
 unfoldable pub bytes_text : Game → ℕ → State → ℕ → List ℕ → List ℕ

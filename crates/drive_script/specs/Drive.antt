@@ -8,10 +8,10 @@ use Rattle.definitions.specs.Findings.{findings, is_clean}
 use Rattle.definitions.specs.Advance.{advance}
 use Rattle.definitions.specs.Steps.{after_choice, after_got}
 use Rattle.text_io.specs.declared.statuses.Status.{Status}
-use Rattle.text_io.specs.declared.statuses.Status.TheVariants.{Done, Caught, BadLine}
+use Rattle.text_io.specs.declared.statuses.Status.TheVariants.{Done, InputFault, Caught, BadLine}
 use Rattle.text_io.specs.declared.statuses.TextName.TheVariants.{Script}
 use Rattle.text_io.specs.Frame.{Answer, after_text, bare_answer}
-use Rattle.text_io.specs.Lines.{lines_of}
+use Rattle.text_io.specs.Inputs.{Input, Line, End, Fault, Ending, AtEnd, AtFault, lines_in}
 use Rattle.script_grammar.specs.declared.grammar.DriveLine.{DriveLine}
 use Rattle.script_grammar.specs.declared.grammar.DriveLine.TheVariants.{Nothing, Choose, Got, Bytes, Log, Bad}
 use Rattle.script_grammar.specs.Grammar.{line_of, is_bad}
@@ -54,28 +54,30 @@ answer_by bad n text rest = if bad then bare_answer (BadLine Script n) else afte
 abbrev pub going_on : Game → ℕ → List Entry → Answer → Answer
 going_on game me h rest = if is_clean game h then rest else record { body = end_text game me h; status = Caught }
 
--- the answer to these lines, which come behind n lines, where the peer has this, and its log no finding
-abbrev pub drive_from : Game → ℕ → State → ℕ → List (List ℕ) → Answer
-drive_from game me s n [] = record { body = end_text game me s.log; status = Done }
-drive_from game me s n (line ∷ lines) =
+-- the answer to this input, which comes behind n lines, where the peer has this, and its log no finding: what is written is told
+-- of its lines, and at its end how the peer stands; a fault of the source ends the run where it comes
+abbrev pub drive_from : Game → ℕ → State → ℕ → Input → Answer
+drive_from game me s n End = record { body = end_text game me s.log; status = Done }
+drive_from game me s n Fault = bare_answer InputFault
+drive_from game me s n (Line line input) =
     answer_by (is_bad (said_behind n line)) (n + 1) (text_behind game me s (said_behind n line))
-    (going_on game me (state_behind game me s (said_behind n line)).log (drive_from game me (state_behind game me s (said_behind n line)) (n + 1) lines))
+    (going_on game me (state_behind game me s (said_behind n line)).log (drive_from game me (state_behind game me s (said_behind n line)) (n + 1) input))
 
 -- what is written before the first line: each frame that the peer makes, and the first finding of its log, if it has one
 unfoldable pub start_text : Game → ℕ → List Entry → List ℕ
 start_text game me first = added_text (length first) (advance game me first) ++ found_text (slice_get (findings game (advance game me first ∷ [])) 0)
 
 -- The answer to a script from a log that a peer begins with: before the first line the peer advances.
-unfoldable pub drive : Game → ℕ → List Entry → List ℕ → Answer
-drive game me first script =
+unfoldable pub drive : Game → ℕ → List Entry → Input → Answer
+drive game me first input =
     after_text (start_text game me first)
-    (going_on game me (advance game me first) (drive_from game me (fresh (advance game me first)) 0 (lines_of script)))
+    (going_on game me (advance game me first) (drive_from game me (fresh (advance game me first)) 0 input))
 
 -- the log, where the line lets the run go on
 abbrev pub log_by : (bad : Bool) → (now last : List Entry) → List Entry
 log_by bad now last = if bad then now else last
 
--- the log that the peer has at the end of its run, behind the answer `drive_from`
+-- the log that the peer has behind these lines, or behind the first that ends its run
 abbrev pub log_from : Game → ℕ → State → ℕ → List (List ℕ) → List Entry
 log_from game me s n [] = s.log
 log_from game me s n (line ∷ lines) =
@@ -83,16 +85,18 @@ log_from game me s n (line ∷ lines) =
     (log_on game (state_behind game me s (said_behind n line)).log (log_from game me (state_behind game me s (said_behind n line)) (n + 1) lines))
 
 -- the log that the peer has at the end of its run, behind the answer `drive`
-unfoldable pub drive_log : Game → ℕ → List Entry → List ℕ → List Entry
-drive_log game me first script = log_on game (advance game me first) (log_from game me (fresh (advance game me first)) 0 (lines_of script))
+unfoldable pub drive_log : Game → ℕ → List Entry → Input → List Entry
+drive_log game me first input = log_on game (advance game me first) (log_from game me (fresh (advance game me first)) 0 (lines_in input))
 
 -- the number of the first of these lines, which come behind n lines, that is in no grammar, if there is one
 abbrev pub bad_line : ℕ → List (List ℕ) → Option ℕ
 bad_line n [] = None
 bad_line n (line ∷ lines) = if is_bad (said_behind n line) then Some (n + 1) else bad_line (n + 1) lines
 
--- how a run ends, by whether its last log has no finding and by the number of the first bad line of its script
-abbrev pub status_for : (clean : Bool) → (bad : Option ℕ) → Status
-status_for false bad = Caught
-status_for true (Some n) = BadLine Script n
-status_for true None = Done
+-- how a run ends, by whether its last log has no finding, by the number of the first bad line of its script, and by what reading
+-- it comes to
+abbrev pub status_for : (clean : Bool) → (bad : Option ℕ) → Ending → Status
+status_for false bad ending = Caught
+status_for true (Some n) ending = BadLine Script n
+status_for true None AtEnd = Done
+status_for true None AtFault = InputFault

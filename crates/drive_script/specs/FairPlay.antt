@@ -1,5 +1,5 @@
 -- Fair play: what the log of a peer that is driven shows of the protocol.
-use Rattle.std.specs.Prelude.{◌≡◌, ℕ, ◌<◌, List, ◌∷◌, ◌++◌, Some, IsTrue}
+use Rattle.std.specs.Prelude.{◌≡◌, ◌⊎◌, ℕ, ◌<◌, List, ◌∷◌, ◌++◌, Some, IsSome, IsTrue}
 use Rattle.definitions.specs.declared.world.Move.{Move}
 use Rattle.definitions.specs.declared.openings.Nonce.{Nonce}
 use Rattle.definitions.specs.declared.openings.Digest.{Digest}
@@ -35,10 +35,11 @@ pub record IsOpenedBy (game : Game) (me : ℕ) (log : List Entry) (q t : ℕ) (m
   pub committed : IsGotIn log q (Commit q t digest)
   pub revealed : IsGotIn log q (Reveal q t mv nonce)
 
--- Each entry was allowed after those before it. Each reveal made stands behind a received commitment of every other player
--- whose dilated sphere met the owner's when the reveal was made. Each move accepted of another player opens the digest held.
+-- Each entry was allowed after those before it. Each reveal made stands behind a received commitment to its turn of every other
+-- player whose dilated sphere met the owner's when the reveal was made, or whose turn was resolved by then. Each move accepted of
+-- another player opens the digest held.
 pub record IsFairPlay (game : Game) (me : ℕ) (log : List Entry) : Type 0 where
   pub honest : IsHonest game me log
   pub behind : (front back : List Entry) (q t : ℕ) (mv : Move) (nonce : Nonce) → log ≡ front ++ Made (Reveal me t mv nonce) ∷ back →
-      q < players_of game → (q ≡ me → ⊥) → IsTrue (meets game me front q t) → IsCommittedBy game me front q t
+      q < players_of game → (q ≡ me → ⊥) → (IsTrue (meets game me front q t) ⊎ IsSome (resolved game me front q t)) → IsCommittedBy game me front q t
   pub opened : (q t : ℕ) (mv : Move) → (q ≡ me → ⊥) → resolved game me log q t ≡ Some mv → IsOpenedBy game me log q t mv

@@ -6,13 +6,14 @@ use Rattle.definitions.specs.Findings.{is_clean}
 use Rattle.text_io.specs.declared.statuses.Status.TheVariants.{BadLine}
 use Rattle.text_io.specs.declared.statuses.TextName.TheVariants.{Script}
 use Rattle.text_io.specs.Frame.{Answer, after_text, bare_answer}
-use Rattle.drive_script.specs.declared.driver.Heard.{Heard}
-use Rattle.drive_script.specs.declared.driver.Heard.TheVariants.{Bad, Line, Bytes}
-use Rattle.drive_script.specs.declared.driver.Answered.{Answered}
-use Rattle.drive_script.specs.declared.driver.Answered.TheVariants.{Nothing, Choice, Received, Log}
-use Rattle.drive_script.specs.declared.driver.Reply.{Reply}
-use Rattle.drive_script.specs.declared.driver.Found.{Found}
-use Rattle.drive_script.specs.declared.driver.Found.TheVariants as found
+use Rattle.text_io.specs.Inputs.{Input}
+use Rattle.drive_script.specs.declared.heard.Heard.{Heard}
+use Rattle.drive_script.specs.declared.heard.Heard.TheVariants.{Bad, Line, Bytes}
+use Rattle.drive_script.specs.declared.heard.Answered.{Answered}
+use Rattle.drive_script.specs.declared.heard.Answered.TheVariants.{Nothing, Choice, Received, Log}
+use Rattle.drive_script.specs.declared.heard.Reply.{Reply}
+use Rattle.drive_script.specs.declared.heard.Found.{Found}
+use Rattle.drive_script.specs.declared.heard.Found.TheVariants as found
 use Rattle.drive_script.specs.Driven.{Driven, reader_of}
 use Rattle.drive_script.specs.Coming.{bytes_text, bytes_state}
 use Rattle.drive_script.specs.Drive.{drive_from, going_on}
@@ -22,17 +23,17 @@ use Rattle.drive_script.specs.Lines.{choice_text, got_text, hello_text, want_tex
 abbrev pub reply_text : ℕ → Reply → List Entry → List ℕ
 reply_text q reply log = got_text q reply.place reply.answer ++ added_text reply.entries log
 
--- the answer to these lines from this driver on
-abbrev pub driven_from : Driven → List (List ℕ) → Answer
-driven_from d lines = going_on d.game d.me d.state.log (drive_from d.game d.me d.state d.lines lines)
+-- the answer to this input from this driver on
+abbrev pub driven_from : Driven → Input → Answer
+driven_from d input = going_on d.game d.me d.state.log (drive_from d.game d.me d.state d.lines input)
 
 -- this driver behind bytes that come from q
 abbrev pub behind_bytes : Driven → ℕ → List ℕ → Driven
 behind_bytes d q bytes = record { game = d.game; me = d.me; state = bytes_state d.game d.me d.state q bytes; lines = d.lines }
 
--- the answer to bytes that come from q, and then to these lines, from this driver on
-abbrev pub bytes_from : Driven → ℕ → List ℕ → List (List ℕ) → Answer
-bytes_from d q bytes lines = after_text (bytes_text d.game d.me d.state q bytes) (driven_from (behind_bytes d q bytes) lines)
+-- the answer to bytes that come from q, and then to this input, from this driver on
+abbrev pub bytes_from : Driven → ℕ → List ℕ → Input → Answer
+bytes_from d q bytes input = after_text (bytes_text d.game d.me d.state q bytes) (driven_from (behind_bytes d q bytes) input)
 
 -- what is written about a line that is told at once, where the log is now this one
 abbrev pub answered_text : Game → ℕ → Answered → (log : List Entry) → List ℕ
@@ -42,11 +43,11 @@ answered_text game me (Received from reply) log = reply_text from reply log
 answered_text game me Log log = log_text game me log
 
 -- The whole answer from a line on, by what became of it, where behind it the driver is this one: the line is the n-th, and
--- these lines come behind it.
-abbrev pub AnswersBy : Heard → (whole : Answer) → (n : ℕ) → Driven → List (List ℕ) → Type 0
-AnswersBy Bad whole n d lines = whole ≡ bare_answer (BadLine Script n)
-AnswersBy (Line answered) whole n d lines = whole ≡ after_text (answered_text d.game d.me answered d.state.log) (driven_from d lines)
-AnswersBy (Bytes from bytes) whole n d lines = whole ≡ bytes_from d from bytes lines
+-- this input comes behind it.
+abbrev pub AnswersBy : Heard → (whole : Answer) → (n : ℕ) → Driven → Input → Type 0
+AnswersBy Bad whole n d input = whole ≡ bare_answer (BadLine Script n)
+AnswersBy (Line answered) whole n d input = whole ≡ after_text (answered_text d.game d.me answered d.state.log) (driven_from d input)
+AnswersBy (Bytes from bytes) whole n d input = whole ≡ bytes_from d from bytes input
 
 -- Bytes from this player may come: it has a reader, the log has no finding, and with them no more bytes came than the lines
 -- so far may have.
@@ -87,9 +88,9 @@ is_last (found.Bad place) = true
 
 -- the answer behind a part of q's bytes, of which these are left: where it is the last, or the log has a finding by now, the
 -- rest of the line is dropped
-abbrev pub rest_from : (last : Bool) → Driven → ℕ → (rest : List ℕ) → List (List ℕ) → Answer
-rest_from true d q rest lines = driven_from d lines
-rest_from false d q rest lines = if is_clean d.game d.state.log then bytes_from d q rest lines else driven_from d lines
+abbrev pub rest_from : (last : Bool) → Driven → ℕ → (rest : List ℕ) → Input → Answer
+rest_from true d q rest input = driven_from d input
+rest_from false d q rest input = if is_clean d.game d.state.log then bytes_from d q rest input else driven_from d input
 
 -- the log has all that it had before the frame that was found, if one of a turn was
 abbrev pub HasBefore : Found → (log : List Entry) → Type 0

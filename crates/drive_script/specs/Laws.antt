@@ -4,7 +4,7 @@ use Rattle.definitions.specs.declared.logs.Entry.{Entry}
 use Rattle.definitions.specs.World.{Game}
 use Rattle.definitions.specs.Findings.{is_clean}
 use Rattle.definitions.specs.Honest.{IsHonest}
-use Rattle.text_io.specs.Lines.{lines_of}
+use Rattle.text_io.specs.Inputs.{Input, ending_of, lines_in}
 use Rattle.definitions.specs.Advance.{advance}
 use Rattle.definitions.specs.Steps.{LogStep, Chooses, Comes, log_run}
 use Rattle.wire_frames.specs.declared.frames.Frame.{Frame}
@@ -18,20 +18,20 @@ use Rattle.drive_script.specs.Drive.{drive, drive_log, bad_line, said_behind, st
 use Rattle.drive_script.specs.FairPlay.{IsFairPlay}
 use Rattle.drive_script.specs.Telling.{TellsLog}
 
--- a run ends by a finding of its last log, or else by the first bad line of its script, or else at the script's end
+-- a run ends by a finding of its last log, or else by the first bad line of its script, or else as reading the script ends
 abbrev pub LogsAndLinesDecide : Type 0
-LogsAndLinesDecide = (game : Game) (me : ℕ) (first : List Entry) (script : List ℕ) →
-    (drive game me first script).status ≡ status_for (is_clean game (drive_log game me first script)) (bad_line 0 (lines_of script))
+LogsAndLinesDecide = (game : Game) (me : ℕ) (first : List Entry) (input : Input) →
+    (drive game me first input).status ≡ status_for (is_clean game (drive_log game me first input)) (bad_line 0 (lines_in input)) (ending_of input)
 
 -- a peer that begins with an honest log plays fair, whatever the script says
 abbrev pub PeersPlayFair : Type 0
-PeersPlayFair = (game : Game) (me : ℕ) (first : List Entry) (script : List ℕ) → 1 ≤ game.ahead → IsHonest game me first →
-    IsFairPlay game me (drive_log game me first script)
+PeersPlayFair = (game : Game) (me : ℕ) (first : List Entry) (input : Input) → 1 ≤ game.ahead → IsHonest game me first →
+    IsFairPlay game me (drive_log game me first input)
 
 -- what is written tells the log that the peer has
 abbrev pub TextsTellLogs : Type 0
-TextsTellLogs = (game : Game) (me : ℕ) (first : List Entry) (script : List ℕ) →
-    TellsLog game me first (drive_log game me first script) (drive game me first script).body
+TextsTellLogs = (game : Game) (me : ℕ) (first : List Entry) (input : Input) →
+    TellsLog game me first (drive_log game me first input) (drive game me first input).body
 
 -- the bytes that a line brings from the player, if it brings any
 abbrev pub piece_of : (q : ℕ) → DriveLine → List (List ℕ)
@@ -88,5 +88,5 @@ steps_from game me s n (line ∷ lines) =
 -- The log that a peer has at the end of its run is that of the protocol's steps, one behind the other, which its script's lines
 -- bring: behind a finding no step changes a log.
 abbrev pub DrivesAreRuns : Type 0
-DrivesAreRuns = (game : Game) (me : ℕ) (first : List Entry) (script : List ℕ) → let h = advance game me first in
-    drive_log game me first script ≡ log_run game me h (steps_from game me (fresh h) 0 (lines_of script))
+DrivesAreRuns = (game : Game) (me : ℕ) (first : List Entry) (input : Input) → let h = advance game me first in
+    drive_log game me first input ≡ log_run game me h (steps_from game me (fresh h) 0 (lines_in input))

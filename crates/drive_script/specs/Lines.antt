@@ -61,18 +61,18 @@ found_text None = []
 found_text (Some f) = caught_text f
 
 -- a line of this word, a player, and a place
-unfoldable pub taken_text : List ℕ → (q place : ℕ) → List ℕ
-taken_text word q place = word ++ decimal q ++ codes " " ++ decimal place ++ codes "\n"
+unfoldable pub place_text : List ℕ → (q place : ℕ) → List ℕ
+place_text word q place = word ++ decimal q ++ codes " " ++ decimal place ++ codes "\n"
 
 unfoldable pub foreign_text : (q : ℕ) → List ℕ
 foreign_text q = codes "foreign " ++ decimal q ++ codes "\n"
 
 -- what is written about a frame of this place that came from q, by the peer's answer; behind a finding no frame comes
 abbrev pub got_text : (q place : ℕ) → GotAnswer → List ℕ
-got_text q place Taken = taken_text (codes "taken ") q place
-got_text q place Stashed = taken_text (codes "stashed ") q place
-got_text q place Same = taken_text (codes "same ") q place
-got_text q place Far = taken_text (codes "far ") q place
+got_text q place Taken = place_text (codes "taken ") q place
+got_text q place Stashed = place_text (codes "stashed ") q place
+got_text q place Same = place_text (codes "same ") q place
+got_text q place Far = place_text (codes "far ") q place
 got_text q place Foreign = foreign_text q
 got_text q place (G.Caught f) = caught_text f
 got_text q place Closed = []
@@ -83,10 +83,10 @@ unfoldable pub hello_text : (q : ℕ) → List ℕ
 hello_text q = codes "hello " ++ decimal q ++ codes "\n"
 
 abbrev pub want_text : (q place : ℕ) → List ℕ
-want_text q place = taken_text (codes "want ") q place
+want_text q place = place_text (codes "want ") q place
 
 abbrev pub bad_text : (q place : ℕ) → List ℕ
-bad_text q place = taken_text (codes "bad ") q place
+bad_text q place = place_text (codes "bad ") q place
 
 -- the word for one of a turn's two frames
 abbrev pub what_name : What → List ℕ
@@ -94,12 +94,12 @@ what_name Commit = codes "commit "
 what_name Reveal = codes "reveal "
 
 -- what is written about a frame that is made: which of which turn, and its bytes
-unfoldable pub frame_text : What → (turn : ℕ) → TurnFrame → List ℕ
-frame_text what turn frame = codes "made " ++ what_name what ++ decimal turn ++ codes " " ++ encode_lower (frame_bytes frame) ++ codes "\n"
+unfoldable pub made_frame_text : What → (turn : ℕ) → TurnFrame → List ℕ
+made_frame_text what turn frame = codes "made " ++ what_name what ++ decimal turn ++ codes " " ++ encode_lower (frame_bytes frame) ++ codes "\n"
 
 abbrev pub made_text : TurnFrame → List ℕ
-made_text (F.Commit p t d) = frame_text Commit t (F.Commit p t d)
-made_text (F.Reveal p t m n) = frame_text Reveal t (F.Reveal p t m n)
+made_text (F.Commit p t d) = made_frame_text Commit t (F.Commit p t d)
+made_text (F.Reveal p t m n) = made_frame_text Reveal t (F.Reveal p t m n)
 
 -- what is written about an entry that comes into the log: only a frame that is made is told so
 abbrev pub entry_text : Entry → List ℕ

@@ -1,12 +1,11 @@
 -- Telling: what a text tells of a log.
-use Rattle.std.specs.Prelude.{◌≡◌, ◌⊎◌, ℕ, Bool, true, false, List, [], ◌∷◌, ◌++◌, Some, None, length, flat_map, slice_get, if◌then◌else◌}
+use Rattle.std.specs.Prelude.{◌≡◌, ◌⊎◌, ℕ, List, [], ◌∷◌, ◌++◌, Some, None, length, flat_map, slice_get, if◌then◌else◌}
 use Rattle.definitions.specs.declared.world.Move.{Move}
 use Rattle.definitions.specs.declared.openings.Nonce.{Nonce}
 use Rattle.definitions.specs.declared.answers.OwnFault.{OwnFault}
 use Rattle.definitions.specs.declared.frames.TurnFrame.{TurnFrame}
 use Rattle.definitions.specs.declared.findings.Finding.{Finding}
 use Rattle.definitions.specs.declared.answers.GotAnswer.{GotAnswer}
-use Rattle.definitions.specs.declared.answers.GotAnswer.TheVariants.{Taken, Stashed, Same, Far, Foreign, Caught, Closed}
 use Rattle.definitions.specs.declared.logs.Entry.{Entry}
 use Rattle.definitions.specs.declared.logs.Entry.TheVariants.{Chose, Made, Got}
 use Rattle.definitions.specs.World.{Game}
@@ -15,6 +14,7 @@ use Rattle.definitions.specs.Needs.{choice_fault}
 use Rattle.definitions.specs.Findings.{findings}
 use Rattle.definitions.specs.Answers.{got_answer, place_of}
 use Rattle.definitions.specs.Advance.{next_made}
+use Rattle.peer_core.specs.Choosing.{is_logged}
 use Rattle.drive_script.specs.Lines.{choice_text, got_text, hello_text, want_text, bad_text, caught_text, made_text, end_text, log_text}
 
 -- what a part of a text is about
@@ -49,16 +49,6 @@ telling_text game me log (Wants q place) = want_text q place
 telling_text game me log (Spoils q place) = bad_text q place
 telling_text game me log (Finds f) = caught_text f
 telling_text game me log Prints = log_text game me log
-
--- the frame that is answered so is in the log
-abbrev pub is_logged : GotAnswer → Bool
-is_logged Taken = true
-is_logged Stashed = true
-is_logged Same = false
-is_logged Far = false
-is_logged Foreign = false
-is_logged (Caught f) = true
-is_logged Closed = false
 
 -- what it adds to the log
 abbrev pub added_by : Telling → List Entry
@@ -96,7 +86,8 @@ AreTold game me log [] = Unit {0}
 AreTold game me log (t ∷ ts) = IsTold game me log t × AreTold game me (log ++ added_by t) ts
 
 -- The body of an answer tells how the log came from its first entries. Each choice, each frame made and each frame received that
--- stands behind them is told where it came, and nothing is told as taken, stashed, caught or made that isn't such an entry. Each
+-- stands behind them is told where it came, and nothing is told as taken, stashed or made that isn't such an entry; a finding is
+-- told of such an entry, or of the log that the run begins with. Each
 -- answer is the one that the protocol gives of the log at that moment. Where the log is printed, it is the log so far. The last
 -- part, if there is one, is the end that belongs to this log.
 pub record TellsLog (game : Game) (me : ℕ) (first log : List Entry) (body : List ℕ) : Type 0 where

@@ -2,14 +2,16 @@
 
 ghost use Rattle.std.specs.Prelude.{◌≡◌, ◌≤◌, ◌<◌, ◌+◌, ◌∷◌, List, ℕ, length, drop, IsSome, IsTrue};
 ghost use Rattle.definitions.specs.Findings.{is_clean};
-ghost use Rattle.station.specs.Outside.{known, Rose};
+ghost use Rattle.station.specs.Outside.{told_bytes, Rose};
 ghost use Rattle.text_io.specs.Frame.{UnlessOutputFault, OnDone};
+ghost use Rattle.text_io.specs.Inputs.{Input, Line};
 ghost use Rattle.text_io.specs.Turns.{Turned, TurnCause, MatchTurn, OnOn};
 ghost use Rattle.drive_script.specs.Hearing.{driven_from, bytes_from, MayCome};
 ghost use Rattle.drive_script.specs.Bringing.{Brought, OnFailed, OnWell, OnMore};
 ghost use Rattle.drive_script.specs.Ends.{ScriptEnds};
 
-use crate::driver::{Driver, Heard, is_last};
+use crate::driver::Driver;
+use crate::heard::{Heard, is_last};
 use crate::printing::{put_answered, put_part};
 use definitions::PlayerId;
 use station::Sink;
@@ -27,7 +29,7 @@ pub(crate) enum PartTurn {
 }
 
 /// The status of the line that comes next, if it is in no grammar.
-pub(crate) fn bad_line(driver: &Driver) -> Status
+pub(crate) fn bad_line_status(driver: &Driver) -> Status
     ensures { result ≡ Status.BadLine TextName.Script (driver.now.lines + 1) }
 {
     Status::BadLine {
@@ -40,9 +42,9 @@ pub(crate) fn bad_line(driver: &Driver) -> Status
 fn bring_part<O: Sink>(driver: &mut Driver, from: PlayerId, bytes: &[u8], out: &mut O) -> PartTurn
     requires { MayCome driver.old from bytes.now }
     ensures told { IsSome (O.held out.old) → IsSome (O.held out.new) }
-    ensures text { IsSome (O.held out.old) → (lines : List (List ℕ)) → Brought
-        (known (O.held out.old)) (bytes_from driver.old from bytes.now lines)
-        (known (O.held out.new)) driver.new from bytes.now lines result }
+    ensures text { (input : Input) → Brought (IsSome (O.held out.old))
+        (told_bytes (O.held out.old)) (bytes_from driver.old from bytes.now input)
+        (told_bytes (O.held out.new)) driver.new from bytes.now input result }
     ensures later { O.faults out.old ≤ O.faults out.new }
     ensures cause { OnFailed result (Rose (O.faults out.old) (O.faults out.new)) }
     ensures steady { OnWell result (O.faults out.new ≡ O.faults out.old) }
@@ -68,9 +70,9 @@ fn bring_part<O: Sink>(driver: &mut Driver, from: PlayerId, bytes: &[u8], out: &
 fn bring<O: Sink>(driver: &mut Driver, from: PlayerId, bytes: &[u8], out: &mut O) -> LoopTurn
     requires { MayCome driver.old from bytes.now }
     ensures told { IsSome (O.held out.old) → IsSome (O.held out.new) }
-    ensures text { IsSome (O.held out.old) → (lines : List (List ℕ)) → Turned
-        (known (O.held out.old)) (bytes_from driver.old from bytes.now lines)
-        (known (O.held out.new)) (driven_from driver.new lines) result }
+    ensures text { (input : Input) → Turned (IsSome (O.held out.old))
+        (told_bytes (O.held out.old)) (bytes_from driver.old from bytes.now input)
+        (told_bytes (O.held out.new)) (driven_from driver.new input) result }
     ensures later { O.faults out.old ≤ O.faults out.new }
     ensures cause { TurnCause ScriptEnds ⊥ (Rose (O.faults out.old) (O.faults out.new)) result }
     ensures steady { MatchTurn result (O.faults out.new ≡ O.faults out.old) (λ s. UnlessOutputFault s (O.faults out.new ≡ O.faults out.old)) }
@@ -92,9 +94,9 @@ pub(crate) fn answer<O: Sink>(driver: &mut Driver, line: &[u8], out: &mut O) -> 
     requires short { length line.now ≤ 1024 }
     requires clean { IsTrue (is_clean driver.old.game driver.old.state.log) }
     ensures told { IsSome (O.held out.old) → IsSome (O.held out.new) }
-    ensures text { IsSome (O.held out.old) → (lines : List (List ℕ)) → Turned
-        (known (O.held out.old)) (driven_from driver.old (line.now ∷ lines))
-        (known (O.held out.new)) (driven_from driver.new lines) result }
+    ensures text { (input : Input) → Turned (IsSome (O.held out.old))
+        (told_bytes (O.held out.old)) (driven_from driver.old (Line line.now input))
+        (told_bytes (O.held out.new)) (driven_from driver.new input) result }
     ensures later { O.faults out.old ≤ O.faults out.new }
     ensures cause { TurnCause ScriptEnds ⊥ (Rose (O.faults out.old) (O.faults out.new)) result }
     ensures steady { MatchTurn result (O.faults out.new ≡ O.faults out.old) (λ s. UnlessOutputFault s (O.faults out.new ≡ O.faults out.old)) }
@@ -102,7 +104,7 @@ pub(crate) fn answer<O: Sink>(driver: &mut Driver, line: &[u8], out: &mut O) -> 
     ensures read { MatchTurn result (Unit {0}) (λ s. OnDone s ⊥) }
 {
     match driver.hear(line) {
-        Heard::Bad => LoopTurn::Over(bad_line(driver)),
+        Heard::Bad => LoopTurn::Over(bad_line_status(driver)),
         Heard::Bytes(from, piece) => bring(driver, from, piece.as_slice(), out),
         Heard::Line(answered) => match put_answered(driver.peer(), &answered, out) {
             Written::All => LoopTurn::On,

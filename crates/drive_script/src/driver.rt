@@ -9,87 +9,22 @@ ghost use Rattle.definitions.specs.Answers.{got_answer, place_of};
 ghost use Rattle.definitions.specs.Steps.{after_choice, after_got};
 ghost use Rattle.script_grammar.specs.Grammar.{IsFew, is_bad};
 ghost use Rattle.drive_script.specs.Driven.{fresh, reader_of, with_log};
-ghost use Rattle.drive_script.specs.Coming.{frame_text, log_after};
+ghost use Rattle.drive_script.specs.Coming.{coming_text, log_after};
 ghost use Rattle.drive_script.specs.Drive.{said_behind};
-ghost use Rattle.drive_script.specs.Telling.{is_logged};
 ghost use Rattle.drive_script.specs.Hearing.{driven_from, bytes_from, rest_from, part_text, is_last, AnswersBy, Counts, HasBefore, MayCome, Unless};
 ghost use Rattle.text_io.specs.Frame.{after_text};
+ghost use Rattle.text_io.specs.Inputs.{Input, Line};
 
+use crate::heard::{Answered, Found, Heard, Part, Reply};
 use crate::readers::Readers;
-use definitions::{GotAnswer, Move, Nonce, OwnFault, PlayerId, Turn, TurnFrame};
-use peer_core::{Peer, place_of};
-use script_grammar::{DriveLine, Piece, read_line};
+use definitions::{GotAnswer, Move, Nonce, OwnFault, PlayerId, TurnFrame};
+use peer_core::{Peer, is_logged, place_of};
+use script_grammar::{DriveLine, read_line};
 use std::marker::Model;
-use wire_frames::{FedWhat, Frame, Place};
+use wire_frames::{FedWhat, Frame};
 
 /// The most lines that a script has.
 const LINES: u32 = 1_048_576;
-
-/// The peer's answer to a frame of this place. The log had so many entries before.
-#[derive(Clone, Copy)]
-pub(crate) struct Reply {
-    pub(crate) place: u64,
-    pub(crate) answer: GotAnswer,
-    pub(crate) entries: usize,
-}
-
-/// What became of a line that is told at once.
-#[derive(Clone, Copy)]
-pub(crate) enum Answered {
-    /// It was passed over.
-    Nothing,
-    /// The player chose, which is refused where there is a fault. The turn is the one that was to be chosen, and the
-    /// log had so many entries before.
-    Choice {
-        turn: Turn,
-        fault: Option<OwnFault>,
-        entries: usize,
-    },
-    /// A frame came from a player, and the peer answered it.
-    Received(PlayerId, Reply),
-    /// The log is to be printed.
-    Log,
-}
-
-/// What became of a line.
-#[derive(Drop)]
-pub(crate) enum Heard {
-    /// It is in no grammar, or one too many, and nothing changed.
-    Bad,
-    /// It is to be told.
-    Line(Answered),
-    /// It brings these bytes from a player, which are to be read.
-    Bytes(PlayerId, Piece),
-}
-
-/// What was found in bytes that come from a player, and what became of it.
-#[derive(Clone, Copy)]
-pub(crate) enum Found {
-    /// No further frame is whole.
-    More,
-    /// The player greets.
-    Hello,
-    /// The player wants the frame of a place.
-    Want(Place),
-    /// A frame of a turn, which the peer answered.
-    Received(Reply),
-    /// A byte at this place of all that came from the player, with which no frame can go on.
-    Bad(u64),
-}
-
-/// What was found, and how many of the bytes were used.
-#[derive(Clone, Copy)]
-pub(crate) struct Part {
-    pub(crate) used: usize,
-    pub(crate) found: Found,
-}
-
-/// Whether nothing is found behind it.
-pub(crate) fn is_last(found: &Found) -> bool
-    ensures { result ≡ is_last found.now }
-{
-    matches!(found, Found::More | Found::Bad(_))
-}
 
 /// Lets the peer's player choose, and then makes what the peer may make by itself. A choice that is refused changes nothing.
 fn choose_and_advance(peer: &mut Peer, mv: Move, nonce: Nonce) -> Option<OwnFault>
@@ -105,23 +40,13 @@ fn choose_and_advance(peer: &mut Peer, mv: Move, nonce: Nonce) -> Option<OwnFaul
     }
 }
 
-/// Whether the frame that is answered so is in the log.
-fn is_logged(answer: GotAnswer) -> bool
-    ensures { result ≡ is_logged answer }
-{
-    matches!(
-        answer,
-        GotAnswer::Taken | GotAnswer::Stashed | GotAnswer::Caught(_)
-    )
-}
-
 /// Hands a frame to the peer, and then makes what the peer may make by itself. A frame that is refused changes nothing.
 fn receive_and_advance(peer: &mut Peer, from: PlayerId, frame: &TurnFrame) -> GotAnswer
     ensures answer { result ≡ got_answer peer.old.game peer.old.me peer.old.entries from frame.now }
     ensures after { peer.new ≡ record peer.old { entries = after_got peer.old.game peer.old.me peer.old.entries from frame.now } }
 {
     let answer = peer.got(from, frame);
-    if is_logged(answer) {
+    if is_logged(&answer) {
         peer.advance();
     }
     answer
@@ -231,7 +156,7 @@ impl Driver {
 
     /// Takes a frame that came whole, and hands it to the peer if it is one of a turn.
     fn take(&mut self, from: PlayerId, frame: &Frame) -> Found
-        ensures text { part_text result from self.new.state.log ≡ frame_text self.old.game self.old.me self.old.state.log from frame.now }
+        ensures text { part_text result from self.new.state.log ≡ coming_text self.old.game self.old.me self.old.state.log from frame.now }
         ensures after { self.new ≡ record self.old { state = with_log self.old.state (log_after self.old.game self.old.me self.old.state.log from frame.now) } }
         ensures before { HasBefore result self.new.state.log }
         ensures further { is_last result ≡ false }
@@ -248,7 +173,7 @@ impl Driver {
     pub(crate) fn hear(&mut self, line: &[u8]) -> Heard
         requires short { length line.now ≤ 1024 }
         requires clean { IsTrue (is_clean self.old.game self.old.state.log) }
-        ensures answers { (lines : List (List ℕ)) → AnswersBy result (driven_from self.old (line.now ∷ lines)) (self.old.lines + 1) self.new lines }
+        ensures answers { (input : Input) → AnswersBy result (driven_from self.old (Line line.now input)) (self.old.lines + 1) self.new input }
         ensures counts { Counts result self.old.lines self.new }
     {
         let said = self.said(line);
@@ -272,8 +197,8 @@ impl Driver {
     /// peer if it is one of a turn.
     pub(crate) fn hear_part(&mut self, from: PlayerId, bytes: &[u8]) -> Part
         requires { MayCome self.old from bytes.now }
-        ensures answers { (lines : List (List ℕ)) → bytes_from self.old from bytes.now lines ≡
-            after_text (part_text result.found from self.new.state.log) (rest_from (is_last result.found) self.new from (drop result.used bytes.now) lines) }
+        ensures answers { (input : Input) → bytes_from self.old from bytes.now input ≡
+            after_text (part_text result.found from self.new.state.log) (rest_from (is_last result.found) self.new from (drop result.used bytes.now) input) }
         ensures before { HasBefore result.found self.new.state.log }
         ensures some { is_last result.found ≡ false → 0 < result.used }
         ensures within { result.used ≤ length bytes.now }

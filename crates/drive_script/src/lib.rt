@@ -7,6 +7,7 @@
 
 mod answering;
 mod driver;
+mod heard;
 pub mod laws;
 mod lines;
 mod logging;

@@ -64,10 +64,10 @@ pub(crate) fn caught_line(finding: &Finding) -> Line
 }
 
 /// A line of this word, a player, and a place.
-#[tactic(auto, unfolding(crate::specs::Lines::taken_text))]
+#[tactic(auto, unfolding(crate::specs::Lines::place_text))]
 fn taken_line(word: &[u8], from: PlayerId, place: u64) -> Line
     requires { length word.now ≤ 16 }
-    ensures { result.items ≡ L.taken_text word.now from place }
+    ensures { result.items ≡ L.place_text word.now from place }
 {
     let mut line = ArrayVec::new();
     line.try_extend_from_slice(word).unwrap();
@@ -181,9 +181,9 @@ fn digits_of(frame: &TurnFrame) -> ArrayVec<u8, 128>
 }
 
 /// What is written about a frame that is made.
-#[tactic(auto, unfolding(crate::specs::Lines::frame_text))]
+#[tactic(auto, unfolding(crate::specs::Lines::made_frame_text))]
 fn frame_line(what: What, turn: Turn, frame: &TurnFrame) -> Line
-    ensures { result.items ≡ L.frame_text what turn frame.now }
+    ensures { result.items ≡ L.made_frame_text what turn frame.now }
 {
     let mut line = ArrayVec::new();
     line.try_extend_from_slice(b"made ").unwrap();

@@ -1,19 +1,20 @@
 //! A script that is answered line by line.
 
-ghost use Rattle.std.specs.Prelude.{◌≡◌, ◌≤◌, ◌+◌, ◌++◌, ◌∷◌, [], List, ℕ, false, length, IsSome, IsTrue};
+ghost use Rattle.std.specs.Prelude.{◌≡◌, ◌≤◌, ◌+◌, ◌++◌, [], List, ℕ, false, length, IsSome, IsTrue};
 ghost use Rattle.definitions.specs.Advance.{advance};
 ghost use Rattle.definitions.specs.Findings.{is_clean};
 ghost use Rattle.log_scan.specs.First.{finding_of_log};
-ghost use Rattle.station.specs.Outside.{known, Rose};
-ghost use Rattle.text_io.specs.Lines.{lines_of};
+ghost use Rattle.station.specs.Outside.{told_bytes, Rose};
+ghost use Rattle.text_io.specs.Inputs.{Input, Line, End, MayFollow, input_by, read_of};
 ghost use Rattle.text_io.specs.Frame.{Ended, EndCause, after_text, OnDone, UnlessInputFault, UnlessOutputFault};
-ghost use Rattle.text_io.specs.Turns.{Turned, TurnCause, MatchTurn, OnOver, OnOn};
+ghost use Rattle.text_io.specs.Turns.{TurnCause, MatchTurn, OnOver, OnOn};
 ghost use Rattle.drive_script.specs.Drive.{drive};
 ghost use Rattle.drive_script.specs.Lines.{added_text, found_text};
 ghost use Rattle.drive_script.specs.Hearing.{driven_from};
+ghost use Rattle.drive_script.specs.Playing.{Played};
 ghost use Rattle.drive_script.specs.Ends.{ScriptEnds};
 
-use crate::answering::{answer, bad_line};
+use crate::answering::{answer, bad_line_status};
 use crate::driver::Driver;
 use crate::printing::{put_end, put_start};
 use peer_core::Peer;
@@ -24,7 +25,7 @@ use text_io::{LineReader, LoopTurn, NextLine, Status, Written};
 fn end_caught<O: Sink>(driver: &Driver, out: &mut O) -> Status
     requires { is_clean driver.now.game driver.now.state.log ≡ false }
     ensures told { IsSome (O.held out.old) → IsSome (O.held out.new) }
-    ensures text { IsSome (O.held out.old) → (lines : List (List ℕ)) → Ended (known (O.held out.old)) (known (O.held out.new)) (driven_from driver.now lines) result }
+    ensures text { (input : Input) → Ended (IsSome (O.held out.old)) (told_bytes (O.held out.old)) (told_bytes (O.held out.new)) (driven_from driver.now input) result }
     ensures later { O.faults out.old ≤ O.faults out.new }
     ensures cause { EndCause ScriptEnds ⊥ (Rose (O.faults out.old) (O.faults out.new)) result }
     ensures steady { UnlessOutputFault result (O.faults out.new ≡ O.faults out.old) }
@@ -36,8 +37,40 @@ fn end_caught<O: Sink>(driver: &Driver, out: &mut O) -> Status
     }
 }
 
+/// Writes the end of a peer whose script came to its end.
+fn end<O: Sink>(driver: &Driver, out: &mut O) -> Status
+    ensures told { IsSome (O.held out.old) → IsSome (O.held out.new) }
+    ensures text { Ended (IsSome (O.held out.old)) (told_bytes (O.held out.old)) (told_bytes (O.held out.new)) (driven_from driver.now End) result }
+    ensures later { O.faults out.old ≤ O.faults out.new }
+    ensures cause { EndCause ScriptEnds ⊥ (Rose (O.faults out.old) (O.faults out.new)) result }
+    ensures steady { UnlessOutputFault result (O.faults out.new ≡ O.faults out.old) }
+{
+    if driver.peer().finding().is_some() {
+        return end_caught(driver, out);
+    }
+    match put_end(driver.peer(), out) {
+        Written::All => Status::Done,
+        Written::Failed => Status::OutputFault,
+    }
+}
+
+/// Answers the last line, behind which the input ended.
+fn answer_last<O: Sink>(driver: &mut Driver, line: &[u8], out: &mut O) -> Status
+    requires short { length line.now ≤ 1024 }
+    requires clean { IsTrue (is_clean driver.old.game driver.old.state.log) }
+    ensures told { IsSome (O.held out.old) → IsSome (O.held out.new) }
+    ensures text { Ended (IsSome (O.held out.old)) (told_bytes (O.held out.old)) (told_bytes (O.held out.new)) (driven_from driver.old (Line line.now End)) result }
+    ensures later { O.faults out.old ≤ O.faults out.new }
+    ensures cause { EndCause ScriptEnds ⊥ (Rose (O.faults out.old) (O.faults out.new)) result }
+    ensures steady { UnlessOutputFault result (O.faults out.new ≡ O.faults out.old) }
+{
+    match answer(driver, line, out) {
+        LoopTurn::On => end(driver, out),
+        LoopTurn::Over(status) => status,
+    }
+}
+
 /// Reads the next line and answers it; behind a finding nothing is read.
-#[tactic(auto, using(crate::proofs::Hearings::none_left))]
 fn answer_line<I: Source, O: Sink>(
     driver: &mut Driver,
     reader: &mut LineReader,
@@ -46,27 +79,25 @@ fn answer_line<I: Source, O: Sink>(
 ) -> LoopTurn
     ensures told_in { IsSome (I.left input.old) → IsSome (I.left input.new) }
     ensures told_out { IsSome (O.held out.old) → IsSome (O.held out.new) }
-    ensures text { IsSome (I.left input.old) → IsSome (O.held out.old) → Turned
-        (known (O.held out.old)) (driven_from driver.old (lines_of (reader.old.pending ++ known (I.left input.old))))
-        (known (O.held out.new)) (driven_from driver.new (lines_of (reader.new.pending ++ known (I.left input.new)))) result }
+    ensures front { IsSome (I.left input.old) → told_bytes (I.left input.old) ≡ read_of (I.left input.old) (I.left input.new) ++ told_bytes (I.left input.new) }
+    ensures text { IsSome (I.left input.old) → Played (IsSome (O.held out.old)) (told_bytes (O.held out.old)) (told_bytes (O.held out.new))
+        driver.old driver.new (reader.old.pending ++ read_of (I.left input.old) (I.left input.new)) (I.left input.new) reader.new.pending result }
     ensures later_in { I.faults input.old ≤ I.faults input.new }
     ensures later_out { O.faults out.old ≤ O.faults out.new }
     ensures cause { TurnCause ScriptEnds (Rose (I.faults input.old) (I.faults input.new)) (Rose (O.faults out.old) (O.faults out.new)) result }
     ensures steady_in { MatchTurn result (I.faults input.new ≡ I.faults input.old) (λ s. UnlessInputFault s (I.faults input.new ≡ I.faults input.old)) }
     ensures steady_out { MatchTurn result (O.faults out.new ≡ O.faults out.old) (λ s. UnlessOutputFault s (O.faults out.new ≡ O.faults out.old)) }
     ensures counted { OnOn result ((driver.new.lines ≡ driver.old.lines + 1) × (driver.new.lines ≤ 1048576)) }
-    ensures read { IsSome (I.left input.old) → OnOver result (known (I.left input.new) ≡ []) }
+    ensures read { IsSome (I.left input.old) → OnOver result (told_bytes (I.left input.new) ≡ []) }
 {
     if driver.peer().finding().is_some() {
         return LoopTurn::Over(end_caught(driver, out));
     }
     match reader.next(input) {
         NextLine::Failed => LoopTurn::Over(Status::InputFault),
-        NextLine::TooLong => LoopTurn::Over(bad_line(driver)),
-        NextLine::End => match put_end(driver.peer(), out) {
-            Written::All => LoopTurn::Over(Status::Done),
-            Written::Failed => LoopTurn::Over(Status::OutputFault),
-        },
+        NextLine::TooLong => LoopTurn::Over(bad_line_status(driver)),
+        NextLine::End => LoopTurn::Over(end(driver, out)),
+        NextLine::Last => LoopTurn::Over(answer_last(driver, reader.line(), out)),
         NextLine::Line => answer(driver, reader.line(), out),
     }
 }
@@ -80,14 +111,16 @@ fn answer_lines<I: Source, O: Sink>(
 ) -> Status
     ensures told_in { IsSome (I.left input.old) → IsSome (I.left input.new) }
     ensures told_out { IsSome (O.held out.old) → IsSome (O.held out.new) }
-    ensures text { IsSome (I.left input.old) → IsSome (O.held out.old) → Ended (known (O.held out.old)) (known (O.held out.new))
-        (driven_from driver.old (lines_of (reader.old.pending ++ known (I.left input.old)))) result }
+    ensures front { IsSome (I.left input.old) → told_bytes (I.left input.old) ≡ read_of (I.left input.old) (I.left input.new) ++ told_bytes (I.left input.new) }
+    ensures text { IsSome (I.left input.old) → (rest : List ℕ) → MayFollow (I.left input.new) rest →
+        Ended (IsSome (O.held out.old)) (told_bytes (O.held out.old)) (told_bytes (O.held out.new))
+        (driven_from driver.old (input_by result (reader.old.pending ++ read_of (I.left input.old) (I.left input.new)) rest)) result }
     ensures later_in { I.faults input.old ≤ I.faults input.new }
     ensures later_out { O.faults out.old ≤ O.faults out.new }
     ensures cause { EndCause ScriptEnds (Rose (I.faults input.old) (I.faults input.new)) (Rose (O.faults out.old) (O.faults out.new)) result }
     ensures steady_in { UnlessInputFault result (I.faults input.new ≡ I.faults input.old) }
     ensures steady_out { UnlessOutputFault result (O.faults out.new ≡ O.faults out.old) }
-    ensures read { IsSome (I.left input.old) → OnDone result (known (I.left input.new) ≡ []) }
+    ensures read { IsSome (I.left input.old) → OnDone result (told_bytes (I.left input.new) ≡ []) }
 {
     'lines: loop {
         match answer_line(driver, reader, input, out) {
@@ -108,15 +141,18 @@ fn follow<I: Source, O: Sink>(
     requires { entries ≤ length driver.old.state.log }
     ensures told_in { IsSome (I.left input.old) → IsSome (I.left input.new) }
     ensures told_out { IsSome (O.held out.old) → IsSome (O.held out.new) }
-    ensures text { IsSome (I.left input.old) → IsSome (O.held out.old) → Ended (known (O.held out.old)) (known (O.held out.new))
-        (after_text (added_text entries driver.old.state.log ++ found_text (finding_of_log driver.old.game driver.old.state.log)) (driven_from driver.old (lines_of (known (I.left input.old))))) result }
+    ensures front { IsSome (I.left input.old) → told_bytes (I.left input.old) ≡ read_of (I.left input.old) (I.left input.new) ++ told_bytes (I.left input.new) }
+    ensures text { IsSome (I.left input.old) → (rest : List ℕ) → MayFollow (I.left input.new) rest →
+        Ended (IsSome (O.held out.old)) (told_bytes (O.held out.old)) (told_bytes (O.held out.new))
+        (after_text (added_text entries driver.old.state.log ++ found_text (finding_of_log driver.old.game driver.old.state.log))
+        (driven_from driver.old (input_by result (read_of (I.left input.old) (I.left input.new)) rest))) result }
     ensures untouched { is_clean driver.old.game driver.old.state.log ≡ false → input.new ≡ input.old }
     ensures later_in { I.faults input.old ≤ I.faults input.new }
     ensures later_out { O.faults out.old ≤ O.faults out.new }
     ensures cause { EndCause ScriptEnds (Rose (I.faults input.old) (I.faults input.new)) (Rose (O.faults out.old) (O.faults out.new)) result }
     ensures steady_in { UnlessInputFault result (I.faults input.new ≡ I.faults input.old) }
     ensures steady_out { UnlessOutputFault result (O.faults out.new ≡ O.faults out.old) }
-    ensures read { IsSome (I.left input.old) → OnDone result (known (I.left input.new) ≡ []) }
+    ensures read { IsSome (I.left input.old) → OnDone result (told_bytes (I.left input.new) ≡ []) }
 {
     let mut reader = LineReader::new();
     match put_start(driver.peer(), entries, out) {
@@ -136,9 +172,11 @@ pub fn play<I: Source, O: Sink>(peer: Peer, input: &mut I, out: &mut O) -> Statu
     ensures told_in { IsSome (I.left input.old) → IsSome (I.left input.new) }
     ensures told_out { IsSome (O.held out.old) → IsSome (O.held out.new) }
 
-    // What is written, and how the run ends.
-    ensures text { IsSome (I.left input.old) → IsSome (O.held out.old) →
-        Ended (known (O.held out.old)) (known (O.held out.new)) (drive peer.game peer.me peer.entries (known (I.left input.old))) result }
+    // What is written, and how the run ends: as is due for the bytes that were read, whatever stands behind them.
+    ensures front { IsSome (I.left input.old) → told_bytes (I.left input.old) ≡ read_of (I.left input.old) (I.left input.new) ++ told_bytes (I.left input.new) }
+    ensures text { IsSome (I.left input.old) → (rest : List ℕ) → MayFollow (I.left input.new) rest →
+        Ended (IsSome (O.held out.old)) (told_bytes (O.held out.old)) (told_bytes (O.held out.new))
+        (drive peer.game peer.me peer.entries (input_by result (read_of (I.left input.old) (I.left input.new)) rest)) result }
 
     // Where the log that the peer begins with has a finding, the input is left alone.
     ensures untouched { is_clean peer.game (advance peer.game peer.me peer.entries) ≡ false → input.new ≡ input.old }
@@ -151,7 +189,7 @@ pub fn play<I: Source, O: Sink>(peer: Peer, input: &mut I, out: &mut O) -> Statu
     ensures steady_out { UnlessOutputFault result (O.faults out.new ≡ O.faults out.old) }
 
     // At the end the input was read to its end.
-    ensures read { IsSome (I.left input.old) → OnDone result (known (I.left input.new) ≡ []) }
+    ensures read { IsSome (I.left input.old) → OnDone result (told_bytes (I.left input.new) ≡ []) }
 {
     let entries = peer.entries().len();
     let mut driver = Driver::new(peer);

@@ -2,13 +2,13 @@
 
 ghost use Rattle.std.specs.Prelude.{◌≡◌, ◌≤◌, ◌++◌, flat_map, length, IsSome};
 ghost use Rattle.definitions.specs.World.{players_of};
-ghost use Rattle.station.specs.Outside.{known, Rose};
+ghost use Rattle.station.specs.Outside.{told_bytes, Rose};
 ghost use Rattle.text_io.specs.Texts.{Wrote, OnUnwritten, OnWritten};
 ghost use Rattle.drive_script.specs.Lines.{entry_text, need_text, needs_text, stand_text, players_text, last_text, end_text, choice_text, found_text, added_text};
 ghost use Rattle.drive_script.specs.Hearing.{reply_text, part_text, answered_text, HasAll, HasBefore};
 ghost use Rattle.log_scan.specs.First.{finding_of_log};
 
-use crate::driver::{Answered, Found, Reply};
+use crate::heard::{Answered, Found, Reply};
 use crate::lines::{
     bad_byte_line, caught_line, choice_line, due_line, entry_line, got_line, hello_line, need_line,
     player_line, want_line,
@@ -22,7 +22,7 @@ use text_io::{Written, put};
 /// Writes what these entries, which came into the log, are told by.
 fn put_entries<O: Sink>(entries: &[Entry], out: &mut O) -> Written
     ensures told { IsSome (O.held out.old) → IsSome (O.held out.new) }
-    ensures text { IsSome (O.held out.old) → Wrote (known (O.held out.old)) (known (O.held out.new)) (flat_map entry_text entries.now) result }
+    ensures text { IsSome (O.held out.old) → Wrote (told_bytes (O.held out.old)) (told_bytes (O.held out.new)) (flat_map entry_text entries.now) result }
     ensures later { O.faults out.old ≤ O.faults out.new }
     ensures cause { OnUnwritten result (Rose (O.faults out.old) (O.faults out.new)) }
     ensures steady { OnWritten result (O.faults out.new ≡ O.faults out.old) }
@@ -41,7 +41,7 @@ fn put_entries<O: Sink>(entries: &[Entry], out: &mut O) -> Written
 pub(crate) fn put_added<O: Sink>(peer: &Peer, entries: usize, out: &mut O) -> Written
     requires { entries ≤ length peer.now.entries }
     ensures told { IsSome (O.held out.old) → IsSome (O.held out.new) }
-    ensures text { IsSome (O.held out.old) → Wrote (known (O.held out.old)) (known (O.held out.new)) (added_text entries peer.now.entries) result }
+    ensures text { IsSome (O.held out.old) → Wrote (told_bytes (O.held out.old)) (told_bytes (O.held out.new)) (added_text entries peer.now.entries) result }
     ensures later { O.faults out.old ≤ O.faults out.new }
     ensures cause { OnUnwritten result (Rose (O.faults out.old) (O.faults out.new)) }
     ensures steady { OnWritten result (O.faults out.new ≡ O.faults out.old) }
@@ -52,7 +52,7 @@ pub(crate) fn put_added<O: Sink>(peer: &Peer, entries: usize, out: &mut O) -> Wr
 /// Writes these needs.
 fn put_each_need<O: Sink>(needs: &[Need], out: &mut O) -> Written
     ensures told { IsSome (O.held out.old) → IsSome (O.held out.new) }
-    ensures text { IsSome (O.held out.old) → Wrote (known (O.held out.old)) (known (O.held out.new)) (flat_map need_text needs.now) result }
+    ensures text { IsSome (O.held out.old) → Wrote (told_bytes (O.held out.old)) (told_bytes (O.held out.new)) (flat_map need_text needs.now) result }
     ensures later { O.faults out.old ≤ O.faults out.new }
     ensures cause { OnUnwritten result (Rose (O.faults out.old) (O.faults out.new)) }
     ensures steady { OnWritten result (O.faults out.new ≡ O.faults out.old) }
@@ -69,7 +69,7 @@ fn put_each_need<O: Sink>(needs: &[Need], out: &mut O) -> Written
 /// Writes the needs, or that there is none.
 fn put_needs<O: Sink>(needs: &[Need], out: &mut O) -> Written
     ensures told { IsSome (O.held out.old) → IsSome (O.held out.new) }
-    ensures text { IsSome (O.held out.old) → Wrote (known (O.held out.old)) (known (O.held out.new)) (needs_text needs.now) result }
+    ensures text { IsSome (O.held out.old) → Wrote (told_bytes (O.held out.old)) (told_bytes (O.held out.new)) (needs_text needs.now) result }
     ensures later { O.faults out.old ≤ O.faults out.new }
     ensures cause { OnUnwritten result (Rose (O.faults out.old) (O.faults out.new)) }
     ensures steady { OnWritten result (O.faults out.new ≡ O.faults out.old) }
@@ -84,7 +84,7 @@ fn put_needs<O: Sink>(needs: &[Need], out: &mut O) -> Written
 #[tactic(auto, unfolding(crate::specs::Lines::stand_text))]
 fn put_stand<O: Sink>(peer: &Peer, out: &mut O) -> Written
     ensures told { IsSome (O.held out.old) → IsSome (O.held out.new) }
-    ensures text { IsSome (O.held out.old) → Wrote (known (O.held out.old)) (known (O.held out.new)) (stand_text peer.now.game peer.now.me peer.now.entries) result }
+    ensures text { IsSome (O.held out.old) → Wrote (told_bytes (O.held out.old)) (told_bytes (O.held out.new)) (stand_text peer.now.game peer.now.me peer.now.entries) result }
     ensures later { O.faults out.old ≤ O.faults out.new }
     ensures cause { OnUnwritten result (Rose (O.faults out.old) (O.faults out.new)) }
     ensures steady { OnWritten result (O.faults out.new ≡ O.faults out.old) }
@@ -102,7 +102,7 @@ fn put_stand<O: Sink>(peer: &Peer, out: &mut O) -> Written
 /// Writes what the peer's log shows of each player.
 fn put_players<O: Sink>(peer: &Peer, out: &mut O) -> Written
     ensures told { IsSome (O.held out.old) → IsSome (O.held out.new) }
-    ensures text { IsSome (O.held out.old) → Wrote (known (O.held out.old)) (known (O.held out.new)) (players_text peer.now.game peer.now.me peer.now.entries 0 (players_of peer.now.game)) result }
+    ensures text { IsSome (O.held out.old) → Wrote (told_bytes (O.held out.old)) (told_bytes (O.held out.new)) (players_text peer.now.game peer.now.me peer.now.entries 0 (players_of peer.now.game)) result }
     ensures later { O.faults out.old ≤ O.faults out.new }
     ensures cause { OnUnwritten result (Rose (O.faults out.old) (O.faults out.new)) }
     ensures steady { OnWritten result (O.faults out.new ≡ O.faults out.old) }
@@ -119,7 +119,7 @@ fn put_players<O: Sink>(peer: &Peer, out: &mut O) -> Written
 /// Writes what the peer's log shows of each player, and that this is the end.
 fn put_last<O: Sink>(peer: &Peer, out: &mut O) -> Written
     ensures told { IsSome (O.held out.old) → IsSome (O.held out.new) }
-    ensures text { IsSome (O.held out.old) → Wrote (known (O.held out.old)) (known (O.held out.new)) (last_text peer.now.game peer.now.me peer.now.entries) result }
+    ensures text { IsSome (O.held out.old) → Wrote (told_bytes (O.held out.old)) (told_bytes (O.held out.new)) (last_text peer.now.game peer.now.me peer.now.entries) result }
     ensures later { O.faults out.old ≤ O.faults out.new }
     ensures cause { OnUnwritten result (Rose (O.faults out.old) (O.faults out.new)) }
     ensures steady { OnWritten result (O.faults out.new ≡ O.faults out.old) }
@@ -133,7 +133,7 @@ fn put_last<O: Sink>(peer: &Peer, out: &mut O) -> Written
 /// Writes the end: how the peer stands, and what its log shows of each player.
 pub(crate) fn put_end<O: Sink>(peer: &Peer, out: &mut O) -> Written
     ensures told { IsSome (O.held out.old) → IsSome (O.held out.new) }
-    ensures text { IsSome (O.held out.old) → Wrote (known (O.held out.old)) (known (O.held out.new)) (end_text peer.now.game peer.now.me peer.now.entries) result }
+    ensures text { IsSome (O.held out.old) → Wrote (told_bytes (O.held out.old)) (told_bytes (O.held out.new)) (end_text peer.now.game peer.now.me peer.now.entries) result }
     ensures later { O.faults out.old ≤ O.faults out.new }
     ensures cause { OnUnwritten result (Rose (O.faults out.old) (O.faults out.new)) }
     ensures steady { OnWritten result (O.faults out.new ≡ O.faults out.old) }
@@ -154,7 +154,7 @@ fn put_choice<O: Sink>(
 ) -> Written
     requires { entries ≤ length peer.now.entries }
     ensures told { IsSome (O.held out.old) → IsSome (O.held out.new) }
-    ensures text { IsSome (O.held out.old) → Wrote (known (O.held out.old)) (known (O.held out.new)) (choice_text turn fault ++ added_text entries peer.now.entries) result }
+    ensures text { IsSome (O.held out.old) → Wrote (told_bytes (O.held out.old)) (told_bytes (O.held out.new)) (choice_text turn fault ++ added_text entries peer.now.entries) result }
     ensures later { O.faults out.old ≤ O.faults out.new }
     ensures cause { OnUnwritten result (Rose (O.faults out.old) (O.faults out.new)) }
     ensures steady { OnWritten result (O.faults out.new ≡ O.faults out.old) }
@@ -169,7 +169,7 @@ fn put_choice<O: Sink>(
 fn put_reply<O: Sink>(peer: &Peer, from: PlayerId, reply: &Reply, out: &mut O) -> Written
     requires { reply.now.entries ≤ length peer.now.entries }
     ensures told { IsSome (O.held out.old) → IsSome (O.held out.new) }
-    ensures text { IsSome (O.held out.old) → Wrote (known (O.held out.old)) (known (O.held out.new)) (reply_text from reply.now peer.now.entries) result }
+    ensures text { IsSome (O.held out.old) → Wrote (told_bytes (O.held out.old)) (told_bytes (O.held out.new)) (reply_text from reply.now peer.now.entries) result }
     ensures later { O.faults out.old ≤ O.faults out.new }
     ensures cause { OnUnwritten result (Rose (O.faults out.old) (O.faults out.new)) }
     ensures steady { OnWritten result (O.faults out.new ≡ O.faults out.old) }
@@ -184,7 +184,7 @@ fn put_reply<O: Sink>(peer: &Peer, from: PlayerId, reply: &Reply, out: &mut O) -
 pub(crate) fn put_answered<O: Sink>(peer: &Peer, answered: &Answered, out: &mut O) -> Written
     requires { HasAll answered.now peer.now.entries }
     ensures told { IsSome (O.held out.old) → IsSome (O.held out.new) }
-    ensures text { IsSome (O.held out.old) → Wrote (known (O.held out.old)) (known (O.held out.new)) (answered_text peer.now.game peer.now.me answered.now peer.now.entries) result }
+    ensures text { IsSome (O.held out.old) → Wrote (told_bytes (O.held out.old)) (told_bytes (O.held out.new)) (answered_text peer.now.game peer.now.me answered.now peer.now.entries) result }
     ensures later { O.faults out.old ≤ O.faults out.new }
     ensures cause { OnUnwritten result (Rose (O.faults out.old) (O.faults out.new)) }
     ensures steady { OnWritten result (O.faults out.new ≡ O.faults out.old) }
@@ -205,7 +205,7 @@ pub(crate) fn put_answered<O: Sink>(peer: &Peer, answered: &Answered, out: &mut 
 pub(crate) fn put_part<O: Sink>(peer: &Peer, from: PlayerId, found: &Found, out: &mut O) -> Written
     requires { HasBefore found.now peer.now.entries }
     ensures told { IsSome (O.held out.old) → IsSome (O.held out.new) }
-    ensures text { IsSome (O.held out.old) → Wrote (known (O.held out.old)) (known (O.held out.new)) (part_text found.now from peer.now.entries) result }
+    ensures text { IsSome (O.held out.old) → Wrote (told_bytes (O.held out.old)) (told_bytes (O.held out.new)) (part_text found.now from peer.now.entries) result }
     ensures later { O.faults out.old ≤ O.faults out.new }
     ensures cause { OnUnwritten result (Rose (O.faults out.old) (O.faults out.new)) }
     ensures steady { OnWritten result (O.faults out.new ≡ O.faults out.old) }
@@ -222,7 +222,7 @@ pub(crate) fn put_part<O: Sink>(peer: &Peer, from: PlayerId, found: &Found, out:
 /// Writes the first finding of the peer's log, if it has one.
 fn put_found<O: Sink>(peer: &Peer, out: &mut O) -> Written
     ensures told { IsSome (O.held out.old) → IsSome (O.held out.new) }
-    ensures text { IsSome (O.held out.old) → Wrote (known (O.held out.old)) (known (O.held out.new)) (found_text (finding_of_log peer.now.game peer.now.entries)) result }
+    ensures text { IsSome (O.held out.old) → Wrote (told_bytes (O.held out.old)) (told_bytes (O.held out.new)) (found_text (finding_of_log peer.now.game peer.now.entries)) result }
     ensures later { O.faults out.old ≤ O.faults out.new }
     ensures cause { OnUnwritten result (Rose (O.faults out.old) (O.faults out.new)) }
     ensures steady { OnWritten result (O.faults out.new ≡ O.faults out.old) }
@@ -237,7 +237,7 @@ fn put_found<O: Sink>(peer: &Peer, out: &mut O) -> Written
 pub(crate) fn put_start<O: Sink>(peer: &Peer, entries: usize, out: &mut O) -> Written
     requires { entries ≤ length peer.now.entries }
     ensures told { IsSome (O.held out.old) → IsSome (O.held out.new) }
-    ensures text { IsSome (O.held out.old) → Wrote (known (O.held out.old)) (known (O.held out.new)) (added_text entries peer.now.entries ++ found_text (finding_of_log peer.now.game peer.now.entries)) result }
+    ensures text { IsSome (O.held out.old) → Wrote (told_bytes (O.held out.old)) (told_bytes (O.held out.new)) (added_text entries peer.now.entries ++ found_text (finding_of_log peer.now.game peer.now.entries)) result }
     ensures later { O.faults out.old ≤ O.faults out.new }
     ensures cause { OnUnwritten result (Rose (O.faults out.old) (O.faults out.new)) }
     ensures steady { OnWritten result (O.faults out.new ≡ O.faults out.old) }

@@ -5,8 +5,10 @@
 //! files for reading and touches nothing else.
 #![tactic(auto)]
 
-ghost use Rattle.std.specs.Prelude.{◌≡◌, None};
+ghost use Rattle.std.specs.Prelude.{◌≡◌, None, false, IsErr};
 ghost use Rattle.std.specs.Io.{ReadsAtMost};
+ghost use Rattle.std.specs.Str.{is_utf8};
+ghost use Rattle.file_shelf.specs.Pulls.{pull_of};
 
 use station::{Pull, Shelf};
 use std::io::{self, ErrorKind, Read, Seek, SeekFrom};
@@ -29,9 +31,10 @@ impl<R: Files> FileShelf<R> {
     }
 }
 
-/// Reads the bytes of the file at this path from the place `at` on.
+/// Reads the bytes of the file at this path from the place `at` on. A path that isn't UTF-8 is an error.
 fn read_file<R: Files>(files: &R, path: &[u8], at: u64, buf: &mut [u8]) -> io::Result<usize>
-    ensures { ReadsAtMost result buf.new }
+    ensures count { ReadsAtMost result buf.new }
+    ensures named { is_utf8 path.now ≡ false → IsErr result }
 {
     match str::from_utf8(path) {
         Err(_) => Err(io::Error::from(ErrorKind::InvalidInput)),
@@ -43,6 +46,17 @@ fn read_file<R: Files>(files: &R, path: &[u8], at: u64, buf: &mut [u8]) -> io::R
     }
 }
 
+/// What is answered to what a read of a file gave.
+fn pull_of(read: &io::Result<usize>) -> Pull
+    ensures { result ≡ pull_of read.now }
+{
+    match read {
+        Ok(0) => Pull::Ended,
+        Ok(count) => Pull::Took(*count),
+        Err(_) => Pull::Failed,
+    }
+}
+
 impl<R: Files> Shelf for FileShelf<R> {
     ghost told = { λ s. ⊥ };
 
@@ -50,14 +64,13 @@ impl<R: Files> Shelf for FileShelf<R> {
 
     ghost faults = { λ s. s.faults };
 
+    ghost failed = { λ _ _ _. Unit {0} };
+
     fn read_at(&mut self, name: &[u8], at: u64, buf: &mut [u8]) -> Pull {
-        match read_file(&self.files, name, at, buf) {
-            Ok(0) => Pull::Ended,
-            Ok(count) => Pull::Took(count),
-            Err(_) => {
-                self.faults = self.faults.saturating_add(1);
-                Pull::Failed
-            }
+        let pull = pull_of(&read_file(&self.files, name, at, buf));
+        if let Pull::Failed = pull {
+            self.faults = self.faults.saturating_add(1);
         }
+        pull
     }
 }

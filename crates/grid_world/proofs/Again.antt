@@ -6,12 +6,12 @@ use Rattle.definitions.specs.declared.world.Cell.{Cell}
 use Rattle.definitions.specs.Lists.{EachIs}
 use Rattle.definitions.specs.World as world
 use Rattle.definitions.specs.World.{Ground, Seat, Game, has_cell, is_inside, is_wall, is_open, is_before_first, in_row_order, players_of}
-use Rattle.grid_world.specs.Lines.{line_of, lines_of, joined}
+use Rattle.grid_world.specs.Lines.{line_of, ended_lines_of, joined}
 use Rattle.grid_world.specs.Text.{head_lines, player_lines, wall_line, end_line, session_lines, session_text}
 use Rattle.grid_world.specs.Sessions.{IsSession, GoesByTheRules, seat_at, game_of}
 use Rattle.grid_world.specs.Reading.{version_at, sides_at, steps_at, charges_at, turns_at, players_at, Head, head_at, start_at, starts_at, is_after, is_within, wall_at, walls_at, Said, said_by}
 use Rattle.grid_world.proofs.Forms.{one_of-spelled, two_of-spelled, three_of-spelled}
-use Rattle.grid_world.proofs.Joined.{has_no_lf, lines_of-line}
+use Rattle.grid_world.proofs.Joined.{has_no_lf, ended_lines_of-line}
 use Rattle.grid_world.proofs.Taken.{are_sides, are_steps, are_charges, head_pieces, player_pieces, follow, follow-Some}
 use Rattle.grid_world.proofs.Kept.{apart_turned}
 
@@ -189,25 +189,25 @@ said_again game facts =
 
 -- it is the first line of each text that it begins
 abbrev IsLine : List ℕ → Type 0
-IsLine line = (rest : List ℕ) → lines_of (line ++ rest) ≡ line ∷ lines_of rest
+IsLine line = (rest : List ℕ) → ended_lines_of (line ++ rest) ≡ line ∷ ended_lines_of rest
 
-lines_of-joined : (lines : List (List ℕ)) → EachIs IsLine lines → lines_of (joined lines) ≡ lines
-unfolding lines_of
-lines_of-joined [] each = refl
-lines_of-joined (line ∷ lines) each = each.0 (joined lines) ∙ ap (λ (ls : List (List ℕ)). line ∷ ls) (lines_of-joined lines each.1)
+ended_lines_of-joined : (lines : List (List ℕ)) → EachIs IsLine lines → ended_lines_of (joined lines) ≡ lines
+unfolding ended_lines_of
+ended_lines_of-joined [] each = refl
+ended_lines_of-joined (line ∷ lines) each = each.0 (joined lines) ∙ ap (λ (ls : List (List ℕ)). line ∷ ls) (ended_lines_of-joined lines each.1)
 
 each_append : (xs ys : List (List ℕ)) → EachIs IsLine xs → EachIs IsLine ys → EachIs IsLine (xs ++ ys)
 each_append [] ys first second = second
 each_append (x ∷ xs) ys first second = (first.0, each_append xs ys first.1 second)
 
 one_line : (name : List ℕ) (k : ℕ) → has_no_lf name ≡ true → k < 2 ^ 32 → IsLine (line_of name (k ∷ []))
-one_line name k plain k_small rest = lines_of-line name (k ∷ []) rest plain (k_small, tt)
+one_line name k plain k_small rest = ended_lines_of-line name (k ∷ []) rest plain (k_small, tt)
 
 two_line : (name : List ℕ) (k m : ℕ) → has_no_lf name ≡ true → k < 2 ^ 32 → m < 2 ^ 32 → IsLine (line_of name (k ∷ m ∷ []))
-two_line name k m plain k_small m_small rest = lines_of-line name (k ∷ m ∷ []) rest plain (k_small, (m_small, tt))
+two_line name k m plain k_small m_small rest = ended_lines_of-line name (k ∷ m ∷ []) rest plain (k_small, (m_small, tt))
 
 three_line : (name : List ℕ) (k m n : ℕ) → has_no_lf name ≡ true → k < 2 ^ 32 → m < 2 ^ 32 → n < 2 ^ 32 → IsLine (line_of name (k ∷ m ∷ n ∷ []))
-three_line name k m n plain k_small m_small n_small rest = lines_of-line name (k ∷ m ∷ n ∷ []) rest plain (k_small, (m_small, (n_small, tt)))
+three_line name k m n plain k_small m_small n_small rest = ended_lines_of-line name (k ∷ m ∷ n ∷ []) rest plain (k_small, (m_small, (n_small, tt)))
 
 head_are : (game : Game) → IsSession game → EachIs IsLine (head_pieces (head_of game))
 head_are game facts =
@@ -241,15 +241,15 @@ walls_are grid (c ∷ walls) wide high inside =
     let cell = small_cell grid c wide high inside.0 in
     (two_line (codes "wall") c.x c.y refl cell.0 cell.1, walls_are grid walls wide high inside.1)
 
-pub lines_of-session_text : (game : Game) → IsSession game → lines_of (session_text game) ≡ session_lines game
+pub ended_lines_of-session_text : (game : Game) → IsSession game → ended_lines_of (session_text game) ≡ session_lines game
 unfolding session_text
-lines_of-session_text game facts =
+ended_lines_of-session_text game facts =
     let starts : List Cell = starts_of game.seats in
     let count : length starts ≡ players_of game = count_starts game.seats in
-    let last : EachIs IsLine (end_line ∷ []) = ((λ rest. lines_of-line (codes "end") [] rest refl tt), tt) in
+    let last : EachIs IsLine (end_line ∷ []) = ((λ rest. ended_lines_of-line (codes "end") [] rest refl tt), tt) in
     let behind = each_append (map wall_line game.grid.walls) (end_line ∷ []) (walls_are game.grid game.grid.walls facts.grid.width.1 facts.grid.height.1 facts.grid.inside) last in
     let more = each_append (player_pieces starts 0) (map wall_line game.grid.walls ++ (end_line ∷ []))
     (players_are game.grid starts 0 facts.grid.width.1 facts.grid.height.1 (omega (arith, count, facts.players.1)) (starts_inside game.grid game.seats facts.starts)) behind in
     let all = each_append (head_pieces (head_of game)) (player_pieces starts 0 ++ (map wall_line game.grid.walls ++ (end_line ∷ []))) (head_are game facts) more in
     let same = lines_again game facts in
-    ap (λ (ls : List (List ℕ)). lines_of (joined ls)) same ∙ lines_of-joined _ all ∙ sym same
+    ap (λ (ls : List (List ℕ)). ended_lines_of (joined ls)) same ∙ ended_lines_of-joined _ all ∙ sym same

@@ -5,7 +5,7 @@ use Rattle.std.proofs.lemmas.Bool.{or_cases, false≢true}
 use Rattle.definitions.specs.declared.world.Cell.{Cell}
 use Rattle.definitions.specs.Lists.{EachIs, item_or}
 use Rattle.definitions.specs.World as world
-use Rattle.definitions.specs.World.{Ground, Seat, Game, IsSound, cell_eq, has_cell, is_inside, is_wall, is_open, seat_of, no_seat, players_of}
+use Rattle.definitions.specs.World.{Ground, Seat, Game, cell_eq, has_cell, is_inside, is_wall, is_open, seat_of, no_seat, players_of}
 use Rattle.definitions.proofs.Cells.{cell_eq-true}
 use Rattle.grid_world.specs.Grids.{IsGrid}
 use Rattle.grid_world.specs.Sessions.{IsSession, GoesByTheRules, seat_at, game_of}
@@ -44,16 +44,6 @@ seat_reach game q facts lt = (each_at (GoesByTheRules game.rules) game.seats no_
 -- every player starts on a cell that is inside and no wall
 pub seat_open : (game : Game) (q : ℕ) → IsSession game → q < players_of game → IsTrue (is_open game.grid (seat_of game q).start)
 seat_open game q facts lt = each_at (λ s. IsTrue (is_open game.grid s.start)) game.seats no_seat q facts.starts lt
-
--- what a text says is a session that can be played
-pub sound : (game : Game) → IsSession game → IsSound game
-sound game facts = record {
-  ahead = omega (arith, facts.ahead);
-  turns = facts.turns.0;
-  starts = facts.starts;
-  walls = facts.grid.walls;
-  inside = facts.grid.inside;
-}
 
 -- the seat at a place has the start at that place
 seat_starts : (rules : world.Rules) (starts : List Cell) (q : ℕ) (d : Cell) → q < length starts → (item_or (map (seat_at rules) starts) q no_seat).start ≡ get_or starts q d

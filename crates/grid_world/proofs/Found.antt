@@ -6,15 +6,15 @@ use Rattle.definitions.specs.declared.world.Cell.{Cell}
 use Rattle.definitions.specs.World.{Game}
 use Rattle.grid_world.specs.declared.fault.SessionFault.{SessionFault}
 use Rattle.grid_world.specs.declared.fault.SessionFault.TheVariants.{At, Memory}
-use Rattle.grid_world.specs.Lines.{lines_of, joined}
+use Rattle.grid_world.specs.Lines.{ended_lines_of, joined}
 use Rattle.grid_world.specs.Text.{session_text}
 use Rattle.grid_world.specs.Sessions.{game_of}
 use Rattle.grid_world.specs.Reading.{◌>>=◌, Head, head_at, starts_at, walls_at, Said, said_by, fault_of, session_fault, game_at, Gives}
 use Rattle.grid_world.specs.Answers.{IsReadFrom, IsRead, Faults}
 use Rattle.grid_world.proofs.Steps.{bind_ok, ok_is}
-use Rattle.grid_world.proofs.Joined.{joined-lines_of}
+use Rattle.grid_world.proofs.Joined.{joined-ended_lines_of}
 use Rattle.grid_world.proofs.Kept.{ReadsParts, walled, session_kept, lines_kept, length-sha256}
-use Rattle.grid_world.proofs.Again.{said_of, said_again, game_is, lines_of-session_text}
+use Rattle.grid_world.proofs.Again.{said_of, said_again, game_is, ended_lines_of-session_text}
 
 -- what the parts of a text say
 abbrev made : Head → List Cell → List Cell → Said
@@ -32,14 +32,14 @@ said_parts lines said e =
 abbrev played : List ℕ → Said → Game
 played id said = game_of id said.grid said.rules said.turns said.starts
 
-said_found : (text : List ℕ) (said : Said) → said_by (lines_of text) ≡ Ok said → IsReadFrom (played (sha256 text) said) text
+said_found : (text : List ℕ) (said : Said) → said_by (ended_lines_of text) ≡ Ok said → IsReadFrom (played (sha256 text) said) text
 unfolding session_text
 said_found text said e =
-    let parts = said_parts (lines_of text) said e in
+    let parts = said_parts (ended_lines_of text) said e in
     subst (λ (s : Said). IsReadFrom (played (sha256 text) s) text) parts.4
     (record {
-      session = session_kept (sha256 text) (lines_of text) parts.0 parts.1 parts.2 (length-sha256 text) parts.3;
-      text_is = sym (joined-lines_of text) ∙ ap joined (lines_kept (sha256 text) (lines_of text) parts.0 parts.1 parts.2 parts.3);
+      session = session_kept (sha256 text) (ended_lines_of text) parts.0 parts.1 parts.2 (length-sha256 text) parts.3;
+      text_is = sym (joined-ended_lines_of text) ∙ ap joined (lines_kept (sha256 text) (ended_lines_of text) parts.0 parts.1 parts.2 parts.3);
       id_is = refl;
     })
 
@@ -47,14 +47,14 @@ said_found text said e =
 pub game_found : (text : List ℕ) (game : Game) → game_at text ≡ Ok game → IsReadFrom game text
 unfolding game_at
 game_found text game e =
-    let a = bind_ok (said_by (lines_of text)) (λ said. Ok (played (sha256 text) said)) game e in
+    let a = bind_ok (said_by (ended_lines_of text)) (λ said. Ok (played (sha256 text) said)) game e in
     subst (λ (g : Game). IsReadFrom g text) (ok_is (played (sha256 text) a.0) game a.2) (said_found text a.0 a.1)
 
 -- a session's text says the session
 pub game_again : (text : List ℕ) (game : Game) → IsReadFrom game text → game_at text ≡ Ok game
 unfolding game_at
 game_again text game from =
-    let said : said_by (lines_of text) ≡ Ok (said_of game) = ap said_by (ap lines_of from.text_is ∙ lines_of-session_text game from.session) ∙ said_again game from.session in
+    let said : said_by (ended_lines_of text) ≡ Ok (said_of game) = ap said_by (ap ended_lines_of from.text_is ∙ ended_lines_of-session_text game from.session) ∙ said_again game from.session in
     let same = game_is game (sha256 text) from.session from.id_is in
     rw said (ap (λ (g : Game). Ok g) same)
 
@@ -64,7 +64,7 @@ fault_game id (Err e) = refl
 
 pub fault_at : (text : List ℕ) → fault_of (game_at text) ≡ session_fault text
 unfolding game_at session_fault
-fault_at text = fault_game (sha256 text) (said_by (lines_of text))
+fault_at text = fault_game (sha256 text) (said_by (ended_lines_of text))
 
 -- ---- what the reader answers
 

@@ -7,21 +7,21 @@ use Rattle.std.specs.Fmt.{decimal}
 use Rattle.std.proofs.lemmas.Bool.{cases_Bool, eqb-true, ne_eqb, and_parts, not-true, leb-true}
 use Rattle.std.proofs.lemmas.List.{take_at, drop_at, length-append}
 use Rattle.byte_fields.proofs.Decimals.{decimal_digits}
-use Rattle.grid_world.specs.Lines.{joined, fields_of, line_of, lines_of, line_len, onto_first}
-use Rattle.grid_world.proofs.FirstLine.{lines_of-first}
+use Rattle.grid_world.specs.Lines.{joined, fields_of, line_of, ended_lines_of, line_len, onto_first}
+use Rattle.grid_world.proofs.FirstLine.{ended_lines_of-first}
 
 joined-onto_first : (b : ℕ) (lines : List (List ℕ)) → joined (onto_first b lines) ≡ b ∷ joined lines
 joined-onto_first b [] = refl
 joined-onto_first b (line ∷ lines) = refl
 
-pub joined-lines_of : (text : List ℕ) → joined (lines_of text) ≡ text
-unfolding lines_of
-joined-lines_of [] = refl
-joined-lines_of (b ∷ text) =
-    let ih = joined-lines_of text in
+pub joined-ended_lines_of : (text : List ℕ) → joined (ended_lines_of text) ≡ text
+unfolding ended_lines_of
+joined-ended_lines_of [] = refl
+joined-ended_lines_of (b ∷ text) =
+    let ih = joined-ended_lines_of text in
     elim (cases_Bool (eqb b 10)) [
       | inl is ↦ rw (is, ih, eqb-true b 10 is) refl
-      | inr other ↦ rw other (joined-onto_first b (lines_of text) ∙ ap (λ (t : List ℕ). b ∷ t) ih)
+      | inr other ↦ rw other (joined-onto_first b (ended_lines_of text) ∙ ap (λ (t : List ℕ). b ∷ t) ih)
     ]
 
 -- no LF among these bytes
@@ -67,9 +67,9 @@ some_fields [] = omega arith
 some_fields (n ∷ ns) = omega arith
 
 -- a spelled line is the first line of the text that it begins
-pub lines_of-line : (name ns rest : List ℕ) → has_no_lf name ≡ true → AreSmall ns → lines_of (line_of name ns ++ rest) ≡ line_of name ns ∷ lines_of rest
-lines_of-line name ns rest plain small =
+pub ended_lines_of-line : (name ns rest : List ℕ) → has_no_lf name ≡ true → AreSmall ns → ended_lines_of (line_of name ns ++ rest) ≡ line_of name ns ∷ ended_lines_of rest
+ended_lines_of-line name ns rest plain small =
     let line : List ℕ = line_of name ns in
     let len : line_len (line ++ rest) ≡ length line = line_len-line name ns rest plain small in
     let some : 0 < length (line ++ rest) = omega (arith, some_fields ns, length-append name (fields_of ns), length-append line rest) in
-    lines_of-first (line ++ rest) line rest some (rw len (sym (take_at line rest (length line) refl))) (rw len (sym (drop_at line rest (length line) refl)))
+    ended_lines_of-first (line ++ rest) line rest some (rw len (sym (take_at line rest (length line) refl))) (rw len (sym (drop_at line rest (length line) refl)))

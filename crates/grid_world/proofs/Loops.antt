@@ -83,10 +83,6 @@ pub record AtWall (grid : Ground) (starts : List Cell) (front : List Cell) (befo
   -- lines are as few as cells
   pub few : n ≤ first + cells_up_to before
 
-pub few_lines : (before : Option Cell) → IsSmall before → cells_up_to before ≤ 65536
-few_lines None small = omega arith
-few_lines (Some c) small = omega (arith, small.0, small.1)
-
 pub walls_more : (grid : Ground) (starts front : List Cell) (before : Option Cell) (first n : ℕ) (line : List ℕ) (lines after : List (List ℕ)) (c : Cell) (total : Result (List Cell) SessionFault)
     → grid.width ≤ 256 → grid.height ≤ 256 → lines ≡ line ∷ after → is_bare (codes "end") line ≡ false → wall_at grid starts before n line ≡ Ok c
     → AtWall grid starts front before first n lines total → AtWall grid starts (front ++ c ∷ []) (Some c) first (n + 1) after total

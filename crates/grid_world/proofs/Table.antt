@@ -7,7 +7,7 @@ use Rattle.definitions.specs.declared.world.SessionRule.TheVariants.{S1, S2, S3,
 use Rattle.definitions.specs.World.{Game}
 use Rattle.grid_world.specs.declared.fault.SessionFault.{SessionFault}
 use Rattle.grid_world.specs.declared.fault.SessionFault.TheVariants.{At}
-use Rattle.grid_world.specs.Lines.{lines_of, field_at, one_of, two_of, three_of}
+use Rattle.grid_world.specs.Lines.{ended_lines_of, field_at, one_of, two_of, three_of}
 use Rattle.grid_world.specs.Text.{session_text}
 use Rattle.grid_world.specs.Reading.{version_at, sides_at, steps_at, charges_at, turns_at, players_at, head_at, start_at, starts_at, wall_at, walls_at, said_by, session_fault}
 
@@ -91,5 +91,5 @@ table =
     []
 
 refused : map (λ r. session_fault r.text) table ≡ map (λ r. r.fault) table
-unfolding session_fault said_by lines_of head_at version_at sides_at steps_at charges_at turns_at players_at starts_at start_at walls_at wall_at one_of two_of three_of field_at
+unfolding session_fault said_by ended_lines_of head_at version_at sides_at steps_at charges_at turns_at players_at starts_at start_at walls_at wall_at one_of two_of three_of field_at
 refused = refl

@@ -29,9 +29,9 @@ onto_first b [] = (b ∷ []) ∷ []
 onto_first b (line ∷ lines) = (b ∷ line) ∷ lines
 
 -- the lines of a text, each with the LF that ends it; the last one may lack it
-unfoldable pub lines_of : List ℕ → List (List ℕ)
-lines_of [] = []
-lines_of (b ∷ text) = if b == 10 then (10 ∷ []) ∷ lines_of text else onto_first b (lines_of text)
+unfoldable pub ended_lines_of : List ℕ → List (List ℕ)
+ended_lines_of [] = []
+ended_lines_of (b ∷ text) = if b == 10 then (10 ∷ []) ∷ ended_lines_of text else onto_first b (ended_lines_of text)
 
 -- how many bytes the first line has, its LF counted
 abbrev pub line_len : List ℕ → ℕ

@@ -11,7 +11,7 @@ use Rattle.definitions.specs.World.{Ground, Game, has_cell, is_inside, is_before
 use Rattle.grid_world.specs.declared.fault.SessionFault.{SessionFault}
 use Rattle.grid_world.specs.declared.fault.SessionFault.TheVariants.{At, Memory}
 use Rattle.grid_world.specs.Sessions.{game_of}
-use Rattle.grid_world.specs.Lines.{lines_of, is_bare, one_of, two_of, three_of}
+use Rattle.grid_world.specs.Lines.{ended_lines_of, is_bare, one_of, two_of, three_of}
 
 infixl 10 ◌>>=◌
 -- the next line's answer, unless a line before was at fault
@@ -166,19 +166,20 @@ fault_of (Err e) = Some e
 
 -- the first faulty line of a text, and the first of its rules that it breaks
 unfoldable pub session_fault : List ℕ → Option SessionFault
-session_fault text = fault_of (said_by (lines_of text))
+session_fault text = fault_of (said_by (ended_lines_of text))
 
 -- the session that a text says, or the first faulty line of it and the first of its rules that it breaks
 unfoldable pub game_at : List ℕ → Result Game SessionFault
 game_at text = do
-  said ← said_by (lines_of text)
+  said ← said_by (ended_lines_of text)
   Ok (game_of (sha256 text) said.grid said.rules said.turns said.starts)
 
--- what a function that reads answers: what is said, seen by view, or the fault, unless memory ran out
+-- what a function that reads answers where there is this fault; of want of memory nothing is said
 abbrev pub Fails : {Y : Type 0} → SessionFault → Result Y SessionFault → Type 0
 Fails Memory read = Unit {0}
 Fails (At n rule) read = read ≡ Err (At n rule)
 
+-- what it answers: what is said, seen by view, or the fault
 abbrev pub Gives : {X Y : Type 0} → (X → Y) → Result X SessionFault → Result Y SessionFault → Type 0
 Gives view (Ok x) read = read ≡ Ok (view x)
 Gives view (Err e) read = Fails e read

@@ -2,7 +2,7 @@
 
 ghost use Rattle.std.specs.Prelude.{◌≡◌, ◌<◌, ◌≤◌, ◌+◌, ◌&&◌, not, ℕ, length, Some, None, if◌then◌else◌, option_map, IfOk};
 ghost use Rattle.definitions.specs.World.{has_cell, is_inside};
-ghost use Rattle.grid_world.specs.Lines.{lines_of};
+ghost use Rattle.grid_world.specs.Lines.{ended_lines_of};
 ghost use Rattle.grid_world.specs.Reading as spec;
 ghost use Rattle.grid_world.specs.Reading.{Gives, start_at, starts_at, wall_at, walls_at, cell_at, game_at, session_fault};
 ghost use Rattle.definitions.specs.World.{Game};
@@ -36,7 +36,7 @@ fn cell_of(sides: Sides, x: u32, y: u32) -> Option<Cell>
 /// Where the player starts, which its line says, and the text behind that line.
 #[tactic(auto, unfolding(crate::specs::Reading::start_at))]
 fn start_of(sides: Sides, player: PlayerId, text: &[u8]) -> Result<(Cell, &[u8]), SessionFault>
-    ensures { Gives (λ x. (x.0, lines_of x.1.now)) result (start_at (bare sides) player (lines_of text.now)) }
+    ensures { Gives (λ x. (x.0, ended_lines_of x.1.now)) result (start_at (bare sides) player (ended_lines_of text.now)) }
 {
     let line = 7 + u32::from(player);
     let ((number, x, y), rest) = three_at(line, b"player", text)?;
@@ -53,7 +53,7 @@ fn starts_of(
     players: u8,
     text: &[u8],
 ) -> Result<(Vec<Cell>, &[u8]), SessionFault>
-    ensures { Gives (λ x. (x.0.items, lines_of x.1.now)) result (starts_at (bare sides) players 0 (lines_of text.now)) }
+    ensures { Gives (λ x. (x.0.items, ended_lines_of x.1.now)) result (starts_at (bare sides) players 0 (ended_lines_of text.now)) }
 {
     let mut starts = Vec::new(alloc);
     let mut rest = text;
@@ -118,7 +118,7 @@ fn walls_of(
     requires wide { sides.width ≤ 256 }
     requires high { sides.height ≤ 256 }
     requires early { first ≤ 23 }
-    ensures { Gives (λ v. v.items) result (walls_at (bare sides) starts.now (lines_of text.now) None first) }
+    ensures { Gives (λ v. v.items) result (walls_at (bare sides) starts.now (ended_lines_of text.now) None first) }
 {
     let mut walls = Vec::new(alloc);
     let mut before = None;

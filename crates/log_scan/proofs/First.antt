@@ -1,5 +1,5 @@
 -- First: a log that got a frame last and was clean before has findings of that frame's player alone.
-use Rattle.std.proofs.Common.{◌≡◌, ℕ, zero, suc, ◌+◌, ◌<◌, ◌≤◌, List, [], ◌∷◌, ◌++◌, refl, Bool, true, false, sym, ◌∙◌, ap, subst, arith, inl, inr, Option, Some, None}
+use Rattle.std.proofs.Common.{◌≡◌, ℕ, zero, suc, ◌+◌, ◌<◌, ◌≤◌, List, [], ◌∷◌, ◌++◌, refl, Bool, true, sym, ◌∙◌, ap, subst, arith, inl, inr, Option, Some, None}
 use Rattle.std.specs.Prelude.{◌==◌, ◌&&◌, filter_map, flat_map, min, is_none, is_some, slice_get, if◌then◌else◌}
 use Rattle.std.specs.List.{range_with_len}
 use Rattle.std.specs.Option.{option_or}
@@ -141,19 +141,6 @@ turn_none game q i n h lt w past unseen none =
       | inr after ↦ first_nowhere (finding_at game (h ∷ []) q t) kinds (λ k. finding_unseen game q t h k (unseen t (omega arith)))
     ]))
     ∙ sym (first_is game q h lt w)
-
--- one turn more without a finding
-pub turn_more : (game : Game) (q i : ℕ) (h : List Entry) (found : Option Finding) (some : Bool) → ((t : ℕ) → t < i → finding_of_turn game h q t ≡ None) →
-    found ≡ finding_of_turn game h q i → some ≡ is_some found → some ≡ false → (t : ℕ) → t < i + 1 → finding_of_turn game h q t ≡ None
-turn_more game q i h found some none is test fails t lt =
-    elim (cases_lt t i) [
-      | inl before ↦ none t before
-      | inr after ↦ let here : t ≡ i = omega arith in ap (finding_of_turn game h q) here ∙ sym is ∙ was found (sym test ∙ fails)
-    ]
-  where
-    was : (o : Option Finding) → is_some o ≡ false → o ≡ None
-    was None e = refl
-    was (Some f) e = absurd (false≢true (sym e))
 
 -- a log is clean where it has no first finding
 pub clean_is_none : (game : Game) (h : List Entry) (found : Option Finding) → found ≡ finding_of_log game h → is_clean game h ≡ is_none found

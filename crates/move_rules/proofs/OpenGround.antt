@@ -1,16 +1,14 @@
 -- On a ground without walls a walk of k steps leads exactly to the cells within square distance k.
-use Rattle.std.proofs.Common.{◌≡◌, ℕ, zero, suc, ◌+◌, ◌-◌, ◌*◌, ◌≤◌, ◌<◌, List, [], ◌∷◌, refl, add-zero, zero-add, Bool, true, false, sym, ◌∙◌, ap, arith}
-use Rattle.std.specs.Prelude.{◌&&◌, ◌||◌, not, nat_le, nat_lt, ◌==◌, if◌then◌else◌}
+use Rattle.std.proofs.Common.{◌≡◌, ℕ, zero, suc, ◌+◌, ◌-◌, ◌≤◌, ◌<◌, List, [], refl, add-zero, Bool, true, false, sym, ◌∙◌, ap, arith}
+use Rattle.std.specs.Prelude.{◌&&◌, ◌||◌, nat_le, nat_lt, ◌==◌, if◌then◌else◌}
 use Rattle.std.specs.List.{list_any}
 use Rattle.std.proofs.lemmas.Bool.{and_parts, and_from}
 use Rattle.std.proofs.lemmas.Bool.Decides.{nat_tests}
 use Rattle.definitions.specs.declared.world.Cell.{Cell}
-use Rattle.definitions.specs.World.{Ground, Game, seat_of, players_of, cell_eq, has_cell, is_inside, is_wall, is_open, distance, gap}
-use Rattle.definitions.specs.Walk.{is_step, walked, in_reach}
-use Rattle.definitions.proofs.Cells.{cell_eq-true, any-cell, any-from}
+use Rattle.definitions.specs.World.{Ground, has_cell, is_inside, is_open, distance, gap}
+use Rattle.definitions.specs.Walk.{is_step, walked}
+use Rattle.definitions.proofs.Cells.{any-cell, any-from}
 use Rattle.definitions.proofs.Walks.{has-begun, has-stepped}
-use Rattle.grid_world.specs.Sessions.{IsSession}
-use Rattle.grid_world.proofs.Facts.{seat_speed}
 
 -- b, one nearer to a
 abbrev pub nearer : ℕ → ℕ → ℕ
@@ -95,16 +93,6 @@ step_back grid k a b cells w i all h =
     let step : is_step grid c b ≡ true = and_from _ _ (and_from _ _ (open-inside grid c w ∙ inside) (open-inside grid b w ∙ g.0)) near in
     any-from (λ e. is_step grid e b) cells c (all c ∙ and_from _ _ inside far) step
 
--- a cell inside is the box of distance 0 around it
-pub box_one : (grid : Ground) (a : Cell) → is_inside grid a ≡ true → IsBox grid a 0 (a ∷ [])
-box_one grid a i c =
-    let same : cell_eq c a ≡ true → c ≡ a = cell_eq-true c a in
-    let inside : cell_eq c a ≡ true → is_inside grid c ≡ true = λ h. ap (is_inside grid) (same h) ∙ i in
-    same_test _ _ (λ h. and_from _ _ (inside (one_cell a c h)) (sym (here a c) ∙ h)) (λ h. here a c ∙ (and_parts (is_inside grid c) (nat_le (distance a c) 0) h).1)
-  where
-    one_cell : (a c : Cell) → (cell_eq c a || false) ≡ true → cell_eq c a ≡ true
-    one_cell a c h = grind arith
-
 -- n steps from a box lead to the box that is n wider
 pub box_walked : (grid : Ground) (n k : ℕ) (a : Cell) (cells : List Cell) → grid.walls ≡ [] → is_inside grid a ≡ true → IsBox grid a k cells →
     IsBox grid a (k + n) (walked grid n cells)
@@ -122,24 +110,3 @@ box_walked grid (suc n) k a cells w i all c =
     has-stepped grid (walked grid n cells) c ∙
     same_test _ _ (step_there grid (k + n) a c (walked grid n cells) w ih) (step_back grid (k + n) a c (walked grid n cells) w i ih) ∙
     ap (λ m. is_inside grid c && nat_le (distance a c) m) e
-
--- k steps lead to a cell inside exactly where it is within distance k
-pub open_reaches : (grid : Ground) (k : ℕ) (a b : Cell) → grid.walls ≡ [] → is_inside grid a ≡ true →
-    has_cell (walked grid k (a ∷ [])) b ≡ (is_inside grid b && nat_le (distance a b) k)
-open_reaches grid k a b w i = box_walked grid k 0 a (a ∷ []) w i (box_one grid a i) b ∙ ap (λ n. is_inside grid b && nat_le (distance a b) n) (zero-add k)
-
--- within a turn a player reaches what is inside and within its speed
-pub open_in_reach : (game : Game) (q : ℕ) (a b : Cell) → game.grid.walls ≡ [] → is_inside game.grid a ≡ true →
-    in_reach game q a b ≡ (is_inside game.grid b && nat_le (distance a b) (seat_of game q).speed)
-open_in_reach game q a b w i =
-    let e : 1 * (seat_of game q).speed ≡ (seat_of game q).speed = omega arith in
-    ap (λ k. has_cell (walked game.grid k (a ∷ [])) b) e ∙ open_reaches game.grid (seat_of game q).speed a b w i
-
--- the test by the rules' speed
-pub near_is : (game : Game) (q : ℕ) (a b : Cell) (d s : ℕ) → IsSession game → q < players_of game → game.grid.walls ≡ [] →
-    is_open game.grid a ≡ true → is_inside game.grid b ≡ true → d ≡ distance a b → s ≡ game.rules.speed → nat_le d s ≡ in_reach game q a b
-near_is game q a b d s is known w opens inside far speed =
-    let i : is_inside game.grid a ≡ true = (and_parts (is_inside game.grid a) (not (is_wall game.grid a)) opens).0 in
-    let e : s ≡ (seat_of game q).speed = speed ∙ sym (seat_speed game q is known) in
-    let t : nat_le d s ≡ nat_le (distance a b) (seat_of game q).speed = ap (λ n. nat_le n s) far ∙ ap (λ n. nat_le (distance a b) n) e in
-    t ∙ sym (open_in_reach game q a b w i ∙ ap (λ p. p && nat_le (distance a b) (seat_of game q).speed) inside)

@@ -3,8 +3,8 @@ use Rattle.std.proofs.Common.{◌≡◌, ℕ, zero, suc, ◌+◌, ◌-◌, ◌*�
 use Rattle.std.specs.Prelude.{◌&&◌, ◌||◌, ◌==◌, nat_lt, nat_le}
 use Rattle.std.proofs.lemmas.Bool.{and_parts, and_from, or_cases, or_left, or_right, lt-ltb, leb-true, le-leb, eqb-true, eq-eqb, cases_order}
 use Rattle.definitions.specs.declared.world.Cell.{Cell}
-use Rattle.definitions.specs.World.{Ground, Game, seat_of, cell_eq, has_cell, gap, distance, is_open}
-use Rattle.definitions.specs.Walk.{is_step, walked, in_reach}
+use Rattle.definitions.specs.World.{Ground, cell_eq, has_cell, gap, distance, is_open}
+use Rattle.definitions.specs.Walk.{is_step, walked}
 use Rattle.definitions.proofs.Cells.{cell_eq-true, cell_eq-same, any-cell, any-from}
 use Rattle.definitions.proofs.Walks.{has-begun, has-stepped, walked_open}
 use Rattle.move_rules.specs.Windows.{lit, near, near_place, cell_at, shows, ShowsOpen, ShowsWalk}
@@ -208,9 +208,3 @@ shows_read grid a c s k row place column rows facts close row_is place_is column
     bit_lit rows row place column row_is
     ∙ ap (λ (r : ℕ). lit rows column r) place_is ∙ ap (λ (i : ℕ). lit rows i (c.y + s - a.y)) column_is
     ∙ lit_cell grid a c s k rows facts close
-
--- within a turn a player goes no further than its speed
-pub reach_within : (game : Game) (q : ℕ) (a c : Cell) → in_reach game q a c ≡ true → distance a c ≤ (seat_of game q).speed
-reach_within game q a c h =
-    let le = walked_within game.grid (1 * (seat_of game q).speed) a c h in
-    omega arith

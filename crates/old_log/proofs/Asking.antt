@@ -6,7 +6,7 @@ use Rattle.definitions.specs.declared.logs.Entry.{Entry}
 use Rattle.definitions.specs.World.{Game}
 use Rattle.session_log.specs.declared.reader.Next.{Next}
 use Rattle.session_log.specs.declared.reader.Next.TheVariants as next
-use Rattle.session_log.specs.Reading.{Reading, Step, at_start, next_step, read_by, read_log, read_on, ReadLog, step_by, step_unless}
+use Rattle.session_log.specs.Reading.{LogReading, Step, log_at_start, next_step, read_by, read_log, read_on, ReadLog, step_by, step_unless}
 use Rattle.session_log.specs.Laws.{AreBytes, EndsSo}
 use Rattle.session_log.proofs.Logs.{log_ends}
 use Rattle.old_log.specs.Old.{IsOld, fault_place, old_entries, place_said}
@@ -16,20 +16,20 @@ abbrev in_front : List Entry → ReadLog → ReadLog
 in_front entries l = record { entries = entries ++ l.entries; reader = l.reader }
 
 -- the reader gave these entries, and what it gives with so many steps more is the rest of the log
-abbrev pub IsReading : Game → List ℕ → List Entry → Reading → Type 0
+abbrev pub IsReading : Game → List ℕ → List Entry → LogReading → Type 0
 IsReading game bytes entries r = read_log game bytes ≡ in_front entries (read_by game bytes (length bytes + 1 - length entries) r)
 
 -- a reader has read nothing yet
-pub reading_start : (game : Game) (bytes : List ℕ) (r : Reading) → r ≡ at_start game.id → IsReading game bytes [] r
+pub reading_start : (game : Game) (bytes : List ℕ) (r : LogReading) → r ≡ log_at_start game.id → IsReading game bytes [] r
 unfolding read_log
 reading_start game bytes r start =
-    let by_steps : ℕ → ReadLog = λ n. read_by game bytes n (at_start game.id) in
-    let by_reader : Reading → ReadLog = λ q. read_by game bytes (length bytes + 1 - 0) q in
+    let by_steps : ℕ → ReadLog = λ n. read_by game bytes n (log_at_start game.id) in
+    let by_reader : LogReading → ReadLog = λ q. read_by game bytes (length bytes + 1 - 0) q in
     let steps : suc (length bytes) ≡ length bytes + 1 - 0 = omega arith in
     ap by_steps steps ∙ ap by_reader (sym start)
 
 -- the step of a reader that gave its last answer
-said_step : (game : Game) (bytes : List ℕ) (r : Reading) (last : Next) → r.said ≡ Some last → next_step game bytes r ≡ record { reader = r; answer = last }
+said_step : (game : Game) (bytes : List ℕ) (r : LogReading) (last : Next) → r.said ≡ Some last → next_step game bytes r ≡ record { reader = r; answer = last }
 unfolding next_step
 said_step game bytes r last e = let P : Option Next → Step = λ o. step_unless o r (step_by game r r.owner bytes) in ap P e
 
@@ -38,34 +38,34 @@ never_last : (game : Game) (bytes : List ℕ) (entries : List Entry) (e : Entry)
 never_last game bytes entries e last is ends = let Ends : Next → Type 0 = λ a. EndsSo game bytes entries a in subst Ends is ends
 
 -- where no step is left, the reader has given its last answer, and all entries were read
-record IsThrough (game : Game) (bytes : List ℕ) (entries : List Entry) (r : Reading) : Type 0 where
+record IsThrough (game : Game) (bytes : List ℕ) (entries : List Entry) (r : LogReading) : Type 0 where
   last : Next
   said : r.said ≡ Some last
   ends : EndsSo game bytes (read_log game bytes).entries last
 
-through : (game : Game) (bytes : List ℕ) (entries : List Entry) (r : Reading) → AreBytes bytes → (read_log game bytes).reader ≡ r → IsThrough game bytes entries r
+through : (game : Game) (bytes : List ℕ) (entries : List Entry) (r : LogReading) → AreBytes bytes → (read_log game bytes).reader ≡ r → IsThrough game bytes entries r
 through game bytes entries r are same =
     let ends = log_ends game bytes are in
-    record { last = ends.0; said = ap (λ (q : Reading). q.said) (sym same) ∙ ends.1; ends = ends.2 }
+    record { last = ends.0; said = ap (λ (q : LogReading). q.said) (sym same) ∙ ends.1; ends = ends.2 }
 
 -- what is read on after an answer
-abbrev behind : Game → List ℕ → ℕ → Next → Reading → ReadLog
+abbrev behind : Game → List ℕ → ℕ → Next → LogReading → ReadLog
 behind game bytes most answer r = read_on answer r (read_by game bytes most r)
 
 -- what is read with one step more
-one_step : (game : Game) (bytes : List ℕ) (most : ℕ) (r s : Reading) (answer : Next) → answer ≡ (next_step game bytes r).answer → s ≡ (next_step game bytes r).reader →
+one_step : (game : Game) (bytes : List ℕ) (most : ℕ) (r s : LogReading) (answer : Next) → answer ≡ (next_step game bytes r).answer → s ≡ (next_step game bytes r).reader →
     read_by game bytes (suc most) r ≡ behind game bytes most answer s
 one_step game bytes most r s answer a e =
     let by_answer : Next → ReadLog = λ b. behind game bytes most b (next_step game bytes r).reader in
-    let by_reader : Reading → ReadLog = λ q. behind game bytes most answer q in
+    let by_reader : LogReading → ReadLog = λ q. behind game bytes most answer q in
     ap by_answer (sym a) ∙ ap by_reader (sym e)
 
 -- with an entry the reader reads on behind it, and the log has more entries than were given before
-pub record ReadsOn (game : Game) (bytes : List ℕ) (entries : List Entry) (e : Entry) (s : Reading) : Type 0 where
+pub record ReadsOn (game : Game) (bytes : List ℕ) (entries : List Entry) (e : Entry) (s : LogReading) : Type 0 where
   pub reading : IsReading game bytes (entries ++ e ∷ []) s
   pub more : length entries < length (old_entries game bytes)
 
-reads_by : (game : Game) (bytes : List ℕ) (entries : List Entry) (e : Entry) (r s : Reading) (most : ℕ) → AreBytes bytes → read_log game bytes ≡ in_front entries (read_by game bytes most r) →
+reads_by : (game : Game) (bytes : List ℕ) (entries : List Entry) (e : Entry) (r s : LogReading) (most : ℕ) → AreBytes bytes → read_log game bytes ≡ in_front entries (read_by game bytes most r) →
     most ≡ length bytes + 1 - length entries → next.Entry e ≡ (next_step game bytes r).answer → s ≡ (next_step game bytes r).reader → ReadsOn game bytes entries e s
 reads_by game bytes entries e r s zero are all steps a k =
     let w = through game bytes entries r are (ap (λ (l : ReadLog). l.reader) all) in
@@ -83,30 +83,30 @@ reads_by game bytes entries e r s (suc most) are all steps a k =
     let longer = length-append entries (e ∷ rest.entries) in
     record { reading = here ∙ ap with_entries (sym (append_assoc entries (e ∷ []) rest.entries)) ∙ ap by_steps left; more = omega arith }
 
-pub reads_on : (game : Game) (bytes : List ℕ) (entries : List Entry) (e : Entry) (r s : Reading) → AreBytes bytes → IsReading game bytes entries r →
+pub reads_on : (game : Game) (bytes : List ℕ) (entries : List Entry) (e : Entry) (r s : LogReading) → AreBytes bytes → IsReading game bytes entries r →
     next.Entry e ≡ (next_step game bytes r).answer → s ≡ (next_step game bytes r).reader → ReadsOn game bytes entries e s
 reads_on game bytes entries e r s are all a k = reads_by game bytes entries e r s (length bytes + 1 - length entries) are all refl a k
 
 -- with any other answer the reader has read all
-ends_here : (game : Game) (bytes : List ℕ) (most : ℕ) (answer : Next) (s : Reading) → ((e : Entry) → answer ≡ next.Entry e → ⊥) → behind game bytes most answer s ≡ record { entries = []; reader = s }
+ends_here : (game : Game) (bytes : List ℕ) (most : ℕ) (answer : Next) (s : LogReading) → ((e : Entry) → answer ≡ next.Entry e → ⊥) → behind game bytes most answer s ≡ record { entries = []; reader = s }
 ends_here game bytes most (next.Entry e) s none = absurd (none e refl)
 ends_here game bytes most next.End s none = refl
 ends_here game bytes most (next.Torn at) s none = refl
 ends_here game bytes most (next.BadChain at) s none = refl
 ends_here game bytes most (next.BadEntry at) s none = refl
 
-ends_by : (game : Game) (bytes : List ℕ) (entries : List Entry) (answer : Next) (r s : Reading) (most : ℕ) → AreBytes bytes → read_log game bytes ≡ in_front entries (read_by game bytes most r) →
+ends_by : (game : Game) (bytes : List ℕ) (entries : List Entry) (answer : Next) (r s : LogReading) (most : ℕ) → AreBytes bytes → read_log game bytes ≡ in_front entries (read_by game bytes most r) →
     ((e : Entry) → answer ≡ next.Entry e → ⊥) → answer ≡ (next_step game bytes r).answer → s ≡ (next_step game bytes r).reader → read_log game bytes ≡ record { entries = entries ++ []; reader = s }
 ends_by game bytes entries answer r s zero are all none a k =
     let w = through game bytes entries r are (ap (λ (l : ReadLog). l.reader) all) in
     let same : r ≡ s = sym (k ∙ ap (λ (t : Step). t.reader) (said_step game bytes r w.last w.said)) in
-    let by_reader : Reading → ReadLog = λ q. record { entries = entries ++ []; reader = q } in
+    let by_reader : LogReading → ReadLog = λ q. record { entries = entries ++ []; reader = q } in
     all ∙ ap by_reader same
 ends_by game bytes entries answer r s (suc most) are all none a k =
     all ∙ ap (λ (l : ReadLog). in_front entries l) (one_step game bytes most r s answer a k ∙ ends_here game bytes most answer s none)
 
 -- what the reader that is asked once more then has read
-pub read_all : (game : Game) (bytes : List ℕ) (entries : List Entry) (answer : Next) (r s : Reading) (again : Next) (u : Reading) → AreBytes bytes → IsReading game bytes entries r →
+pub read_all : (game : Game) (bytes : List ℕ) (entries : List Entry) (answer : Next) (r s : LogReading) (again : Next) (u : LogReading) → AreBytes bytes → IsReading game bytes entries r →
     ((e : Entry) → answer ≡ next.Entry e → ⊥) → answer ≡ (next_step game bytes r).answer → s ≡ (next_step game bytes r).reader →
     again ≡ (next_step game bytes s).answer → u ≡ (next_step game bytes s).reader → IsOld game bytes u.owner entries (fault_place again)
 read_all game bytes entries answer r s again u are all none a k b l =
@@ -116,7 +116,7 @@ read_all game bytes entries answer r s again u are all none a k b l =
     let same : u ≡ s = l ∙ ap (λ (t : Step). t.reader) step in
     let last : again ≡ w.last = b ∙ ap (λ (t : Step). t.answer) step in
     record {
-      owner_is = ap (λ (q : Reading). q.owner) same ∙ sym (ap (λ (m : ReadLog). m.reader.owner) here);
+      owner_is = ap (λ (q : LogReading). q.owner) same ∙ sym (ap (λ (m : ReadLog). m.reader.owner) here);
       entries_are = sym (append-nil entries) ∙ sym (ap (λ (m : ReadLog). m.entries) here);
       dropped_is = ap (λ (x : Next). fault_place x) last ∙ ap (λ (o : Option Next). place_said o) (sym w.said) ∙ sym (ap (λ (m : ReadLog). place_said m.reader.said) here);
     }

@@ -1,10 +1,11 @@
 -- Causes: each status has its cause.
-use Rattle.std.proofs.Common.{Bool, List, None, Option, Some, ap, arith, false, inl, inr, refl, subst, sym, true, ℕ, ◌∙◌, ◌≡◌, ◌⊎◌}
+use Rattle.std.proofs.Common.{Bool, List, [], ◌∷◌, None, Option, Some, ap, arith, false, inl, inr, refl, subst, sym, true, ℕ, ◌∙◌, ◌≡◌, ◌⊎◌}
 use Rattle.std.specs.Prelude.{Err, Ok, Result, nat_lt, option_map, if◌then◌else◌}
 use Rattle.std.proofs.lemmas.Bool.{lt-ltb, ltb-true}
 use Rattle.definitions.specs.World.{Game, players_of}
 use Rattle.text_io.specs.Ends.{Finished}
-use Rattle.text_io.specs.Frame.{Answer, EndCause, after_text, line_by_line}
+use Rattle.text_io.specs.Frame.{Answer, EndCause, after_text}
+use Rattle.text_io.specs.Inputs.{AtEnd, End, Input, ending_of, input_of, lines_in, lines_then}
 use Rattle.text_io.specs.Lines.{lines_of}
 use Rattle.text_io.specs.declared.statuses.Status.{Status}
 use Rattle.text_io.specs.declared.statuses.Status.TheVariants.{InputFault, NoMemory, OutputFault, Usage}
@@ -22,7 +23,7 @@ use Rattle.peer_cli.specs.Program.{answer_of, answer_to, dropped_text, playing}
 use Rattle.peer_cli.specs.Words.{Command, Drive, command_of}
 
 -- the answer where a run begins with this
-pub set_answer : (words : List (List ℕ)) (files : List ℕ → Option (List ℕ)) (input : List ℕ) (player : ℕ) (b : Beginning) → IsSet words files player b →
+pub set_answer : (words : List (List ℕ)) (files : List ℕ → Option (List ℕ)) (input : Input) (player : ℕ) (b : Beginning) → IsSet words files player b →
     answer_to words files input ≡ after_text (dropped_text b.dropped) (drive b.game player b.first input)
 set_answer words files input player b s =
     let old = option_map files s.old in
@@ -39,11 +40,12 @@ bound_fault A B (Err d) f e h = let same : d ≡ e = (let g : Err d ≡ Err e = 
 -- a text of which no session is read has that fault
 fault_said : (text : List ℕ) (e : SessionFault) → game_at text ≡ Err e → session_fault text ≡ Some e
 unfolding game_at session_fault
-fault_said text e h = bound_fault _ _ (said_by (L.lines_of text)) _ e h
+fault_said text e h = bound_fault _ _ (said_by (L.ended_lines_of text)) _ e h
 
-module _ (words : List (List ℕ)) (files : List ℕ → Option (List ℕ)) (input : List ℕ) where
-  played : (player : ℕ) (b : Beginning) → IsSet words files player b → (clean : Bool) → is_clean b.game (drive_log b.game player b.first input) ≡ clean → (bad : Option ℕ) → bad_line 0 (lines_of input) ≡ bad →
-      HasCause words files input (status_for clean bad)
+-- the status that is due for an input that is read to its end has its cause
+module _ (words : List (List ℕ)) (files : List ℕ → Option (List ℕ)) (input : Input) (ends : ending_of input ≡ AtEnd) where
+  played : (player : ℕ) (b : Beginning) → IsSet words files player b → (clean : Bool) → is_clean b.game (drive_log b.game player b.first input) ≡ clean → (bad : Option ℕ) → bad_line 0 (lines_in input) ≡ bad →
+      HasCause words files input (status_for clean bad AtEnd)
   played player b set false e bad l = record { player = player; begins = b; set = set; found = e }
   played player b set true e None l = record { player = player; begins = b; set = set; clean = e; lines = l }
   played player b set true e (Some n) l = record { player = player; begins = b; set = set; clean = e; lines = l }
@@ -51,8 +53,8 @@ module _ (words : List (List ℕ)) (files : List ℕ → Option (List ℕ)) (inp
   -- a run that begins with this
   begins : (player : ℕ) (b : Beginning) → IsSet words files player b → HasCause words files input (after_text (dropped_text b.dropped) (drive b.game player b.first input)).status
   begins player b set =
-      subst (λ (s : Status). HasCause words files input s) (sym (drive_status b.game player b.first input))
-      (played player b set (is_clean b.game (drive_log b.game player b.first input)) refl (bad_line 0 (lines_of input)) refl)
+      subst (λ (s : Status). HasCause words files input s) (sym (drive_status b.game player b.first input ∙ ap (status_for (is_clean b.game (drive_log b.game player b.first input)) (bad_line 0 (lines_in input))) ends))
+      (played player b set (is_clean b.game (drive_log b.game player b.first input)) refl (bad_line 0 (lines_in input)) refl)
 
   -- a log that is named, by the fault for which the player can't go on from it
   named_log : (game : Game) (player : ℕ) (name : List ℕ) → IsSeated words files game player (Some name) → (fault : Option Fault) → old_fault game player (log_front_of (files name)) ≡ fault →
@@ -84,22 +86,37 @@ module _ (words : List (List ℕ)) (files : List ℕ → Option (List ℕ)) (inp
   commanded None e = inl e
   commanded (Some (Drive session player old)) e = read session player old e (game_at (front_of (files session))) refl
 
--- the status that is due has its cause
-pub caused : (words : List (List ℕ)) (files : List ℕ → Option (List ℕ)) (input : List ℕ) → HasCause words files input (answer_to words files input).status
-caused words files input = commanded words files input (command_of words) refl
+pub caused : (words : List (List ℕ)) (files : List ℕ → Option (List ℕ)) (input : Input) → ending_of input ≡ AtEnd → HasCause words files input (answer_to words files input).status
+caused words files input ends = commanded words files input ends (command_of words) refl
 
 -- what holds of the status that is due, of want of memory and of faults holds of the status that comes
-pub finished_cause : (P : Status → Type 0) (before now : List ℕ) (due : Answer) (fault : Type 0) (s : Status) → Finished line_by_line before now due fault s →
-    P due.status → P NoMemory → P InputFault → P OutputFault → P s
-finished_cause P before now due fault NoMemory f p m i o = m
-finished_cause P before now due fault InputFault f p m i o = i
-finished_cause P before now due fault OutputFault f p m i o = o
-finished_cause P before now due fault s f p m i o = subst P (sym f.0) p
+module _ (told : Type 0) (before now : List ℕ) (whole cut : Answer) (source shelf : Type 0) where
+  pub finished_cause : (P : Status → Type 0) (s : Status) → Finished told before now whole cut source shelf s → P whole.status → P NoMemory → P InputFault → P OutputFault → P s
+  finished_cause P NoMemory f p m i o = m
+  finished_cause P InputFault f p m i o = i
+  finished_cause P OutputFault f p m i o = o
+  finished_cause P s f p m i o = subst P (sym f.0) p
 
--- a run that nothing outside cuts short comes to what is due, unless memory is wanting
-pub completed : (own : Status → Type 0) (before now : List ℕ) (due : Answer) (fault input output : Type 0) (s : Status) → Finished line_by_line before now due fault s →
-    EndCause own input output s → (input → ⊥) → (output → ⊥) → (s ≡ due.status) ⊎ (s ≡ NoMemory)
-completed own before now due fault input output NoMemory f c i o = inr refl
-completed own before now due fault input output InputFault f c i o = absurd (i c)
-completed own before now due fault input output OutputFault f c i o = absurd (o c)
-completed own before now due fault input output s f c i o = inl f.0
+  -- a run that nothing outside cuts short comes to what is due, unless memory is wanting
+  pub completed : (own : Status → Type 0) (input output : Type 0) (s : Status) → Finished told before now whole cut source shelf s →
+      EndCause own input output s → (input → ⊥) → (output → ⊥) → (s ≡ whole.status) ⊎ (s ≡ NoMemory)
+  completed own input output NoMemory f c i o = inr refl
+  completed own input output InputFault f c i o = absurd (i c)
+  completed own input output OutputFault f c i o = absurd (o c)
+  completed own input output s f c i o = inl f.0
+
+-- an input that is read to its end
+pub ends_at_end : (bytes : List ℕ) → ending_of (input_of AtEnd bytes) ≡ AtEnd
+ends_at_end bytes = go (lines_of bytes)
+  where
+    go : (lines : List (List ℕ)) → ending_of (lines_then lines End) ≡ AtEnd
+    go [] = refl
+    go (line ∷ lines) = go lines
+
+-- its lines are those of its bytes
+pub lines_at_end : (bytes : List ℕ) → lines_in (input_of AtEnd bytes) ≡ lines_of bytes
+lines_at_end bytes = go (lines_of bytes)
+  where
+    go : (lines : List (List ℕ)) → lines_in (lines_then lines End) ≡ lines
+    go [] = refl
+    go (line ∷ lines) = ap (λ ls. line ∷ ls) (go lines)

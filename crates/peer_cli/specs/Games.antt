@@ -1,10 +1,10 @@
 -- Games: the session that a file has and the log that a player goes on from, or how the run ends where there is none. A file that
--- isn't there counts as one without bytes here; reading it is a fault of the shelf, which is answered before any of this.
-use Rattle.std.specs.Prelude.{◌≡◌, ℕ, List, [], take, Result, Ok, Err, Option, Some, None, nat_lt, if◌then◌else◌}
+-- isn't there counts as one without bytes here; reading it is a fault of the shelf, which is answered where the file is read.
+use Rattle.std.specs.Prelude.{◌≡◌, ◌⊎◌, ◌<◌, ℕ, List, [], take, Result, Ok, Err, Option, Some, None, nat_lt, if◌then◌else◌}
 use Rattle.definitions.specs.declared.logs.Entry.{Entry}
 use Rattle.definitions.specs.World.{Game, players_of}
 use Rattle.definitions.specs.Honest.{IsHonest}
-use Rattle.station.specs.Outside.{known}
+use Rattle.station.specs.Outside.{told_bytes}
 use Rattle.text_io.specs.declared.statuses.Status.{Status}
 use Rattle.text_io.specs.declared.statuses.Status.TheVariants.{NoMemory, Usage, BadSession, InputFault, BadLog}
 use Rattle.grid_world.specs.declared.fault.SessionFault.{SessionFault}
@@ -15,7 +15,7 @@ use Rattle.old_log.specs.Old.{Fault, old_entries, dropped_at, old_fault}
 
 -- the bytes of a session's file that are read
 unfoldable pub front_of : Option (List ℕ) → List ℕ
-front_of content = take 1048576 (known content)
+front_of content = take 1048576 (told_bytes content)
 
 -- the session that is read, or how the run ends where none is
 abbrev pub ended_by : Result Game SessionFault → Result Game Status
@@ -38,7 +38,7 @@ game_for player content = with_player player (session_in content)
 
 -- the bytes of a log's file that are read: one more than a log may have, so that a longer one is told from it
 unfoldable pub log_front_of : Option (List ℕ) → List ℕ
-log_front_of content = take 67108865 (known content)
+log_front_of content = take 67108865 (told_bytes content)
 
 -- what a run begins with: a session, the log of its player, and the byte from which on the log's file is dropped, if it is
 pub record Beginning : Type 0 where
@@ -74,6 +74,16 @@ IsDue due (Ok game) = due ≡ Ok game
 IsDue due (Err NoMemory) = Unit {0}
 IsDue due (Err InputFault) = Unit {0}
 IsDue due (Err status) = due ≡ Err status
+
+-- P, where what is opened is refused for a fault of the shelf
+abbrev pub OnShelfFault : {T : Type 0} → Result T Status → Type 0 → Type 0
+OnShelfFault (Ok start) P = Unit {0}
+OnShelfFault (Err InputFault) P = P
+OnShelfFault (Err status) P = Unit {0}
+
+-- This file is read: that of the session, or, where there is a session and the player is one of it, that of the log.
+abbrev pub IsRead : (session : List ℕ) → (player : ℕ) → (old : Option (List ℕ)) → (files : List ℕ → Option (List ℕ)) → (name : List ℕ) → Type 0
+IsRead session player old files name = (name ≡ session) ⊎ ((old ≡ Some name) × (game : Game) × (game_at (front_of (files session)) ≡ Ok game) × (player < players_of game))
 
 -- a peer of the player with the log that a run begins with
 pub record IsPeerFor (player : ℕ) (due : Result Beginning Status) (r : Resumed) : Type 0 where

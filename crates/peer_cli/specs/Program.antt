@@ -4,6 +4,7 @@ use Rattle.definitions.specs.declared.logs.Entry.{Entry}
 use Rattle.definitions.specs.Findings.{is_clean}
 use Rattle.definitions.specs.Advance.{advance}
 use Rattle.text_io.specs.Frame.{Answer, after_text, bare_answer}
+use Rattle.text_io.specs.Inputs.{Input}
 use Rattle.text_io.specs.declared.statuses.Status.{Status}
 use Rattle.text_io.specs.declared.statuses.Status.TheVariants.{Usage}
 use Rattle.drive_script.specs.Drive as D
@@ -20,14 +21,14 @@ dropped_text None = []
 dropped_text (Some at) = dropped_line at
 
 -- the answer to a script, where there is a session that the player plays and a log that it begins with
-abbrev pub playing : ℕ → Result Beginning Status → List ℕ → Answer
+abbrev pub playing : ℕ → Result Beginning Status → Input → Answer
 playing player (Err status) input = bare_answer status
 playing player (Ok b) input = after_text (dropped_text b.dropped) (D.drive b.game player b.first input)
 
 -- the answer to the command that drives the player of the session in this file by the input, from the log in that file on, if
 -- one is named
-abbrev pub driving : ℕ → Option (List ℕ) → Option (Option (List ℕ)) → List ℕ → Answer
-driving player content old input = playing player (beginning_for player content old) input
+abbrev pub drive_answer : ℕ → Option (List ℕ) → Option (Option (List ℕ)) → Input → Answer
+drive_answer player content old input = playing player (beginning_for player content old) input
 
 -- there is nothing to begin with, or the log that the run begins with has a finding once the peer advanced
 abbrev pub NeedsNoInput : ℕ → Result Beginning Status → Type 0
@@ -40,12 +41,12 @@ IsOverAtFirst None files = Unit {0}
 IsOverAtFirst (Some (Drive session player old)) files = NeedsNoInput player (beginning_for player (files session) (option_map files old))
 
 -- the answer to a command
-abbrev pub answer_of : Option Command → (List ℕ → Option (List ℕ)) → List ℕ → Answer
+abbrev pub answer_of : Option Command → (List ℕ → Option (List ℕ)) → Input → Answer
 answer_of None files input = bare_answer Usage
-answer_of (Some (Drive session player old)) files input = driving player (files session) (option_map files old) input
+answer_of (Some (Drive session player old)) files input = drive_answer player (files session) (option_map files old) input
 
 -- the answer to the program's words
-abbrev pub answer_to : List (List ℕ) → (List ℕ → Option (List ℕ)) → List ℕ → Answer
+abbrev pub answer_to : List (List ℕ) → (List ℕ → Option (List ℕ)) → Input → Answer
 answer_to words files input = answer_of (command_of words) files input
 
 -- The body of an answer tells from which byte on the log is dropped that the run begins with, if it is, and then how this log

@@ -1,11 +1,12 @@
 //! The program.
 
-ghost use Rattle.std.specs.Prelude.{◌≡◌, ◌≤◌, ◌⊎◌, ℕ, [], false, map, None, option_map, IsSome, IsTrue};
+ghost use Rattle.std.specs.Prelude.{◌≡◌, ◌≤◌, ◌⊎◌, ◌++◌, ℕ, List, [], false, map, None, option_map, IsSome, IsTrue};
 ghost use Rattle.definitions.specs.Advance.{advance};
 ghost use Rattle.definitions.specs.Findings.{is_clean};
-ghost use Rattle.station.specs.Outside.{known, Rose};
-ghost use Rattle.text_io.specs.Frame.{line_by_line, after_text, Ended, Ran, EndCause, OnDone, UnlessInputFault, UnlessOutputFault, UnlessFault};
+ghost use Rattle.station.specs.Outside.{told_bytes, Rose};
+ghost use Rattle.text_io.specs.Frame.{after_text, Ended, Ran, EndCause, OnDone, OnInputFault, OnNoMemory, UnlessInputFault, UnlessOutputFault, UnlessFault};
 ghost use Rattle.text_io.specs.Lines.{lines_of};
+ghost use Rattle.text_io.specs.Inputs.{Input, AtEnd, AtFault, MayFollow, input_by, input_of, read_of};
 ghost use Rattle.text_io.specs.Texts.{Wrote, OnUnwritten, OnWritten};
 ghost use Rattle.text_io.specs.Ends.{Finished};
 ghost use Rattle.drive_script.specs.Drive.{bad_line, drive_log};
@@ -15,12 +16,12 @@ ghost use Rattle.drive_script.specs.Drive as D;
 ghost use Rattle.drive_script.specs.Ends.{ScriptEnds};
 ghost use Rattle.peer_cli.specs.Ends.{RunEnds};
 ghost use Rattle.peer_cli.specs.Words.{command_of};
-ghost use Rattle.peer_cli.specs.Causes.{HasCause, IsSet};
-ghost use Rattle.peer_cli.specs.Games.{Beginning, beginning_for};
-ghost use Rattle.peer_cli.specs.Program.{driving, answer_to, NeedsNoInput, IsOverAtFirst, dropped_line, dropped_text, TellsRun};
+ghost use Rattle.peer_cli.specs.Causes.{HasCause, IsAsked, IsSet};
+ghost use Rattle.peer_cli.specs.Games.{Beginning, IsRead, beginning_for};
+ghost use Rattle.peer_cli.specs.Program.{drive_answer, answer_to, NeedsNoInput, IsOverAtFirst, dropped_line, dropped_text, TellsRun};
 
 use crate::sessions::open_peer;
-use crate::words::{Driving, read_command};
+use crate::words::{DriveWords, read_command};
 use arrayvec::ArrayVec;
 use drive_script::play;
 use itoa::Buffer;
@@ -45,7 +46,7 @@ fn line_of_dropped(at: u32) -> ArrayVec<u8, 32>
 /// Writes from which byte on a log is dropped, if it is.
 fn put_dropped<O: Sink>(dropped: Option<u32>, out: &mut O) -> Written
     ensures told { IsSome (O.held out.old) → IsSome (O.held out.new) }
-    ensures text { IsSome (O.held out.old) → Wrote (known (O.held out.old)) (known (O.held out.new)) (dropped_text dropped) result }
+    ensures text { IsSome (O.held out.old) → Wrote (told_bytes (O.held out.old)) (told_bytes (O.held out.new)) (dropped_text dropped) result }
     ensures later { O.faults out.old ≤ O.faults out.new }
     ensures cause { OnUnwritten result (Rose (O.faults out.old) (O.faults out.new)) }
     ensures steady { OnWritten result (O.faults out.new ≡ O.faults out.old) }
@@ -60,15 +61,17 @@ fn put_dropped<O: Sink>(dropped: Option<u32>, out: &mut O) -> Written
 fn play_on<I: Source, O: Sink>(begun: Resumed, input: &mut I, out: &mut O) -> Status
     ensures told_in { IsSome (I.left input.old) → IsSome (I.left input.new) }
     ensures told_out { IsSome (O.held out.old) → IsSome (O.held out.new) }
-    ensures text { IsSome (I.left input.old) → IsSome (O.held out.old) →
-        Ended (known (O.held out.old)) (known (O.held out.new)) (after_text (dropped_text begun.dropped) (D.drive begun.peer.game begun.peer.me begun.peer.entries (known (I.left input.old)))) result }
+    ensures front { IsSome (I.left input.old) → told_bytes (I.left input.old) ≡ read_of (I.left input.old) (I.left input.new) ++ told_bytes (I.left input.new) }
+    ensures text { IsSome (I.left input.old) → (rest : List ℕ) → MayFollow (I.left input.new) rest →
+        Ended (IsSome (O.held out.old)) (told_bytes (O.held out.old)) (told_bytes (O.held out.new))
+        (after_text (dropped_text begun.dropped) (D.drive begun.peer.game begun.peer.me begun.peer.entries (input_by result (read_of (I.left input.old) (I.left input.new)) rest))) result }
     ensures untouched { is_clean begun.peer.game (advance begun.peer.game begun.peer.me begun.peer.entries) ≡ false → input.new ≡ input.old }
     ensures later_in { I.faults input.old ≤ I.faults input.new }
     ensures later_out { O.faults out.old ≤ O.faults out.new }
     ensures cause { EndCause ScriptEnds (Rose (I.faults input.old) (I.faults input.new)) (Rose (O.faults out.old) (O.faults out.new)) result }
     ensures steady_in { UnlessInputFault result (I.faults input.new ≡ I.faults input.old) }
     ensures steady_out { UnlessOutputFault result (O.faults out.new ≡ O.faults out.old) }
-    ensures read { IsSome (I.left input.old) → OnDone result (known (I.left input.new) ≡ []) }
+    ensures read { IsSome (I.left input.old) → OnDone result (told_bytes (I.left input.new) ≡ []) }
 {
     match put_dropped(begun.dropped, out) {
         Written::All => play(begun.peer, input, out),
@@ -79,16 +82,19 @@ fn play_on<I: Source, O: Sink>(begun: Resumed, input: &mut I, out: &mut O) -> St
 /// Drives a peer for the player of a file's session by the input, from the log in the other file on, if one is named.
 fn drive<I: Source, O: Sink, H: Shelf>(
     alloc: Global,
-    words: Driving<'_>,
+    words: DriveWords<'_>,
     input: &mut I,
     out: &mut O,
     shelf: &mut H,
 ) -> Status
     ensures told_in { IsSome (I.left input.old) → IsSome (I.left input.new) }
     ensures told_out { IsSome (O.held out.old) → IsSome (O.held out.new) }
-    ensures text { IsSome (I.left input.old) → IsSome (O.held out.old) → H.told shelf.old →
-        Ran line_by_line (known (O.held out.old)) (known (O.held out.new))
-        (driving words.entry.player (H.content shelf.old words.entry.session.now) (option_map (λ name. H.content shelf.old name.now) words.entry.old) (known (I.left input.old))) result }
+    ensures front { IsSome (I.left input.old) → told_bytes (I.left input.old) ≡ read_of (I.left input.old) (I.left input.new) ++ told_bytes (I.left input.new) }
+    ensures text { IsSome (I.left input.old) → H.told shelf.old → (rest : List ℕ) → MayFollow (I.left input.new) rest →
+        Ran (IsSome (O.held out.old)) (told_bytes (O.held out.old)) (told_bytes (O.held out.new))
+        (drive_answer words.entry.player (H.content shelf.old words.entry.session.now) (option_map (λ name. H.content shelf.old name.now) words.entry.old) (input_by result (read_of (I.left input.old) (I.left input.new)) rest))
+        (Rose (I.faults input.old) (I.faults input.new)) (Rose (H.faults shelf.old) (H.faults shelf.new) × (input.new ≡ input.old)) result }
+    ensures no_memory { IsSome (I.left input.old) → OnNoMemory result (input.new ≡ input.old) }
     ensures untouched { H.told shelf.old →
         NeedsNoInput words.entry.player (beginning_for words.entry.player (H.content shelf.old words.entry.session.now) (option_map (λ name. H.content shelf.old name.now) words.entry.old)) →
         input.new ≡ input.old }
@@ -97,10 +103,12 @@ fn drive<I: Source, O: Sink, H: Shelf>(
     ensures later_shelf { H.faults shelf.old ≤ H.faults shelf.new }
     ensures cause { EndCause RunEnds (Rose (I.faults input.old) (I.faults input.new) ⊎ Rose (H.faults shelf.old) (H.faults shelf.new))
         (Rose (O.faults out.old) (O.faults out.new)) result }
+    ensures asked { H.told shelf.old → OnInputFault result (Rose (I.faults input.old) (I.faults input.new)
+        ⊎ ((mid : H) × (name : List ℕ) × IsRead words.entry.session.now words.entry.player (option_map (λ n. n.now) words.entry.old) (H.content shelf.old) name × H.failed mid shelf.new name)) }
     ensures steady_in { UnlessInputFault result (I.faults input.new ≡ I.faults input.old) }
     ensures steady_shelf { UnlessInputFault result (H.faults shelf.new ≡ H.faults shelf.old) }
     ensures steady_out { UnlessOutputFault result (O.faults out.new ≡ O.faults out.old) }
-    ensures read { IsSome (I.left input.old) → OnDone result (known (I.left input.new) ≡ []) }
+    ensures read { IsSome (I.left input.old) → OnDone result (told_bytes (I.left input.new) ≡ []) }
 {
     match open_peer(alloc, shelf, words.session, words.player, words.old) {
         Ok(begun) => play_on(begun, input, out),
@@ -118,19 +126,25 @@ fn work<I: Source, O: Sink, H: Shelf>(
 ) -> Status
     ensures told_in { IsSome (I.left input.old) → IsSome (I.left input.new) }
     ensures told_out { IsSome (O.held out.old) → IsSome (O.held out.new) }
-    ensures text { IsSome (I.left input.old) → IsSome (O.held out.old) → H.told shelf.old →
-        Ran line_by_line (known (O.held out.old)) (known (O.held out.new)) (answer_to (map (λ w. w.items) words.now) (H.content shelf.old) (known (I.left input.old))) result }
+    ensures front { IsSome (I.left input.old) → told_bytes (I.left input.old) ≡ read_of (I.left input.old) (I.left input.new) ++ told_bytes (I.left input.new) }
+    ensures text { IsSome (I.left input.old) → H.told shelf.old → (rest : List ℕ) → MayFollow (I.left input.new) rest →
+        Ran (IsSome (O.held out.old)) (told_bytes (O.held out.old)) (told_bytes (O.held out.new))
+        (answer_to (map (λ w. w.items) words.now) (H.content shelf.old) (input_by result (read_of (I.left input.old) (I.left input.new)) rest))
+        (Rose (I.faults input.old) (I.faults input.new)) (Rose (H.faults shelf.old) (H.faults shelf.new) × (input.new ≡ input.old)) result }
+    ensures no_memory { IsSome (I.left input.old) → OnNoMemory result (input.new ≡ input.old) }
     ensures untouched { H.told shelf.old → IsOverAtFirst (command_of (map (λ w. w.items) words.now)) (H.content shelf.old) → input.new ≡ input.old }
     ensures later_in { I.faults input.old ≤ I.faults input.new }
     ensures later_out { O.faults out.old ≤ O.faults out.new }
     ensures later_shelf { H.faults shelf.old ≤ H.faults shelf.new }
     ensures cause { EndCause RunEnds (Rose (I.faults input.old) (I.faults input.new) ⊎ Rose (H.faults shelf.old) (H.faults shelf.new))
         (Rose (O.faults out.old) (O.faults out.new)) result }
+    ensures asked { H.told shelf.old → OnInputFault result (Rose (I.faults input.old) (I.faults input.new)
+        ⊎ ((mid : H) × (name : List ℕ) × IsAsked (map (λ w. w.items) words.now) (H.content shelf.old) name × H.failed mid shelf.new name)) }
     ensures usage { command_of (map (λ w. w.items) words.now) ≡ None → result ≡ Status.Usage }
     ensures steady_in { UnlessInputFault result (I.faults input.new ≡ I.faults input.old) }
     ensures steady_shelf { UnlessInputFault result (H.faults shelf.new ≡ H.faults shelf.old) }
     ensures steady_out { UnlessOutputFault result (O.faults out.new ≡ O.faults out.old) }
-    ensures read { IsSome (I.left input.old) → OnDone result (known (I.left input.new) ≡ []) }
+    ensures read { IsSome (I.left input.old) → OnDone result (told_bytes (I.left input.new) ≡ []) }
 {
     match read_command(words) {
         None => Status::Usage,
@@ -152,49 +166,59 @@ pub fn run<I: Source, O: Sink, H: Shelf>(
     ensures told_in { IsSome (I.left input.old) → IsSome (I.left input.new) }
     ensures told_out { IsSome (O.held out.old) → IsSome (O.held out.new) }
 
-    // What is written: all that is due, or the part of it that the status tells of.
-    ensures text { IsSome (I.left input.old) → IsSome (O.held out.old) → H.told shelf.old →
-        Finished line_by_line (known (O.held out.old)) (known (O.held out.new)) (answer_to (map (λ w. w.items) words.now) (H.content shelf.old) (known (I.left input.old)))
-        (Rose (I.faults input.old) (I.faults input.new) ⊎ Rose (H.faults shelf.old) (H.faults shelf.new)) result }
+    // What is written and how the run ends: as is due for the words, the files and the bytes that were read of the input, whatever
+    // stands behind them. Where the source fails, it is what is due for the whole lines read before. Where the sink fails, it is a
+    // front of that: nothing is written before that was read by which it is due.
+    ensures front { IsSome (I.left input.old) → told_bytes (I.left input.old) ≡ read_of (I.left input.old) (I.left input.new) ++ told_bytes (I.left input.new) }
+    ensures text { IsSome (I.left input.old) → H.told shelf.old → (rest : List ℕ) → MayFollow (I.left input.new) rest →
+        Finished (IsSome (O.held out.old)) (told_bytes (O.held out.old)) (told_bytes (O.held out.new))
+        (answer_to (map (λ w. w.items) words.now) (H.content shelf.old) (input_of AtEnd (read_of (I.left input.old) (I.left input.new) ++ rest)))
+        (answer_to (map (λ w. w.items) words.now) (H.content shelf.old) (input_of AtFault (read_of (I.left input.old) (I.left input.new))))
+        (Rose (I.faults input.old) (I.faults input.new)) (Rose (H.faults shelf.old) (H.faults shelf.new) × (input.new ≡ input.old)) result }
 
-    // Where there is no session, player or log to begin with, or that log has a finding, the input is left alone.
+    // Where there is no session, player or log to begin with, where memory is wanting, and where that log has a finding, the input
+    // is left alone.
     ensures untouched { H.told shelf.old → IsOverAtFirst (command_of (map (λ w. w.items) words.now)) (H.content shelf.old) → input.new ≡ input.old }
+    ensures no_memory { IsSome (I.left input.old) → OnNoMemory result (input.new ≡ input.old) }
 
     // Why each status comes. A fault is answered only where its count rose, and none is passed over, but for a fault of the sink,
-    // which decides.
+    // which decides. A fault of the shelf is one at a file that the words name and whose turn it was.
     ensures later_in { I.faults input.old ≤ I.faults input.new }
     ensures later_out { O.faults out.old ≤ O.faults out.new }
     ensures later_shelf { H.faults shelf.old ≤ H.faults shelf.new }
     ensures cause { EndCause RunEnds (Rose (I.faults input.old) (I.faults input.new) ⊎ Rose (H.faults shelf.old) (H.faults shelf.new))
         (Rose (O.faults out.old) (O.faults out.new)) result }
+    ensures asked { H.told shelf.old → OnInputFault result (Rose (I.faults input.old) (I.faults input.new)
+        ⊎ ((mid : H) × (name : List ℕ) × IsAsked (map (λ w. w.items) words.now) (H.content shelf.old) name × H.failed mid shelf.new name)) }
     ensures usage { command_of (map (λ w. w.items) words.now) ≡ None → (result ≡ Status.Usage) ⊎ (result ≡ Status.OutputFault) }
-    ensures own { IsSome (I.left input.old) → IsSome (O.held out.old) → H.told shelf.old →
-        HasCause (map (λ w. w.items) words.now) (H.content shelf.old) (known (I.left input.old)) result }
+    ensures own { IsSome (I.left input.old) → H.told shelf.old → (rest : List ℕ) → MayFollow (I.left input.new) rest →
+        HasCause (map (λ w. w.items) words.now) (H.content shelf.old) (input_of AtEnd (read_of (I.left input.old) (I.left input.new) ++ rest)) result }
     ensures steady_in { UnlessFault result (I.faults input.new ≡ I.faults input.old) }
     ensures steady_shelf { UnlessFault result (H.faults shelf.new ≡ H.faults shelf.old) }
     ensures steady_out { UnlessOutputFault result (O.faults out.new ≡ O.faults out.old) }
 
     // Where all is good, the log has no finding and nothing fails, only memory can be wanting, and at the end the input was
     // read to its end.
-    ensures complete { IsSome (I.left input.old) → IsSome (O.held out.old) → H.told shelf.old → (player : ℕ) → (begins : Beginning) →
+    ensures complete { IsSome (I.left input.old) → H.told shelf.old → (player : ℕ) → (begins : Beginning) →
         IsSet (map (λ w. w.items) words.now) (H.content shelf.old) player begins →
-        bad_line 0 (lines_of (known (I.left input.old))) ≡ None →
-        IsTrue (is_clean begins.game (drive_log begins.game player begins.first (known (I.left input.old)))) →
+        bad_line 0 (lines_of (told_bytes (I.left input.old))) ≡ None →
+        IsTrue (is_clean begins.game (drive_log begins.game player begins.first (input_of AtEnd (told_bytes (I.left input.old))))) →
         ¬ Rose (I.faults input.old) (I.faults input.new) →
         ¬ Rose (H.faults shelf.old) (H.faults shelf.new) →
         ¬ Rose (O.faults out.old) (O.faults out.new) →
         (result ≡ Status.Done) ⊎ (result ≡ Status.NoMemory) }
-    ensures read { IsSome (I.left input.old) → OnDone result (known (I.left input.new) ≡ []) }
+    ensures read { IsSome (I.left input.old) → OnDone result (told_bytes (I.left input.new) ≡ []) }
 
-    // Laws on the body of which `text` speaks: it tells a log, behind the one that the run begins with, which is that of the
-    // protocol's steps that the lines of the input bring, their bytes in whatever pieces. In that log each reveal made stands
-    // behind a commitment received from every player who meets, and each move accepted of another player opens the digest held.
+    // Laws on the answers of which `text` speaks, whatever the input: the body tells a log, behind the one that the run begins with,
+    // which is that of the protocol's steps that the lines of the input bring, their bytes in whatever pieces. In that log each reveal
+    // made stands behind a commitment received from every player who meets, and each move accepted of another player opens the
+    // digest held.
     ensures runs { DrivesAreRuns }
     ensures streams { LinesAreOneStream }
-    ensures tells { (player : ℕ) → (begins : Beginning) → IsSet (map (λ w. w.items) words.now) (H.content shelf.old) player begins →
-        TellsRun player begins (drive_log begins.game player begins.first (known (I.left input.old))) (answer_to (map (λ w. w.items) words.now) (H.content shelf.old) (known (I.left input.old))).body }
-    ensures fair { (player : ℕ) → (begins : Beginning) → IsSet (map (λ w. w.items) words.now) (H.content shelf.old) player begins →
-        IsFairPlay begins.game player (drive_log begins.game player begins.first (known (I.left input.old))) }
+    ensures tells { (input : Input) → (player : ℕ) → (begins : Beginning) → IsSet (map (λ w. w.items) words.now) (H.content shelf.old) player begins →
+        TellsRun player begins (drive_log begins.game player begins.first input) (answer_to (map (λ w. w.items) words.now) (H.content shelf.old) input).body }
+    ensures fair { (input : Input) → (player : ℕ) → (begins : Beginning) → IsSet (map (λ w. w.items) words.now) (H.content shelf.old) player begins →
+        IsFairPlay begins.game player (drive_log begins.game player begins.first input) }
 {
     let status = work(alloc, words, input, out, shelf);
     refuse(status, out)

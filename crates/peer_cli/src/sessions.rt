@@ -8,7 +8,7 @@ ghost use Rattle.definitions.specs.World.{players_of};
 ghost use Rattle.peer_cli.specs.Ends.{SessionEnds, StartEnds, LogEnds};
 ghost use Rattle.old_log.specs.Old.{old_fault};
 ghost use Rattle.peer_cli.specs.Games as G;
-ghost use Rattle.peer_cli.specs.Games.{IsDue, IsStartFor};
+ghost use Rattle.peer_cli.specs.Games.{IsDue, IsRead, IsStartFor, OnShelfFault};
 
 use definitions::PlayerId;
 use grid_world::{Session, SessionFault, read_session};
@@ -44,6 +44,7 @@ fn open_session<H: Shelf>(alloc: Global, shelf: &mut H, name: &[u8]) -> Result<S
     ensures keeps { H.told shelf.old → (n : List ℕ) → H.content shelf.new n ≡ H.content shelf.old n }
     ensures later { H.faults shelf.old ≤ H.faults shelf.new }
     ensures cause { StartCause SessionEnds (Rose (H.faults shelf.old) (H.faults shelf.new)) result }
+    ensures asked { OnShelfFault result ((mid : H) × H.failed mid shelf.new name.now) }
     ensures steady { StartSteady result (H.faults shelf.new ≡ H.faults shelf.old) }
 {
     match read_front(alloc, shelf, name, FRONT) {
@@ -99,6 +100,7 @@ fn begin_with_file<H: Shelf>(
     ensures due { H.told shelf.old → IsStartFor player (G.begun player session.now (Some (H.content shelf.old name.now))) result }
     ensures later { H.faults shelf.old ≤ H.faults shelf.new }
     ensures cause { StartCause LogEnds (Rose (H.faults shelf.old) (H.faults shelf.new)) result }
+    ensures asked { OnShelfFault result ((mid : H) × H.failed mid shelf.new name.now) }
     ensures steady { StartSteady result (H.faults shelf.new ≡ H.faults shelf.old) }
 {
     match read_front(alloc, shelf, name, LOG_FRONT) {
@@ -120,6 +122,7 @@ fn begin<H: Shelf>(
         IsStartFor player (G.with_log player (G.with_player player (Ok session.now)) (option_map (λ name. H.content shelf.old name.now) old.entry)) result }
     ensures later { H.faults shelf.old ≤ H.faults shelf.new }
     ensures cause { StartCause StartEnds (Rose (H.faults shelf.old) (H.faults shelf.new)) result }
+    ensures asked { OnShelfFault result ((mid : H) × (name : List ℕ) × (option_map (λ n. n.now) old.entry ≡ Some name) × (player < players_of session.now) × H.failed mid shelf.new name) }
     ensures steady { StartSteady result (H.faults shelf.new ≡ H.faults shelf.old) }
 {
     if player >= session.players() {
@@ -143,6 +146,7 @@ pub(crate) fn open_peer<H: Shelf>(
         IsStartFor player (G.beginning_for player (H.content shelf.old name.now) (option_map (λ name. H.content shelf.old name.now) old.entry)) result }
     ensures later { H.faults shelf.old ≤ H.faults shelf.new }
     ensures cause { StartCause StartEnds (Rose (H.faults shelf.old) (H.faults shelf.new)) result }
+    ensures asked { H.told shelf.old → OnShelfFault result ((mid : H) × (n : List ℕ) × IsRead name.now player (option_map (λ n. n.now) old.entry) (H.content shelf.old) n × H.failed mid shelf.new n) }
     ensures steady { StartSteady result (H.faults shelf.new ≡ H.faults shelf.old) }
 {
     match open_session(alloc, shelf, name) {

@@ -11,7 +11,7 @@ use std::str::from_utf8;
 
 /// The command to drive: the session's file, the player, and the file of a log to go on from, if one is named.
 #[derive(Clone, Copy)]
-pub(crate) struct Driving<'a> {
+pub(crate) struct DriveWords<'a> {
     pub(crate) session: &'a [u8],
     pub(crate) player: PlayerId,
     pub(crate) old: Option<&'a [u8]>,
@@ -59,7 +59,7 @@ fn read_driving<'a>(
     session: &'a [u8],
     player: &[u8],
     old: Option<&'a [u8]>,
-) -> Option<Driving<'a>>
+) -> Option<DriveWords<'a>>
     ensures { option_map (λ c. W.Drive c.session.now c.player (option_map (λ o. o.now) c.old)) result ≡
         W.driving_words name.now session.now player.now (option_map (λ o. o.now) old.entry) }
 {
@@ -67,7 +67,7 @@ fn read_driving<'a>(
         return None;
     }
     let player = read_number(15, player)?;
-    Some(Driving {
+    Some(DriveWords {
         session,
         player: player as u8,
         old,
@@ -75,7 +75,7 @@ fn read_driving<'a>(
 }
 
 /// The command that the words are.
-fn read_words(words: &[Vec<u8>]) -> Option<Driving<'_>>
+fn read_words(words: &[Vec<u8>]) -> Option<DriveWords<'_>>
     ensures { option_map (λ c. W.Drive c.session.now c.player (option_map (λ o. o.now) c.old)) result ≡ W.command_in (map (λ w. w.items) words.now) }
 {
     match words {
@@ -97,7 +97,7 @@ fn read_words(words: &[Vec<u8>]) -> Option<Driving<'_>>
 
 /// The command that the program's words are.
 #[tactic(auto, unfolding(crate::specs::Words::command_of))]
-pub(crate) fn read_command(words: &[Vec<u8>]) -> Option<Driving<'_>>
+pub(crate) fn read_command(words: &[Vec<u8>]) -> Option<DriveWords<'_>>
     ensures { option_map (λ c. W.Drive c.session.now c.player (option_map (λ o. o.now) c.old)) result ≡ W.command_of (map (λ w. w.items) words.now) }
 {
     if are_words(words) {

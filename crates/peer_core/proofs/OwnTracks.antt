@@ -110,11 +110,6 @@ own_cell_open game me t h a i o le =
 pub ahead : (game : Game) → IsSession game → 1 ≤ game.ahead
 ahead game is = let one = is.ahead in omega arith
 
--- a test for both holds of the first
-open_inside : (i w : Bool) → (i && w) ≡ true → i ≡ true
-open_inside true w h = refl
-open_inside false w h = h
-
 -- the track that is known of a player stands on an open cell
 pub known_open : (game : Game) (me q : ℕ) (h : List Entry) → IsSession game → q < players_of game → is_open game.grid (track_after game q (known game me h q).moves).at ≡ true
 unfolding known AreKnownLegal

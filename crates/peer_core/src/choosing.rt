@@ -55,8 +55,9 @@ pub(crate) fn caught_in(answer: &GotAnswer) -> Option<Finding>
     }
 }
 
-/// Whether the frame that is answered so is in the log.
-pub(crate) fn is_logged(answer: &GotAnswer) -> bool
+/// Whether a frame that the peer answered so stands in its log by this answer. One that was the same as a frame before, too far
+/// ahead, of nobody else, or came behind a finding doesn't.
+pub fn is_logged(answer: &GotAnswer) -> bool
     ensures { result ≡ C.is_logged answer.now }
 {
     matches!(

@@ -15,6 +15,7 @@ mod room;
 mod stages;
 mod views;
 
+pub use choosing::is_logged;
 pub use definitions::{Entry, Finding, GotAnswer, Need, OwnFault, Progress, What};
 pub use log_scan::place_of;
 pub use peer::Peer;

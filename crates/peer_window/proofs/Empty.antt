@@ -1,5 +1,5 @@
 -- Empty: a window of which no frame came.
-use Rattle.std.proofs.Common.{◌≡◌, ℕ, zero, suc, ◌+◌, ◌*◌, ◌<◌, ◌≤◌, List, [], ◌++◌, length, refl, Bool, true, false, sym, ◌∙◌, ap, subst, arith, Option, Some, None}
+use Rattle.std.proofs.Common.{◌≡◌, ℕ, zero, suc, ◌+◌, ◌*◌, ◌<◌, ◌≤◌, List, [], ◌++◌, length, refl, Bool, true, false, sym, ◌∙◌, ap, arith, Option, Some, None}
 use Rattle.std.specs.Prelude.{min, nat_lt, if◌then◌else◌}
 use Rattle.std.specs.List.{range_with_len}
 use Rattle.std.specs.Option.{option_or}
@@ -14,7 +14,7 @@ use Rattle.definitions.specs.Held.{Known, known_to, next_known}
 use Rattle.peer_window.specs.declared.received.Received.{Received}
 use Rattle.peer_window.specs.Clashes.{clash_among, clash_in, first_clash}
 use Rattle.peer_window.specs.Slots.{AreSlots, digests_to, frames_in, in_order, moves_to, shown, slot}
-use Rattle.peer_window.specs.Windows.{AreParts, IsWindow, seen_of}
+use Rattle.peer_window.specs.Windows.{IsWindow, seen_of}
 
 abbrev no_slots : ℕ → List (Option Received)
 no_slots n = replicate n None
@@ -63,12 +63,6 @@ empty_slots q n few =
       within = omega arith;
       few = omega arith;
     }
-
-pub empty_parts : (q n : ℕ) (ss : List (Option Received)) → ss ≡ replicate n None → n ≤ 8192 → AreParts q ss None false 0
-empty_parts q n ss e few = record { slots = slots; alone = λ h. refl }
-  where
-    slots : AreSlots q ss 0
-    slots = let P : List (Option Received) → Type 0 = λ xs. AreSlots q xs 0 in subst P (sym e) (empty_slots q n few)
 
 pub empty_frames : (n : ℕ) (ss : List (Option Received)) → ss ≡ replicate n None → in_order ss ++ [] ≡ []
 empty_frames n ss e = ap (λ (xs : List (Option Received)). in_order xs ++ []) e ∙ ap (λ (xs : List Received). xs ++ []) (none_in_order n)

@@ -61,15 +61,6 @@ pub or_none : (a b : Option Clash) → option_or a b ≡ None → (a ≡ None) �
 or_none None b h = (refl, h)
 or_none (Some x) b h = absurd (let e : Some x ≡ None = h in cc)
 
--- where the first is none, none is any
-pub kinds_none : (f : Kind → Option Clash) → first_of f kinds ≡ None → (f TwoCommits ≡ None) × (f BadOpening ≡ None) × (f Collision ≡ None) × (f Illegal ≡ None)
-kinds_none f h =
-    let a = or_none (f TwoCommits) _ h in
-    let b = or_none (f BadOpening) _ a.1 in
-    let c = or_none (f Collision) _ b.1 in
-    let d = or_none (f Illegal) _ c.1 in
-    (a.0, b.0, c.0, d.0)
-
 pub range_none : (f : ℕ → Option Clash) (a n i : ℕ) → first_of f (range_with_len a n) ≡ None → a ≤ i → i < a + n → f i ≡ None
 range_none f a zero i h le lt = absurd (omega arith)
 range_none f a (suc n) i h le lt =

@@ -73,10 +73,6 @@ step_revealed game track c r q t d m k before e f g =
 abbrev pub further : Reach → Track → Reach
 further at track = record { next = at.next + 1; track = track }
 
-record StepsOn (game : Game) (q : ℕ) (ss : List (Option Received)) (at : Reach) (track : Track) : Type 0 where
-  reach : IsReach game q ss (further at track)
-  within : at.next < length ss
-
 known_further : (game : Game) (q n : ℕ) (fs : List TurnFrame) (k l : Known) → known_to game q fs n ≡ k → next_known game q fs k ≡ l → known_to game q fs (n + 1) ≡ l
 unfolding known_to
 known_further game q n fs k l e f =

@@ -170,9 +170,6 @@ commits_differ game h r q t d e a b apart =
     ap (λ (x : TurnFrame). digest_eq (digest_of game x) (digest_of game r.frame)) a ∙ ap (λ (x : TurnFrame). digest_eq d (digest_of game x)) b
     ∙ sym (ap (λ (c : Bool). c && (t == t) && digest_eq d e) (eq-eqb q q refl) ∙ ap (λ (c : Bool). c && digest_eq d e) (eq-eqb t t refl)) ∙ frames
 
-clash_parts : (t : ℕ) (kind kind' : Kind) (a a' b : ℕ) → kind ≡ kind' → a ≡ a' → (let x : Clash = record { turn = t; kind = kind; first = a; second = b } in x) ≡ record { turn = t; kind = kind'; first = a'; second = b }
-clash_parts t kind kind' a a' b e f = clash_same _ _ refl e f refl
-
 -- the first clash with a frame that comes beside a different one of its place
 pub rival_first_clash : (game : Game) (q : ℕ) (ss : List (Option Received)) (at : Reach) (r h : Received) → IsSession game → IsHeld game q ss at.next at.track → first_clash game q (in_order ss) ≡ None →
     player_of r.frame ≡ q → place_of r.frame < length ss → slot ss (place_of r.frame) ≡ Some h → frame_eq h.frame r.frame ≡ false →

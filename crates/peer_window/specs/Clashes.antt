@@ -65,10 +65,12 @@ abbrev pub rival_kind : Game → Received → Received → TurnFrame → Kind
 rival_kind game held rival (Commit p t d) = TwoCommits
 rival_kind game held rival (Reveal p t m n) = if same_digest game held rival then Collision else BadOpening
 
+-- the number of the first entry of that pair
 abbrev pub rival_first : Game → Received → Option Received → Received → TurnFrame → ℕ
 rival_first game held other rival (Commit p t d) = held.entry
 rival_first game held other rival (Reveal p t m n) = if same_digest game held rival then held.entry else lower_entry held other
 
+-- the two together
 abbrev pub rival_clash : Game → Received → Option Received → Received → Clash
 rival_clash game held other rival = record {
   turn = turn_of rival.frame;

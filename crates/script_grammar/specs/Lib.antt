@@ -1,3 +1,5 @@
 pub mod Numbers
 pub mod Hexes
 pub mod Grammar
+pub mod Spelling
+pub mod Laws

@@ -13,7 +13,7 @@ use Rattle.session_log.specs.declared.reader.Next.{Next}
 use Rattle.session_log.specs.declared.reader.Next.TheVariants as next
 use Rattle.session_log.specs.Spelling.{entry_text, chained, entry_bytes, entries_bytes, first_chain, log_bytes, FitsEntry}
 use Rattle.session_log.specs.Finding.{entry_at}
-use Rattle.session_log.specs.Reading.{Reading, at_start, Step, owned, ended, step_on, step_behind, next_step, ReadLog, read_on, read_by, read_log}
+use Rattle.session_log.specs.Reading.{LogReading, log_at_start, Step, owned, ended, step_on, step_behind, next_step, ReadLog, read_on, read_by, read_log}
 use Rattle.session_log.specs.Writing.{fresh, all_written}
 use Rattle.session_log.specs.Laws.{AreBytes, chain_behind, StandsThere, EndsSo}
 use Rattle.session_log.proofs.Found.{entry_found, IsFound, found_stands, length-sha256}
@@ -33,7 +33,7 @@ log_written id owner (e ∷ entries) =
 
 -- ---- a log is read
 
-abbrev reading : ℕ → ℕ → List ℕ → Reading
+abbrev reading : ℕ → ℕ → List ℕ → LogReading
 reading me at chain = record { owner = Some me; at = at; chain = chain; said = None }
 
 -- how reading ends
@@ -44,7 +44,7 @@ length-entry_bytes : (chain : List ℕ) (e : Entry) → 35 ≤ length (entry_byt
 length-entry_bytes chain e = omega (arith, length-append (entry_text e) (chained chain (entry_text e)), length-entry_text e, length-sha256 (chain ++ entry_text e))
 
 -- a step that gave an entry, and those behind it
-read_step : (game : Game) (bytes : List ℕ) (most : ℕ) (r s : Reading) (e : Entry) (entries : List Entry) → next_step game bytes r ≡ record { reader = s; answer = next.Entry e } →
+read_step : (game : Game) (bytes : List ℕ) (most : ℕ) (r s : LogReading) (e : Entry) (entries : List Entry) → next_step game bytes r ≡ record { reader = s; answer = next.Entry e } →
     Ends (read_by game bytes most s) entries → Ends (read_by game bytes (suc most) r) (e ∷ entries)
 read_step game bytes most r s e entries step behind =
     let on : Step → ReadLog = λ t. read_on t.answer t.reader (read_by game bytes most t.reader) in
@@ -83,12 +83,12 @@ read_rest game bytes me (e ∷ entries) (suc most) at chain few rest within fits
 
 -- the first entry, behind the owner's byte
 first_is : (game : Game) (me : ℕ) (rest : List ℕ) (f : Found) → me < players_of game → 0 < length rest → entry_at game me (first_chain game.id me) rest ≡ f →
-    next_step game (me ∷ rest) (at_start game.id) ≡ step_on (at_start game.id) me 1 f
+    next_step game (me ∷ rest) (log_at_start game.id) ≡ step_on (log_at_start game.id) me 1 f
 unfolding next_step
 first_is game me [] f lt some e = absurd (omega arith)
 first_is game me (b ∷ rest) f lt some e =
     let t : nat_lt me (players_of game) ≡ true = lt-ltb me (players_of game) lt in
-    rw t (ap (step_on (at_start game.id) me 1) e)
+    rw t (ap (step_on (log_at_start game.id) me 1) e)
 
 pub log_read : (game : Game) (me : ℕ) (entries : List Entry) → me < players_of game → EachIs FitsEntry entries → AreWellFormed game me entries →
     ((read_log game (log_bytes game.id me entries)).entries ≡ entries) × ((read_log game (log_bytes game.id me entries)).reader.said ≡ Some next.End)
@@ -104,7 +104,7 @@ log_read game me (e ∷ entries) lt fits well =
     let stands : entry_at game me chain rest ≡ found.Whole e n (chained chain (entry_text e)) = entry_found game me chain e behind fits.0 well.0 in
     let step = first_is game me rest (found.Whole e n (chained chain (entry_text e))) lt (omega arith) stands in
     let next_rest : drop (1 + n) (me ∷ rest) ≡ behind = sym (drop-drop n 1 (me ∷ rest)) ∙ drop_at (entry_bytes chain e) behind n refl in
-    read_step game (me ∷ rest) (length (me ∷ rest)) (at_start game.id) (reading me (1 + n) (chained chain (entry_text e))) e entries step
+    read_step game (me ∷ rest) (length (me ∷ rest)) (log_at_start game.id) (reading me (1 + n) (chained chain (entry_text e))) e entries step
     (read_rest game (me ∷ rest) me entries (length (me ∷ rest)) (1 + n) (chained chain (entry_text e)) (omega arith) next_rest (omega arith) fits.1 well.1)
 
 -- ---- how reading ends
@@ -112,9 +112,10 @@ log_read game me (e ∷ entries) lt fits well =
 drop_bytes : (n : ℕ) (xs : List ℕ) → AreBytes xs → AreBytes (drop n xs)
 drop_bytes n xs b i = let e = get_or-drop n xs i 0 in let h = b (n + i) in omega arith
 
--- the bytes from a place on are these entries and then a rest, in which this stands
+-- the bytes from a place on are these entries and then more bytes, in which this stands
 record RestStands (game : Game) (me at : ℕ) (chain bytes : List ℕ) (entries : List Entry) (place : ℕ) (f : Found) : Type 0 where
   rest : List ℕ
+  some : 0 < length rest
   bytes_are : bytes ≡ entries_bytes chain entries ++ rest
   place_is : place ≡ at + length (entries_bytes chain entries)
   well_formed : AreWellFormed game me entries
@@ -133,8 +134,8 @@ abbrev HasEnded : Game → ℕ → ℕ → List ℕ → List ℕ → ReadLog →
 HasEnded game me at chain bytes l = (last : Next) × (l.reader.said ≡ Some last) × RestEnds game me at chain bytes l.entries last
 
 -- nothing was read from the place on
-none_read : (game : Game) (me at : ℕ) (chain bytes : List ℕ) (f : Found) → entry_at game me chain bytes ≡ f → RestStands game me at chain bytes [] at f
-none_read game me at chain bytes f e = record { rest = bytes; bytes_are = refl; place_is = sym (add-zero at); well_formed = tt; there = e }
+none_read : (game : Game) (me at : ℕ) (chain bytes : List ℕ) (f : Found) → 0 < length bytes → entry_at game me chain bytes ≡ f → RestStands game me at chain bytes [] at f
+none_read game me at chain bytes f some e = record { rest = bytes; some = some; bytes_are = refl; place_is = sym (add-zero at); well_formed = tt; there = e }
 
 -- an entry in front
 stands_more : (game : Game) (me at : ℕ) (chain bytes : List ℕ) (e : Entry) (count : ℕ) (digest : List ℕ) (entries : List Entry) (place : ℕ) (f : Found) → IsFound game me chain bytes e count digest →
@@ -148,6 +149,7 @@ stands_more game me at chain bytes e count digest entries place f is behind =
     let l = length-append front text in
     record {
       rest = behind.rest;
+      some = behind.some;
       bytes_are = sym (take-append-drop count bytes) ∙ ap (λ xs. xs ++ drop count bytes) (sym is.is_text) ∙ ap (λ xs. front ++ xs) behind.bytes_are ∙
           sym (append_assoc front text behind.rest) ∙ ap (λ xs. (front ++ xs) ++ behind.rest) (sym same);
       place_is = let all : place ≡ at + length (front ++ text) = omega arith in all ∙ ap (λ xs. at + length (front ++ xs)) (sym same);
@@ -168,21 +170,21 @@ ends_more game me at chain bytes e count digest entries (next.BadChain place) is
 ends_more game me at chain bytes e count digest entries (next.BadEntry place) is behind = stands_more game me at chain bytes e count digest entries place found.BadEntry is behind
 
 -- what was read on after a step by what stands there
-found_ends : (game : Game) (log : List ℕ) (me at most : ℕ) (chain bytes : List ℕ) (r : Reading) (f : Found) → r.said ≡ None → entry_at game me chain bytes ≡ f → AreBytes bytes →
+found_ends : (game : Game) (log : List ℕ) (me at most : ℕ) (chain bytes : List ℕ) (r : LogReading) (f : Found) → r.said ≡ None → 0 < length bytes → entry_at game me chain bytes ≡ f → AreBytes bytes →
     ((e : Entry) (count : ℕ) (digest : List ℕ) → 0 < count → count ≤ length bytes →
     HasEnded game me (at + count) digest (drop count bytes) (read_by game log most (reading me (at + count) digest))) →
     let s : Step = step_on r me at f in
     HasEnded game me at chain bytes (read_on s.answer s.reader (read_by game log most s.reader))
-found_ends game log me at most chain bytes r found.Torn none e b ih = (next.Torn at, refl, none_read game me at chain bytes found.Torn e)
-found_ends game log me at most chain bytes r found.BadChain none e b ih = (next.BadChain at, refl, none_read game me at chain bytes found.BadChain e)
-found_ends game log me at most chain bytes r found.BadEntry none e b ih = (next.BadEntry at, refl, none_read game me at chain bytes found.BadEntry e)
-found_ends game log me at most chain bytes r (found.Whole x count digest) none e b ih =
+found_ends game log me at most chain bytes r found.Torn none some e b ih = (next.Torn at, refl, none_read game me at chain bytes found.Torn some e)
+found_ends game log me at most chain bytes r found.BadChain none some e b ih = (next.BadChain at, refl, none_read game me at chain bytes found.BadChain some e)
+found_ends game log me at most chain bytes r found.BadEntry none some e b ih = (next.BadEntry at, refl, none_read game me at chain bytes found.BadEntry some e)
+found_ends game log me at most chain bytes r (found.Whole x count digest) none some e b ih =
     let is = found_stands game me chain bytes x count digest b e in
-    let s : Reading = record { owner = Some me; at = at + count; chain = digest; said = r.said } in
+    let s : LogReading = record { owner = Some me; at = at + count; chain = digest; said = r.said } in
     let same : s ≡ reading me (at + count) digest = ap (λ (o : Option Next). record { owner = Some me; at = at + count; chain = digest; said = o }) none in
     let more = ih x count digest is.some is.fits in
     let l : ReadLog = read_by game log most (reading me (at + count) digest) in
-    subst (λ (q : Reading). HasEnded game me at chain bytes (read_on (next.Entry x) q (read_by game log most q))) (sym same)
+    subst (λ (q : LogReading). HasEnded game me at chain bytes (read_on (next.Entry x) q (read_by game log most q))) (sym same)
     (more.0, more.1, ends_more game me at chain bytes x count digest l.entries more.0 is more.2)
 
 -- a step from a place on, and what was read on behind it
@@ -194,7 +196,7 @@ rest_by most game log me at chain (inl lt) b within few ih =
     let f : Found = entry_at game me chain (drop at log) in
     let step = further_is game log me at chain f lt refl in
     subst (λ (t : Step). HasEnded game me at chain (drop at log) (on t)) (sym step)
-    (found_ends game log me at most chain (drop at log) (reading me at chain) f refl refl (drop_bytes at log b)
+    (found_ends game log me at most chain (drop at log) (reading me at chain) f refl (omega (arith, length-drop at log)) refl (drop_bytes at log b)
     (λ e count digest some fits.
     let l = length-drop at log in
     let r = ih (at + count) digest (omega arith) (omega arith) in
@@ -214,13 +216,13 @@ rest_ends (suc most) game log me at chain b within few =
 log_stands : (game : Game) (me : ℕ) (bytes : List ℕ) (entries : List Entry) (place : ℕ) (f : Found) → me < players_of game → RestStands game me 1 (first_chain game.id me) bytes entries place f →
     StandsThere game (me ∷ bytes) entries place f
 log_stands game me bytes entries place f known r =
-    record { me = me; known = known; rest = r.rest; bytes_are = ap (λ xs. me ∷ xs) r.bytes_are; place_is = r.place_is; well_formed = r.well_formed; there = r.there }
+    record { me = me; known = known; rest = r.rest; some = r.some; bytes_are = ap (λ xs. me ∷ xs) r.bytes_are; place_is = r.place_is; well_formed = r.well_formed; there = r.there }
 
 log_ends_by : (game : Game) (me : ℕ) (bytes : List ℕ) (entries : List Entry) (last : Next) → me < players_of game → 0 < length bytes → RestEnds game me 1 (first_chain game.id me) bytes entries last →
     EndsSo game (me ∷ bytes) entries last
 log_ends_by game me bytes entries (next.Entry e) known some r = r
 log_ends_by game me bytes [] next.End known some r = absurd (let n = ap length r.0 in omega arith)
-log_ends_by game me bytes (e ∷ entries) next.End known some r = record { me = me; bytes_are = ap (λ xs. me ∷ xs) r.0; well_formed = r.1 }
+log_ends_by game me bytes (e ∷ entries) next.End known some r = record { me = me; known = λ some. known; bytes_are = ap (λ xs. me ∷ xs) r.0; well_formed = r.1 }
 log_ends_by game me bytes entries (next.Torn place) known some r = inl (log_stands game me bytes entries place found.Torn known r)
 log_ends_by game me bytes entries (next.BadChain place) known some r = log_stands game me bytes entries place found.BadChain known r
 log_ends_by game me bytes entries (next.BadEntry place) known some r = inl (log_stands game me bytes entries place found.BadEntry known r)
@@ -230,7 +232,7 @@ abbrev LogHasEnded : Game → List ℕ → ReadLog → Type 0
 LogHasEnded game bytes l = (last : Next) × (l.reader.said ≡ Some last) × EndsSo game bytes l.entries last
 
 first_ends : (game : Game) (me : ℕ) (rest : List ℕ) (most : ℕ) → AreBytes (me ∷ rest) → length (me ∷ rest) < 1 + suc most → (b : Bool) → nat_lt me (players_of game) ≡ b →
-    let s : Step = cond b (step_behind game (at_start game.id) me rest) (ended (owned (at_start game.id) me) (next.BadEntry 0)) in
+    let s : Step = cond b (step_behind game (log_at_start game.id) me rest) (ended (owned (log_at_start game.id) me) (next.BadEntry 0)) in
     LogHasEnded game (me ∷ rest) (read_on s.answer s.reader (read_by game (me ∷ rest) most s.reader))
 first_ends game me rest most bytes few false t = (next.BadEntry 0, refl, inr (me, rest, ltb-false me (players_of game) t, refl, refl, refl))
 first_ends game me [] most bytes few true t = (next.Torn 0, refl, inr (me, ltb-true me (players_of game) t, refl, refl, refl))
@@ -238,10 +240,10 @@ first_ends game me (x ∷ rest) most bytes few true t =
     let log : List ℕ = me ∷ x ∷ rest in
     let chain : List ℕ = first_chain game.id me in
     let f : Found = entry_at game me chain (x ∷ rest) in
-    let s : Step = step_on (at_start game.id) me 1 f in
+    let s : Step = step_on (log_at_start game.id) me 1 f in
     let l : ReadLog = read_on s.answer s.reader (read_by game log most s.reader) in
     let r : HasEnded game me 1 chain (x ∷ rest) l =
-    found_ends game log me 1 most chain (x ∷ rest) (at_start game.id) f refl refl (λ i. bytes (suc i))
+    found_ends game log me 1 most chain (x ∷ rest) (log_at_start game.id) f refl (omega arith) refl (λ i. bytes (suc i))
     (λ e count digest some fits.
     let q = rest_ends most game log me (1 + count) digest bytes (omega arith) (omega arith) in
     subst (λ (xs : List ℕ). HasEnded game me (1 + count) digest xs (read_by game log most (reading me (1 + count) digest))) (sym (drop-drop count 1 log)) q) in
@@ -249,5 +251,5 @@ first_ends game me (x ∷ rest) most bytes few true t =
 
 pub log_ends : (game : Game) (bytes : List ℕ) → AreBytes bytes → (last : Next) × ((read_log game bytes).reader.said ≡ Some last) × EndsSo game bytes (read_log game bytes).entries last
 unfolding read_log next_step
-log_ends game [] b = (next.End, refl, record { me = 0; bytes_are = refl; well_formed = tt })
+log_ends game [] b = (next.End, refl, record { me = 0; known = λ some. absurd (omega arith); bytes_are = refl; well_formed = tt })
 log_ends game (me ∷ rest) b = first_ends game me rest (length (me ∷ rest)) b (omega arith) (nat_lt me (players_of game)) refl

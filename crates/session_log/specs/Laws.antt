@@ -34,9 +34,10 @@ abbrev pub LogsAreRead : Type 0
 LogsAreRead = (game : Game) (me : ℕ) (entries : List Entry) → me < players_of game → EachIs FitsEntry entries → AreWellFormed game me entries →
     ((read_log game (log_bytes game.id me entries)).entries ≡ entries) × ((read_log game (log_bytes game.id me entries)).reader.said ≡ Some next.End)
 
--- a log that is read to its end is the log of its owner with the entries that were read, and the session allows it
+-- a log that is read to its end is the log of the entries that were read, which the session allows, and its owner, if it has one, is a player
 pub record IsLogOf (game : Game) (bytes : List ℕ) (entries : List Entry) : Type 0 where
   pub me : ℕ
+  pub known : 0 < length bytes → me < players_of game
   pub bytes_are : bytes ≡ log_bytes game.id me entries
   pub well_formed : AreWellFormed game me entries
 
@@ -45,11 +46,12 @@ abbrev pub chain_behind : List ℕ → List Entry → List ℕ
 chain_behind chain [] = chain
 chain_behind chain (e ∷ entries) = chain_behind (chained chain (entry_text e)) entries
 
--- behind the owner's byte and these entries, which the session allows, this stands at this place
+-- behind the owner's byte and these entries, which the session allows, there are more bytes, and this stands at this place
 pub record StandsThere (game : Game) (bytes : List ℕ) (entries : List Entry) (place : ℕ) (f : Found) : Type 0 where
   pub me : ℕ
   pub known : me < players_of game
   pub rest : List ℕ
+  pub some : 0 < length rest
   pub bytes_are : bytes ≡ me ∷ (entries_bytes (first_chain game.id me) entries ++ rest)
   pub place_is : place ≡ 1 + length (entries_bytes (first_chain game.id me) entries)
   pub well_formed : AreWellFormed game me entries

@@ -11,31 +11,31 @@ use Rattle.session_log.specs.Finding.{entry_at}
 
 -- a reader: the owner's byte, once it was read, the place where the next entry begins, the digest before it (or the
 -- session's id), and the last answer, once it was given
-pub record Reading : Type 0 where
+pub record LogReading : Type 0 where
   pub owner : Option ℕ
   pub at : ℕ
   pub chain : List ℕ
   pub said : Option Next
 
 -- a reader that read nothing yet
-abbrev pub at_start : List ℕ → Reading
-at_start id = record { owner = None; at = 0; chain = id; said = None }
+abbrev pub log_at_start : List ℕ → LogReading
+log_at_start id = record { owner = None; at = 0; chain = id; said = None }
 
 -- a reader and what it answers
 pub record Step : Type 0 where
-  pub reader : Reading
+  pub reader : LogReading
   pub answer : Next
 
 -- the reader with this owner
-abbrev pub owned : Reading → ℕ → Reading
+abbrev pub owned : LogReading → ℕ → LogReading
 owned r me = record { owner = Some me; at = r.at; chain = r.chain; said = r.said }
 
 -- the last answer
-abbrev pub ended : Reading → Next → Step
+abbrev pub ended : LogReading → Next → Step
 ended r answer = record { reader = record { owner = r.owner; at = r.at; chain = r.chain; said = Some answer }; answer = answer }
 
 -- the step on what stands where the owner's next entry begins, at this place
-abbrev pub step_on : Reading → ℕ → ℕ → Found → Step
+abbrev pub step_on : LogReading → ℕ → ℕ → Found → Step
 step_on r me at found.Torn = ended (owned r me) (next.Torn at)
 step_on r me at found.BadChain = ended (owned r me) (next.BadChain at)
 step_on r me at found.BadEntry = ended (owned r me) (next.BadEntry at)
@@ -43,38 +43,38 @@ step_on r me at (found.Whole e count digest) =
     record { reader = record { owner = Some me; at = at + count; chain = digest; said = r.said }; answer = next.Entry e }
 
 -- the step behind the owner's byte, where a player has this number
-abbrev pub step_behind : Game → Reading → ℕ → List ℕ → Step
+abbrev pub step_behind : Game → LogReading → ℕ → List ℕ → Step
 step_behind game r me [] = ended (owned r me) (next.Torn 0)
 step_behind game r me (b ∷ bytes) = step_on r me 1 (entry_at game me (first_chain r.chain me) (b ∷ bytes))
 
 -- the step where nothing was read yet
-abbrev pub first_step : Game → Reading → List ℕ → Step
+abbrev pub first_step : Game → LogReading → List ℕ → Step
 first_step game r [] = ended r next.End
 first_step game r (me ∷ bytes) = if nat_lt me (players_of game) then step_behind game r me bytes else ended (owned r me) (next.BadEntry 0)
 
 -- the step where an entry was read
-abbrev pub further_step : Game → Reading → ℕ → List ℕ → Step
+abbrev pub further_step : Game → LogReading → ℕ → List ℕ → Step
 further_step game r me bytes = if nat_le (length bytes) r.at then ended r next.End else step_on r me r.at (entry_at game me r.chain (drop r.at bytes))
 
-abbrev pub step_by : Game → Reading → Option ℕ → List ℕ → Step
+abbrev pub step_by : Game → LogReading → Option ℕ → List ℕ → Step
 step_by game r None bytes = first_step game r bytes
 step_by game r (Some me) bytes = further_step game r me bytes
 
-abbrev pub step_unless : Option Next → Reading → Step → Step
+abbrev pub step_unless : Option Next → LogReading → Step → Step
 step_unless None r s = s
 step_unless (Some answer) r s = record { reader = r; answer = answer }
 
 -- the step of a reader of this log: the last answer stays
-unfoldable pub next_step : Game → List ℕ → Reading → Step
+unfoldable pub next_step : Game → List ℕ → LogReading → Step
 next_step game bytes r = step_unless r.said r (step_by game r r.owner bytes)
 
 -- the entries of a log, and how reading them ended
 pub record ReadLog : Type 0 where
   pub entries : List Entry
-  pub reader : Reading
+  pub reader : LogReading
 
 -- an entry in front of those that are read on
-abbrev pub read_on : Next → Reading → ReadLog → ReadLog
+abbrev pub read_on : Next → LogReading → ReadLog → ReadLog
 read_on (next.Entry e) r behind = record { entries = e ∷ behind.entries; reader = behind.reader }
 read_on next.End r behind = record { entries = []; reader = r }
 read_on (next.Torn at) r behind = record { entries = []; reader = r }
@@ -82,11 +82,11 @@ read_on (next.BadChain at) r behind = record { entries = []; reader = r }
 read_on (next.BadEntry at) r behind = record { entries = []; reader = r }
 
 -- what a reader reads with so many steps at most
-abbrev pub read_by : Game → List ℕ → ℕ → Reading → ReadLog
+abbrev pub read_by : Game → List ℕ → ℕ → LogReading → ReadLog
 read_by game bytes zero r = record { entries = []; reader = r }
 read_by game bytes (suc most) r =
     read_on (next_step game bytes r).answer (next_step game bytes r).reader (read_by game bytes most (next_step game bytes r).reader)
 
 -- all of a log: each entry has a byte at least, so no more steps are needed
 unfoldable pub read_log : Game → List ℕ → ReadLog
-read_log game bytes = read_by game bytes (suc (length bytes)) (at_start game.id)
+read_log game bytes = read_by game bytes (suc (length bytes)) (log_at_start game.id)

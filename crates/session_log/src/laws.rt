@@ -14,8 +14,9 @@ pub fn writers_write_logs()
 {}
 
 /// The log of entries that the session allows is read as these entries, and then its end. Reading any bytes comes to a last
-/// answer. Where it is the end, the bytes are the log of the entries that were read, and the session allows them. Where it
-/// is a fault, the bytes begin with the log of the entries that were read, and the fault stands behind them.
+/// answer. Where it is the end, the bytes are the log of the entries that were read, the session allows them, and the owner
+/// is one of its players. Where it is a fault, the bytes begin with the log of the entries that were read, and the fault
+/// stands in the bytes behind them, or else the owner's byte is no player's or stands alone.
 pub fn logs_are_read()
     ensures read { LogsAreRead }
     ensures ends { LogsEndSo }

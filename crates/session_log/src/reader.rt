@@ -33,9 +33,9 @@ pub struct LogReader {
 }
 
 impl Model for LogReader {
-    ghost use Rattle.session_log.specs.Reading.{Reading};
+    ghost use Rattle.session_log.specs.Reading.{LogReading};
 
-    ghost Value = { Reading };
+    ghost Value = { LogReading };
 
     ghost view = { λ r. record { owner = r.owner; at = r.at; chain = r.chain; said = r.said } };
 }
@@ -47,7 +47,7 @@ impl LogReader {
 
     /// A reader of a log of the session, of which it read nothing yet.
     pub fn new(session: &Session) -> LogReader
-        ensures { result ≡ R.at_start session.now.id }
+        ensures { result ≡ R.log_at_start session.now.id }
     {
         LogReader {
             owner: None,

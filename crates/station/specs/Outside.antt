@@ -6,5 +6,5 @@ abbrev pub Rose : ℕ → ℕ → Type 0
 Rose before now = min (before + 1) (2 ^ 64 - 1) ≤ now
 
 -- the bytes that are told, and no bytes where none are
-abbrev pub known : Option (List ℕ) → List ℕ
-known told = unwrap_or told []
+abbrev pub told_bytes : Option (List ℕ) → List ℕ
+told_bytes told = unwrap_or told []

@@ -49,6 +49,10 @@ impl Shelf for MemoryShelf {
 
     ghost faults = { λ s. s.plan.faults };
 
+    ghost use Rattle.station.specs.Memory.{IsFailedCall};
+
+    ghost failed = { λ before now name. IsFailedCall before now name };
+
     /// Fails exactly at the numbers that it was told and for a name that isn't there, and else reads as many bytes as
     /// fit.
     fn read_at(&mut self, name: &[u8], at: u64, buf: &mut [u8]) -> Pull

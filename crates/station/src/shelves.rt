@@ -17,6 +17,9 @@ pub trait Shelf {
     /// How many calls failed so far. It never falls, and stays at 2^64 - 1 once it is there.
     ghost faults: { Self → ℕ };
 
+    /// A call of `read_at` for this name failed, and led from the one shelf to the other.
+    ghost failed: { Self → Self → List ℕ → Type 0 };
+
     /// Reads the bytes of that name from the place `at` on. A name that isn't there is a fault.
     fn read_at(&mut self, name: &[u8], at: u64, buf: &mut [u8]) -> Pull
         requires { 0 < length buf.old }
@@ -28,5 +31,6 @@ pub trait Shelf {
         // The count rises exactly where the call fails.
         ensures later { faults self.old ≤ faults self.new }
         ensures cause { OnPullFailed result (Rose (faults self.old) (faults self.new)) }
+        ensures asked { OnPullFailed result (failed self.old self.new name.now) }
         ensures steady { OnPulled result (faults self.new ≡ faults self.old) };
 }

@@ -1,7 +1,7 @@
 //! Bytes to be written.
 
 ghost use Rattle.std.specs.Prelude.{◌≡◌, ◌<◌, ◌≤◌, IsSome, Option, List, ℕ, length};
-ghost use Rattle.station.specs.Outside.{known, Rose};
+ghost use Rattle.station.specs.Outside.{told_bytes, Rose};
 ghost use Rattle.station.specs.Pushes.{Pushed, GivesWithin, OnPushFailed, OnPushed};
 
 /// What a sink answers.
@@ -26,7 +26,7 @@ pub trait Sink {
         requires { 0 < length bytes.now }
         ensures within { GivesWithin result bytes.now }
         ensures told { IsSome (held self.old) → IsSome (held self.new) }
-        ensures bytes { IsSome (held self.old) → Pushed (known (held self.old)) (known (held self.new)) result bytes.now }
+        ensures bytes { IsSome (held self.old) → Pushed (told_bytes (held self.old)) (told_bytes (held self.new)) result bytes.now }
 
         // The count rises exactly where the call fails.
         ensures later { faults self.old ≤ faults self.new }

@@ -1,7 +1,7 @@
 //! Bytes to be read.
 
 ghost use Rattle.std.specs.Prelude.{◌≡◌, ◌<◌, ◌≤◌, IsSome, Option, List, ℕ, length};
-ghost use Rattle.station.specs.Outside.{known, Rose};
+ghost use Rattle.station.specs.Outside.{told_bytes, Rose};
 ghost use Rattle.station.specs.Pulls.{Pulled, TakesWithin, OnPullFailed, OnPulled};
 
 /// What a source or a shelf answers.
@@ -9,9 +9,9 @@ ghost use Rattle.station.specs.Pulls.{Pulled, TakesWithin, OnPullFailed, OnPulle
 pub enum Pull {
     /// So many bytes, at least 1, now stand at the front of the buffer. The rest of the buffer may be anything.
     Took(usize),
-    /// Nothing is left.
+    /// Nothing is left. The buffer may be anything.
     Ended,
-    /// The call failed, and the count of faults rose.
+    /// The call failed, and the count of faults rose. The buffer may be anything.
     Failed,
 }
 
@@ -28,7 +28,7 @@ pub trait Source {
         requires { 0 < length buf.old }
         ensures within { TakesWithin result buf.new }
         ensures told { IsSome (left self.old) → IsSome (left self.new) }
-        ensures bytes { IsSome (left self.old) → Pulled (known (left self.old)) (known (left self.new)) result buf.new }
+        ensures bytes { IsSome (left self.old) → Pulled (told_bytes (left self.old)) (told_bytes (left self.new)) result buf.new }
 
         // The count rises exactly where the call fails.
         ensures later { faults self.old ≤ faults self.new }

@@ -125,6 +125,8 @@ impl Shelf for SureShelf {
 
     ghost faults = { λ _. 0 };
 
+    ghost failed = { λ _ _ _. ⊥ };
+
     /// Reads as many bytes as fit, and never fails.
     fn read_at(&mut self, name: &[u8], at: u64, buf: &mut [u8]) -> Pull
         requires { 0 < length buf.old }

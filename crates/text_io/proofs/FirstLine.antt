@@ -36,20 +36,19 @@ pub starts_longer : (p : List ℕ) (b : ℕ) (rest : List ℕ) → IsOpen p → 
 starts_longer [] b rest h n = rw (no_lf b rest n) (onto-some b (lines_of rest))
 starts_longer (c ∷ cs) b rest h n = rw (no_lf c (cs ++ b ∷ rest) h.0) (onto-longer (length cs) c (lines_of (cs ++ b ∷ rest)) (starts_longer cs b rest h.1 n))
 
--- The ways on, with `p` read of the line: an LF, the end, one byte too many, and one byte more.
-pub ends_line : (all p unread now : List ℕ) (b : ℕ) → all ≡ p ++ unread → unread ≡ b ∷ now → b ≡ 10 → IsOpen p → lines_of all ≡ p ∷ lines_of now
-ends_line all p unread now b e f t h = ap lines_of (e ∙ ap (λ u. p ++ u) (f ∙ ap (λ x. x ∷ now) t)) ∙ first_whole p now h
+-- The ways on, where `p` is the line so far: what was read first and what was read by now is `p` and what is held, and one byte
+-- more or none is read.
+pub through : (first read held more p next all : List ℕ) → first ++ read ≡ p ++ held → held ++ more ≡ next → all ≡ read ++ more → first ++ all ≡ p ++ next
+through first read held more p next all e f a =
+    ap (λ x. first ++ x) a ∙ sym (append_assoc first read more) ∙ ap (λ x. x ++ more) e ∙ append_assoc p held more ∙ ap (λ x. p ++ x) f
 
-pub ends_text : (all p unread now : List ℕ) → all ≡ p ++ unread → unread ≡ [] → now ≡ [] → 0 < length p → IsOpen p → lines_of all ≡ p ∷ lines_of now
-ends_text all p unread now e f n l h = ap lines_of (e ∙ ap (λ u. p ++ u) f ∙ append-nil p) ∙ last_open p l h ∙ ap (λ u. p ∷ lines_of u) (sym n)
+pub through_none : (first read held more p all : List ℕ) → first ++ read ≡ p ++ held → held ++ more ≡ [] → all ≡ read ++ more → first ++ all ≡ p
+through_none first read held more p all e f a = through first read held more p [] all e f a ∙ append-nil p
 
-pub overlong : (all p unread now : List ℕ) (b n : ℕ) → all ≡ p ++ unread → unread ≡ b ∷ now → b ≢ 10 → length p ≡ n → IsOpen p → StartsLonger n (lines_of all)
-overlong all p unread now b n e f t l h = rw (e, f, ← l) (starts_longer p b now h t)
+-- one byte too many
+pub overlong : (bytes p rest now : List ℕ) (b n : ℕ) → bytes ≡ p ++ b ∷ now → b ≢ 10 → length p ≡ n → IsOpen p → StartsLonger n (lines_of (bytes ++ rest))
+overlong bytes p rest now b n e t l h = rw (e, append_assoc p (b ∷ now) rest, ← l) (starts_longer p b (now ++ rest) h t)
 
--- an overlong line is the first of the lines
-pub overlong_first : (n : ℕ) (lines : List (List ℕ)) → StartsLonger n lines → (line : List ℕ) × ((rest : List (List ℕ)) × ((lines ≡ line ∷ rest) × (n < length line)))
-overlong_first n [] h = absurd h
-overlong_first n (line ∷ rest) h = (line, (rest, (refl, h)))
-
-pub onward : (all p unread now line : List ℕ) (b : ℕ) → all ≡ p ++ unread → unread ≡ b ∷ now → line ≡ p ++ b ∷ [] → all ≡ line ++ now
-onward all p unread now line b e f l = e ∙ ap (λ u. p ++ u) f ∙ sym (append_assoc p (b ∷ []) now) ∙ ap (λ u. u ++ now) (sym l)
+-- one byte more
+pub onward : (bytes p now line : List ℕ) (b : ℕ) → bytes ≡ p ++ b ∷ now → line ≡ p ++ b ∷ [] → bytes ≡ line ++ now
+onward bytes p now line b e l = e ∙ sym (append_assoc p (b ∷ []) now) ∙ ap (λ u. u ++ now) (sym l)

@@ -1,94 +1,66 @@
--- The frame of a command: how runs go on and end, and why.
-use Rattle.std.proofs.Common.{ℕ, List, [], ◌++◌, refl, ap, sym, ◌∙◌, subst, append-nil, inl, inr}
-use Rattle.std.specs.Prelude.{Err}
+-- The frame of a command: how runs go on and end.
+use Rattle.std.proofs.Common.{◌≡◌, ℕ, List, [], ◌++◌, ap, sym, ◌∙◌, subst, append_assoc, append-nil}
 use Rattle.text_io.specs.Texts.{Between}
 use Rattle.text_io.proofs.Writing.{begins, begins_trans, grew, between, from_before, to_after}
-use Rattle.text_io.specs.Frame.{Answer, When, AtFirst, Along, Course, line_by_line, Onward, Ended, StopsShort, Ran, Stops, EndCause, StartCause, UnlessInputFault, UnlessOutputFault, UnlessFault}
-use Rattle.text_io.specs.Ends.{RefuseCause}
+use Rattle.text_io.specs.Frame.{Answer, Onward, Ended}
+use Rattle.text_io.specs.Inputs.{Input, Ending, AtEnd, AtFault, input_of, input_by}
 use Rattle.text_io.specs.declared.statuses.Status.{Status}
 use Rattle.text_io.specs.declared.statuses.Status.TheVariants.{NoMemory, InputFault, OutputFault}
 
 -- nothing is written yet
-pub onward_start : (held : List ℕ) (due : Answer) → Onward held due held due
-onward_start held due = record {
-  longer = (grew held held ([], sym (append-nil held))).longer;
-  kept = (grew held held ([], sym (append-nil held))).kept;
-  text = refl;
-  status = refl;
+pub onward_same : (told : Type 0) (held : List ℕ) (p q : Answer) → p ≡ q → Onward told held p held q
+onward_same told held p q e = record {
+  longer = λ t. (grew held held ([], sym (append-nil held))).longer;
+  kept = λ t. (grew held held ([], sym (append-nil held))).kept;
+  text = λ t. ap (λ (a : Answer). held ++ a.body) (sym e);
+  status = ap (λ (a : Answer). a.status) (sym e);
 }
 
--- one stretch behind another
-pub onward_trans : (a b c : List ℕ) (p q r : Answer) → Onward a p b q → Onward b q c r → Onward a p c r
-onward_trans a b c p q r u v =
-    let k = grew a c (begins_trans a b c (begins a b u.kept) (begins b c v.kept)) in
-    record {
-      longer = k.longer;
-      kept = k.kept;
-      text = v.text ∙ u.text;
-      status = v.status ∙ u.status;
-    }
+module _ (told told' : Type 0) (tells : told → told') where
+  -- one stretch behind another
+  pub onward_trans : (a b c : List ℕ) (p q r : Answer) → Onward told a p b q → Onward told' b q c r → Onward told a p c r
+  onward_trans a b c p q r u v =
+      let k = λ (t : told). grew a c (begins_trans a b c (begins a b (u.kept t)) (begins b c (v.kept (tells t)))) in
+      record {
+        longer = λ t. (k t).longer;
+        kept = λ t. (k t).kept;
+        text = λ t. v.text (tells t) ∙ u.text t;
+        status = v.status ∙ u.status;
+      }
 
--- the sink or the source failed in the last stretch
-onward_between : (a b c : List ℕ) (p q : Answer) → Onward a p b q → Between b q.body c → Between a p.body c
-onward_between a b c p q u w =
-    let rest = to_after b q.body c w in
-    between a p.body c (begins_trans a b c (begins a b u.kept) (from_before b q.body c w)) (rest.0, sym u.text ∙ rest.1)
+  -- the same where the run reads: `x` and then `read` were read, and `y` is held behind `x`
+  pub onward_on : (f g h : Input → Answer) (a b c x y z read all : List ℕ) → all ≡ x ++ read →
+      ((ending : Ending) (rest : List ℕ) → Onward told a (f (input_of ending (x ++ rest))) b (g (input_of ending (y ++ rest)))) →
+      ((ending : Ending) (rest : List ℕ) → Onward told' b (g (input_of ending ((y ++ read) ++ rest))) c (h (input_of ending (z ++ rest)))) →
+      (ending : Ending) (rest : List ℕ) → Onward told a (f (input_of ending (all ++ rest))) c (h (input_of ending (z ++ rest)))
+  onward_on f g h a b c x y z read all is u v ending rest =
+      onward_trans a b c (f (input_of ending (all ++ rest))) (g (input_of ending ((y ++ read) ++ rest))) (h (input_of ending (z ++ rest)))
+      (let F : List ℕ → Type 0 = λ r. Onward told a (f (input_of ending r)) b (g (input_of ending ((y ++ read) ++ rest))) in
+      let G : List ℕ → Type 0 = λ r. Onward told a (f (input_of ending (x ++ (read ++ rest)))) b (g (input_of ending r)) in
+      subst F (sym (append_assoc x read rest) ∙ ap (λ r. r ++ rest) (sym is)) (subst G (sym (append_assoc y read rest)) (u ending (read ++ rest))))
+      (v ending rest)
 
--- the run ended in the last stretch
-pub onward_ended : (a b c : List ℕ) (p q : Answer) (s : Status) → Onward a p b q → Ended b c q s → Ended a c p s
-onward_ended a b c p q NoMemory u e = e
-onward_ended a b c p q InputFault u e = onward_between a b c p q u e
-onward_ended a b c p q OutputFault u e = onward_between a b c p q u e
-onward_ended a b c p q s u e = (e.0 ∙ u.text, e.1 ∙ u.status)
+  -- the sink failed in the last stretch
+  onward_between : (a b c : List ℕ) (p q : Answer) → Onward told a p b q → (told' → Between b q.body c) → told → Between a p.body c
+  onward_between a b c p q u w t =
+      let rest = to_after b q.body c (w (tells t)) in
+      between a p.body c (begins_trans a b c (begins a b (u.kept t)) (from_before b q.body c (w (tells t)))) (rest.0, sym (u.text t) ∙ rest.1)
 
--- a run over its input has the course of a command that answers it line by line
-pub ended_ran : (before now : List ℕ) (due : Answer) (s : Status) → Ended before now due s → Ran line_by_line before now due s
-ended_ran before now due NoMemory e = absurd e
-ended_ran before now due InputFault e = e
-ended_ran before now due OutputFault e = e
-ended_ran before now due s e = e
+  -- the run ended in the last stretch
+  pub onward_ended : (a b c : List ℕ) (p q : Answer) (s : Status) → Onward told a p b q → Ended told' b c q s → Ended told a c p s
+  onward_ended a b c p q NoMemory u e = e
+  onward_ended a b c p q OutputFault u e = onward_between a b c p q u e
+  onward_ended a b c p q s u e = (λ t. e.0 (tells t) ∙ u.text t, e.1 ∙ u.status)
 
--- a front of no bytes
-between_none : (before text : List ℕ) → Between before text before
-between_none before text = between before text before ([], sym (append-nil before)) (text, refl)
-
-stops_short : (when : When) (before text : List ℕ) → StopsShort when before text before
-stops_short AtFirst before text = refl
-stops_short Along before text = between_none before text
-
--- a command that has written nothing
-pub stops_ran : (course : Course) (before : List ℕ) (due : Answer) (s : Status) → Stops due s → Ran course before before due s
-stops_ran course before due NoMemory h = stops_short course.memory before due.body
-stops_ran course before due InputFault h = stops_short course.reading before due.body
-stops_ran course before due OutputFault h = absurd h
-stops_ran course before due s h = (sym (append-nil before) ∙ ap (λ x. before ++ x) (sym h.0), h.1)
-
--- causes that follow from causes
-pub cause_map : (own own' : Status → Type 0) (input input' output output' : Type 0) (s : Status) → ((t : Status) → own t → own' t) → (input → input') → (output → output') → EndCause own input output s → EndCause own' input' output' s
-cause_map own own' input input' output output' NoMemory f i o h = tt
-cause_map own own' input input' output output' InputFault f i o h = i h
-cause_map own own' input input' output output' OutputFault f i o h = o h
-cause_map own own' input input' output output' s f i o h = f s h
-
--- a command that ends before its first byte is written has its cause, whatever the sink does
-pub start_cause : (T : Type 0) (own own' : Status → Type 0) (input input' output : Type 0) (s : Status) → ((t : Status) → own t → own' t) → (input → input') → StartCause {T = T} own input (Err s) → EndCause own' input' output s
-start_cause T own own' input input' output s f i h = cause_map own own' input input' ⊥ output s f i (λ a. absurd a) h
-
--- a status that tells of no fault of the input tells of no fault, or of one of the sink
-unless_fault : (P : Type 0) (s : Status) → UnlessInputFault s P → UnlessFault s P
-unless_fault P InputFault h = tt
-unless_fault P OutputFault h = tt
-unless_fault P s h = h
-
-both : (P Q R : Type 0) (s : Status) → (P → Q → R) → UnlessOutputFault s P → UnlessOutputFault s Q → UnlessOutputFault s R
-both P Q R OutputFault f h k = tt
-both P Q R s f h k = f h k
-
--- what holds unless a fault came, before the line of a refusal and behind it
-pub refused_input : (rose P : Type 0) (s r : Status) → RefuseCause rose s r → UnlessInputFault s P → UnlessFault r P
-refused_input rose P s r (inl e) h = let F : Status → Type 0 = λ t. UnlessFault t P in subst F (sym e) (unless_fault P s h)
-refused_input rose P s r (inr e) h = let F : Status → Type 0 = λ t. UnlessFault t P in subst F (sym e.0) tt
-
-pub refused_output : (rose P Q R : Type 0) (s r : Status) → RefuseCause rose s r → UnlessOutputFault s P → UnlessOutputFault r Q → (P → Q → R) → UnlessOutputFault r R
-refused_output rose P Q R s r (inl e) h k f = let F : Status → Type 0 = λ t. UnlessOutputFault t Q → UnlessOutputFault t R in subst F (sym e) (both P Q R s f h) k
-refused_output rose P Q R s r (inr e) h k f = let F : Status → Type 0 = λ t. UnlessOutputFault t R in subst F (sym e.0) tt
+  -- the same where the run reads
+  pub onward_read : (f g : Input → Answer) (a b c x y read all rest : List ℕ) (s : Status) → all ≡ x ++ read →
+      ((ending : Ending) (rest : List ℕ) → Onward told a (f (input_of ending (x ++ rest))) b (g (input_of ending (y ++ rest)))) →
+      Ended told' b c (g (input_by s (y ++ read) rest)) s → Ended told a c (f (input_by s all rest)) s
+  onward_read f g a b c x y read all rest InputFault is u e =
+      onward_ended a b c (f (input_of AtFault all)) (g (input_of AtFault (y ++ read))) InputFault
+      (let F : List ℕ → Type 0 = λ r. Onward told a (f (input_of AtFault r)) b (g (input_of AtFault (y ++ read))) in subst F (sym is) (u AtFault read)) e
+  onward_read f g a b c x y read all rest s is u e =
+      onward_ended a b c (f (input_of AtEnd (all ++ rest))) (g (input_of AtEnd ((y ++ read) ++ rest))) s
+      (let F : List ℕ → Type 0 = λ r. Onward told a (f (input_of AtEnd r)) b (g (input_of AtEnd ((y ++ read) ++ rest))) in
+      let G : List ℕ → Type 0 = λ r. Onward told a (f (input_of AtEnd (x ++ (read ++ rest)))) b (g (input_of AtEnd r)) in
+      subst F (sym (append_assoc x read rest) ∙ ap (λ r. r ++ rest) (sym is)) (subst G (sym (append_assoc y read rest)) (u AtEnd (read ++ rest)))) e

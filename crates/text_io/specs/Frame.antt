@@ -1,11 +1,12 @@
--- The frame of every command: what is to be written and how it is to end, what a run makes of that, and why it may end so.
-use Rattle.std.specs.Prelude.{◌≡◌, ℕ, ◌≤◌, List, [], ◌++◌, length, take, Result, Ok, Err}
+-- The frame of every command: what is to be written and how it is to end, what a run makes of that, and why it may end so. Each
+-- fact about a text is under the premise that the sink tells what it holds; none about a status is.
+use Rattle.std.specs.Prelude.{◌≡◌, ◌⊎◌, ℕ, ◌≤◌, List, [], ◌++◌, length, take, Result, Ok, Err}
 use Rattle.text_io.specs.Texts.{Between}
 use Rattle.text_io.specs.declared.statuses.Status.{Status}
-use Rattle.text_io.specs.declared.statuses.Status.TheVariants.{Done, NoMemory, InputFault, OutputFault, Caught}
+use Rattle.text_io.specs.declared.statuses.Status.TheVariants.{Done, NoMemory, InputFault, OutputFault}
 
--- What a command writes and how it ends, where nothing outside fails and memory suffices. The line of a refusal is no part
--- of the body.
+-- What a command writes and how it ends, where the sink and the shelf don't fail and memory suffices. The line of a refusal is
+-- no part of the body.
 pub record Answer : Type 0 where
   pub body : List ℕ
   pub status : Status
@@ -18,65 +19,27 @@ after_text text answer = record { body = text ++ answer.body; status = answer.st
 abbrev pub bare_answer : Status → Answer
 bare_answer status = record { body = []; status = status }
 
--- when a command takes its memory or reads its files and its input
-pub data When : Type 0 where
-  -- before its first byte is written
-  AtFirst : When
-  -- at any time
-  Along : When
-
--- the course of a command
-pub record Course : Type 0 where
-  -- when it takes its memory
-  pub memory : When
-  -- when it reads
-  pub reading : When
-
--- a command that answers its input line by line, with all its memory taken at first
-abbrev pub line_by_line : Course
-line_by_line = record { memory = AtFirst; reading = Along }
-
--- a command that takes its memory and reads before it writes
-abbrev pub all_at_first : Course
-all_at_first = record { memory = AtFirst; reading = AtFirst }
-
--- a command that reads before it writes, and takes memory at any time
-abbrev pub memory_along : Course
-memory_along = record { memory = Along; reading = AtFirst }
-
 -- A run goes on: what is held and what is still to come make the same whole as before.
-pub record Onward (held : List ℕ) (due : Answer) (held' : List ℕ) (due' : Answer) : Type 0 where
-  pub longer : length held ≤ length held'
-  pub kept : take (length held) held' ≡ held
-  pub text : held' ++ due'.body ≡ held ++ due.body
+pub record Onward (told : Type 0) (held : List ℕ) (due : Answer) (held' : List ℕ) (due' : Answer) : Type 0 where
+  pub longer : told → length held ≤ length held'
+  pub kept : told → take (length held) held' ≡ held
+  pub text : told → held' ++ due'.body ≡ held ++ due.body
   pub status : due'.status ≡ due.status
 
 -- A run over its input ends with this status, all its memory taken, where `due` was still to come when `before` was held:
--- all of it is written, or a front of it where the source, the shelf or the sink failed.
-abbrev pub Ended : List ℕ → List ℕ → Answer → Status → Type 0
-Ended before now due NoMemory = ⊥
-Ended before now due InputFault = Between before due.body now
-Ended before now due OutputFault = Between before due.body now
-Ended before now due status = (now ≡ before ++ due.body) × (status ≡ due.status)
+-- all of it is written, or a front of it where the sink failed.
+abbrev pub Ended : (told : Type 0) → (before now : List ℕ) → Answer → Status → Type 0
+Ended told before now due NoMemory = ⊥
+Ended told before now due OutputFault = told → Between before due.body now
+Ended told before now due status = (told → now ≡ before ++ due.body) × (status ≡ due.status)
 
--- A run stops short of its end: with nothing written where that may come only at first, and else with a front of the text.
-abbrev pub StopsShort : When → List ℕ → List ℕ → List ℕ → Type 0
-StopsShort AtFirst before text now = now ≡ before
-StopsShort Along before text now = Between before text now
-
--- A command has ended with this status, but for the line of a refusal.
-abbrev pub Ran : Course → List ℕ → List ℕ → Answer → Status → Type 0
-Ran course before now due NoMemory = StopsShort course.memory before due.body now
-Ran course before now due InputFault = StopsShort course.reading before due.body now
-Ran course before now due OutputFault = Between before due.body now
-Ran course before now due status = (now ≡ before ++ due.body) × (status ≡ due.status)
-
--- A command that has written nothing may end with this status.
-abbrev pub Stops : Answer → Status → Type 0
-Stops due NoMemory = Unit {0}
-Stops due InputFault = Unit {0}
-Stops due OutputFault = ⊥
-Stops due status = (due.body ≡ []) × (status ≡ due.status)
+-- A command has ended with this status, but for the line of a refusal. Before its first byte memory may be wanting, or the
+-- shelf may fail: nothing is written in either case. `source` and `shelf` say that their counts of faults rose.
+abbrev pub Ran : (told : Type 0) → (before now : List ℕ) → Answer → (source shelf : Type 0) → Status → Type 0
+Ran told before now due source shelf NoMemory = told → now ≡ before
+Ran told before now due source shelf InputFault = (shelf × (told → now ≡ before)) ⊎ (source × (InputFault ≡ due.status) × (told → now ≡ before ++ due.body))
+Ran told before now due source shelf OutputFault = told → Between before due.body now
+Ran told before now due source shelf status = (told → now ≡ before ++ due.body) × (status ≡ due.status)
 
 -- Why a run may end with this status: want of memory is free, a fault comes only where its count rose, and each other
 -- status only where `own` allows it, which each command says for itself.
@@ -117,8 +80,12 @@ abbrev pub OnDone : Status → Type 0 → Type 0
 OnDone Done P = P
 OnDone status P = Unit {0}
 
--- P, where the command came to its end, with or without a finding
-abbrev pub OnDoneOrCaught : Status → Type 0 → Type 0
-OnDoneOrCaught Done P = P
-OnDoneOrCaught Caught P = P
-OnDoneOrCaught status P = Unit {0}
+-- P, where memory was wanting
+abbrev pub OnNoMemory : Status → Type 0 → Type 0
+OnNoMemory NoMemory P = P
+OnNoMemory status P = Unit {0}
+
+-- P, where the source or the shelf failed
+abbrev pub OnInputFault : Status → Type 0 → Type 0
+OnInputFault InputFault P = P
+OnInputFault status P = Unit {0}

@@ -1,4 +1,5 @@
 pub mod Lines
+pub mod Inputs
 pub mod Reader
 pub mod Readings
 pub mod Texts

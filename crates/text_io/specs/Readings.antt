@@ -1,16 +1,17 @@
--- What the answers of the readers say of the bytes that were unread before the call and of those that are unread now.
-use Rattle.std.specs.Prelude.{◌≡◌, ℕ, List, [], ◌∷◌, ◌++◌}
-use Rattle.text_io.specs.Lines.{lines_of, StartsLonger}
+-- What the answers of the readers say: of the bytes that the reader held before and of those that it read meanwhile, of those
+-- that the source has left, and of those that the reader holds now.
+use Rattle.std.specs.Prelude.{◌≡◌, ℕ, ◌<◌, List, [], ◌∷◌, ◌++◌, length}
+use Rattle.text_io.specs.Lines.{lines_of, IsOpen, StartsLonger}
 use Rattle.text_io.specs.declared.bytes.NextByte.{NextByte}
 use Rattle.text_io.specs.declared.bytes.NextByte.TheVariants.{Byte, End as ByteEnd, Failed as ByteFailed}
 use Rattle.text_io.specs.declared.lines.NextLine.{NextLine}
-use Rattle.text_io.specs.declared.lines.NextLine.TheVariants.{Line, TooLong, End as LineEnd, Failed as LineFailed}
+use Rattle.text_io.specs.declared.lines.NextLine.TheVariants.{Line, Last, TooLong, End as LineEnd, Failed as LineFailed}
 
--- The byte is the first of those unread. The end comes exactly where nothing is unread, and a fault leaves all.
-abbrev pub GaveByte : List ℕ → List ℕ → NextByte → Type 0
-GaveByte before now (Byte byte) = before ≡ byte ∷ now
-GaveByte before now ByteEnd = (before ≡ []) × (now ≡ [])
-GaveByte before now ByteFailed = now ≡ before
+-- The byte is the first of them. The end comes exactly where none is held and none left, and a fault only where none is held.
+abbrev pub GaveByte : (bytes left now : List ℕ) → NextByte → Type 0
+GaveByte bytes left now (Byte byte) = bytes ≡ byte ∷ now
+GaveByte bytes left now ByteEnd = (bytes ≡ []) × (left ≡ []) × (now ≡ [])
+GaveByte bytes left now ByteFailed = (bytes ≡ []) × (now ≡ [])
 
 -- P, where a byte could not be read
 abbrev pub OnByteFailed : NextByte → Type 0 → Type 0
@@ -24,17 +25,20 @@ OnByteRead (Byte byte) P = P
 OnByteRead ByteEnd P = P
 OnByteRead ByteFailed P = Unit {0}
 
--- The line is the first of those unread. The end comes exactly where nothing is unread, and TooLong exactly where the
--- first line has more than 1,024 bytes. Behind a fault the line is what was read of it.
-abbrev pub GaveLine : List ℕ → List ℕ → NextLine → List ℕ → Type 0
-GaveLine before now Line line = lines_of before ≡ line ∷ lines_of now
-GaveLine before now LineEnd line = (before ≡ []) × (now ≡ [])
-GaveLine before now TooLong line = StartsLonger 1024 (lines_of before)
-GaveLine before now LineFailed line = before ≡ line ++ now
+-- The line is the first of them, up to its LF; the last one may lack the LF, and comes so only where nothing is left. The end
+-- comes exactly where none is held and none left, TooLong exactly where the first line has more than 1,024 bytes, whatever
+-- stands behind those read. Where the source fails, no line among those read has its LF.
+abbrev pub GaveLine : (bytes left now : List ℕ) → NextLine → (line : List ℕ) → Type 0
+GaveLine bytes left now Line line = IsOpen line × (bytes ≡ line ++ 10 ∷ now)
+GaveLine bytes left now Last line = IsOpen line × (0 < length line) × (bytes ≡ line) × (left ≡ []) × (now ≡ [])
+GaveLine bytes left now LineEnd line = (bytes ≡ []) × (left ≡ []) × (now ≡ [])
+GaveLine bytes left now TooLong line = (rest : List ℕ) → StartsLonger 1024 (lines_of (bytes ++ rest))
+GaveLine bytes left now LineFailed line = IsOpen line × (bytes ≡ line) × (now ≡ [])
 
 -- P, where a line could not be read
 abbrev pub OnLineFailed : NextLine → Type 0 → Type 0
 OnLineFailed Line P = Unit {0}
+OnLineFailed Last P = Unit {0}
 OnLineFailed TooLong P = Unit {0}
 OnLineFailed LineEnd P = Unit {0}
 OnLineFailed LineFailed P = P
@@ -42,6 +46,7 @@ OnLineFailed LineFailed P = P
 -- P, where a line, an overlong line or the end was read
 abbrev pub OnLineRead : NextLine → Type 0 → Type 0
 OnLineRead Line P = P
+OnLineRead Last P = P
 OnLineRead TooLong P = P
 OnLineRead LineEnd P = P
 OnLineRead LineFailed P = Unit {0}

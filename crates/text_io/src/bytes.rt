@@ -1,7 +1,8 @@
 //! Bytes from a source, one by one, through a buffer.
 
-ghost use Rattle.std.specs.Prelude.{◌≡◌, ◌≤◌, ◌++◌, [], List, ℕ, IsSome};
-ghost use Rattle.station.specs.Outside.{known, Rose};
+ghost use Rattle.std.specs.Prelude.{◌≡◌, ◌<◌, ◌≤◌, ◌++◌, ◌∷◌, [], List, ℕ, length, IsSome};
+ghost use Rattle.station.specs.Outside.{told_bytes, Rose};
+ghost use Rattle.text_io.specs.Inputs.{read_of};
 ghost use Rattle.text_io.specs.Readings.{GaveByte, OnByteFailed, OnByteRead};
 
 use station::{Pull, Source};
@@ -51,25 +52,35 @@ impl ByteReader {
     /// The next byte of those held and of those that the source has left.
     pub fn next<I: Source>(&mut self, input: &mut I) -> NextByte
         ensures told { IsSome (I.left input.old) → IsSome (I.left input.new) }
-        ensures byte { IsSome (I.left input.old) → GaveByte (self.old ++ known (I.left input.old)) (self.new ++ known (I.left input.new)) result }
+        ensures front { IsSome (I.left input.old) → told_bytes (I.left input.old) ≡ read_of (I.left input.old) (I.left input.new) ++ told_bytes (I.left input.new) }
+        ensures byte { IsSome (I.left input.old) → GaveByte (self.old ++ read_of (I.left input.old) (I.left input.new)) (told_bytes (I.left input.new)) self.new result }
 
         // A fault is answered exactly where the source's count rose.
         ensures later { I.faults input.old ≤ I.faults input.new }
         ensures cause { OnByteFailed result (Rose (I.faults input.old) (I.faults input.new)) }
         ensures steady { OnByteRead result (I.faults input.new ≡ I.faults input.old) }
     {
-        if self.from == self.until {
-            match input.read(&mut self.chunk) {
-                Pull::Failed => return NextByte::Failed,
-                Pull::Ended => return NextByte::End,
-                Pull::Took(count) => {
-                    self.from = 0;
-                    self.until = count;
-                }
+        if self.from < self.until {
+            return NextByte::Byte(self.give());
+        }
+        match input.read(&mut self.chunk) {
+            Pull::Failed => NextByte::Failed,
+            Pull::Ended => NextByte::End,
+            Pull::Took(count) => {
+                self.from = 0;
+                self.until = count;
+                NextByte::Byte(self.give())
             }
         }
+    }
+
+    /// The first byte of those held.
+    fn give(&mut self) -> u8
+        requires { 0 < length self.old }
+        ensures { self.old ≡ result ∷ self.new }
+    {
         let byte = self.chunk[self.from];
         self.from += 1;
-        NextByte::Byte(byte)
+        byte
     }
 }

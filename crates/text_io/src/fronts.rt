@@ -35,6 +35,7 @@ pub fn read_front<H: Shelf>(
     // A fault is answered exactly where the shelf's count rose.
     ensures later { H.faults shelf.old ≤ H.faults shelf.new }
     ensures cause { OnFrontFailed result (Rose (H.faults shelf.old) (H.faults shelf.new)) }
+    ensures asked { OnFrontFailed result ((mid : H) × H.failed mid shelf.new name.now) }
     ensures steady { OnFrontRead result (H.faults shelf.new ≡ H.faults shelf.old) }
 {
     let mut text = Vec::new(alloc);

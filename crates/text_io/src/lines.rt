@@ -1,7 +1,8 @@
 //! Lines from a source.
 
 ghost use Rattle.std.specs.Prelude.{◌≡◌, ◌≤◌, ◌++◌, [], List, ℕ, length, IsSome};
-ghost use Rattle.station.specs.Outside.{known, Rose};
+ghost use Rattle.station.specs.Outside.{told_bytes, Rose};
+ghost use Rattle.text_io.specs.Inputs.{read_of};
 ghost use Rattle.text_io.specs.Readings.{GaveLine, OnLineFailed, OnLineRead};
 
 use crate::bytes::{ByteReader, NextByte};
@@ -12,18 +13,21 @@ use std::marker::Model;
 /// What a reader of lines answers.
 #[derive(Clone, Copy, Debug, PartialEq, Eq)]
 pub enum NextLine {
-    /// There is a line, which `LineReader::line` gives.
+    /// There is a line, which `LineReader::line` gives, and it has an LF.
     Line,
+    /// There is a line, which `LineReader::line` gives, and it is the last: the source ended in it.
+    Last,
     /// The next line has more than 1,024 bytes without its LF. The reader stands within that line then,
     /// and nothing is said of what it reads next.
     TooLong,
     /// No byte is left.
     End,
-    /// The source failed. What was read of the line is what `LineReader::line` gives.
+    /// The source failed. What was read of the line, which has no LF, is what `LineReader::line` gives.
     Failed,
 }
 
-/// Gives the lines of a source, each without its LF, which the last line may lack. It is used with one source.
+/// Gives the lines of a source, each without its LF, which the last line may lack. It is used with one source, and is not
+/// called again once it answered that the source ended.
 #[derive(Drop)]
 pub struct LineReader {
     bytes: ByteReader,
@@ -60,7 +64,8 @@ impl LineReader {
     /// Reads the next line of the bytes held and of those that the source has left.
     pub fn next<I: Source>(&mut self, input: &mut I) -> NextLine
         ensures told { IsSome (I.left input.old) → IsSome (I.left input.new) }
-        ensures line { IsSome (I.left input.old) → GaveLine (self.old.pending ++ known (I.left input.old)) (self.new.pending ++ known (I.left input.new)) result self.new.line }
+        ensures front { IsSome (I.left input.old) → told_bytes (I.left input.old) ≡ read_of (I.left input.old) (I.left input.new) ++ told_bytes (I.left input.new) }
+        ensures line { IsSome (I.left input.old) → GaveLine (self.old.pending ++ read_of (I.left input.old) (I.left input.new)) (told_bytes (I.left input.new)) self.new.pending result self.new.line }
         ensures short { length self.new.line ≤ 1024 }
 
         // A fault is answered exactly where the source's count rose.
@@ -79,7 +84,8 @@ fn take_line<I: Source>(
     input: &mut I,
 ) -> NextLine
     ensures told { IsSome (I.left input.old) → IsSome (I.left input.new) }
-    ensures line { IsSome (I.left input.old) → GaveLine (bytes.old ++ known (I.left input.old)) (bytes.new ++ known (I.left input.new)) result line.new.items }
+    ensures front { IsSome (I.left input.old) → told_bytes (I.left input.old) ≡ read_of (I.left input.old) (I.left input.new) ++ told_bytes (I.left input.new) }
+    ensures line { IsSome (I.left input.old) → GaveLine (bytes.old ++ read_of (I.left input.old) (I.left input.new)) (told_bytes (I.left input.new)) bytes.new result line.new.items }
     ensures short { length line.new.items ≤ 1024 }
     ensures later { I.faults input.old ≤ I.faults input.new }
     ensures cause { OnLineFailed result (Rose (I.faults input.old) (I.faults input.new)) }
@@ -93,7 +99,7 @@ fn take_line<I: Source>(
                 return if line.is_empty() {
                     NextLine::End
                 } else {
-                    NextLine::Line
+                    NextLine::Last
                 };
             }
             NextByte::Byte(byte) => {

@@ -1,5 +1,5 @@
 -- ForPeers: how the cells at which the players were last seen follow a log as it grows, and which stage a log has come to.
-use Rattle.std.proofs.Common.{◌≡◌, ℕ, zero, suc, ◌-◌, ◌*◌, ◌+◌, ◌≤◌, ◌<◌, List, [], ◌∷◌, length, refl, sym, ap, ◌∙◌, arith, inl, inr, subst}
+use Rattle.std.proofs.Common.{◌≡◌, ℕ, zero, suc, ◌*◌, ◌+◌, ◌≤◌, ◌<◌, List, [], ◌∷◌, length, refl, sym, ap, ◌∙◌, arith, inl, inr, subst}
 use Rattle.std.specs.Prelude.{map, slice_set, Some, None}
 use Rattle.std.proofs.lemmas.Bool.{cases_eq}
 use Rattle.definitions.specs.declared.world.Cell.{Cell}
@@ -10,13 +10,11 @@ use Rattle.definitions.specs.World.{Game, players_of, no_seat}
 use Rattle.definitions.specs.Moves.{track_after}
 use Rattle.definitions.specs.Places.{slot_at}
 use Rattle.definitions.specs.Held.{known}
-use Rattle.definitions.specs.Meets.{cell_before}
-use Rattle.definitions.specs.Honest.{made_count}
 use Rattle.definitions.specs.declared.frames.What.TheVariants as F
 use Rattle.definitions.proofs.Streams.{commit_place-plain, reveal_place-plain, slot_at-commit, slot_at-reveal, slot_at-past}
 use Rattle.dilation.specs.Dilated.{cell_of, starts_of}
-use Rattle.wait_rule.specs.declared.views.Stage.TheVariants.{Commit, Reveal, After}
-use Rattle.wait_rule.specs.Shown.{AreLastCells, last_cell, IsStageOf}
+use Rattle.definition_laws.specs.Distances.{last_cell}
+use Rattle.wait_rule.specs.Shown.{AreLastCells}
 
 item_map : {X Y : Type 0} (f : X → Y) (xs : List X) (i : ℕ) (d : X) → item_or (map f xs) i (f d) ≡ f (item_or xs i d)
 item_map f [] i d = refl
@@ -64,18 +62,3 @@ slot_odd game n t a e lt = ap (slot_at game) (e ∙ sym (reveal_place-plain game
 
 pub slot_end : (game : Game) (n : ℕ) → game.ahead ≡ 1 → 2 * game.turns ≤ n → slot_at game n ≡ None
 slot_end game n a le = slot_at-past game n (omega arith) le
-
--- the stage of a log with so many made frames
-pub stage_commit : (game : Game) (me t : ℕ) (h : List Entry) (last : Cell) → game.ahead ≡ 1 → made_count h ≡ 2 * t → t < game.turns → (1 ≤ t → last ≡ cell_before game me h me (t - 1)) →
-    IsStageOf game me h (Commit t last)
-stage_commit game me t h last one made lt at = record {
-  slot = slot_even game (made_count h) t one made lt;
-  cell = λ le. at (omega arith) ∙ ap (λ n. cell_before game me h me (t - n)) (sym one);
-}
-
-pub stage_reveal : (game : Game) (me t : ℕ) (h : List Entry) (at : Cell) → game.ahead ≡ 1 → made_count h ≡ 2 * t + 1 → t < game.turns → at ≡ cell_before game me h me t →
-    IsStageOf game me h (Reveal t at)
-stage_reveal game me t h at one made lt is = record { slot = slot_odd game (made_count h) t one made lt; cell = is }
-
-pub stage_after : (game : Game) (me : ℕ) (h : List Entry) → game.ahead ≡ 1 → 2 * game.turns ≤ made_count h → IsStageOf game me h After
-stage_after game me h one made = record { slot = slot_end game (made_count h) one made; cell = tt }

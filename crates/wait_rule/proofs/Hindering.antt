@@ -22,7 +22,8 @@ use Rattle.wait_rule.specs.declared.views.View.{View}
 use Rattle.wait_rule.specs.declared.views.Stage.{Stage}
 use Rattle.wait_rule.specs.declared.views.Stage.TheVariants.{Commit, Reveal, After}
 use Rattle.wait_rule.specs.Waiting.{waits, no_view, meets_at, holds, hinders, need_of, need_if, need_in, needs_of}
-use Rattle.wait_rule.specs.Shown.{IsView, AreViews, last_cell, AreLastCells, slot_of, StandsThere, IsStageOf}
+use Rattle.definition_laws.specs.Distances.{last_cell}
+use Rattle.wait_rule.specs.Shown.{IsView, AreViews, AreLastCells, slot_of, StandsThere, IsStageOf}
 use Rattle.wait_rule.specs.declared.meeting.Meeting.{Meeting}
 use Rattle.wait_rule.specs.Spheres.{Stays}
 use Rattle.wait_rule.proofs.Lists.{steps_are, steps_more, step_few, item_same}

@@ -5,11 +5,11 @@ use Rattle.definitions.specs.declared.frames.What.TheVariants as F
 use Rattle.definitions.specs.declared.logs.Entry.{Entry}
 use Rattle.definitions.specs.Lists.{item_or}
 use Rattle.definitions.specs.World.{Game, players_of}
-use Rattle.definitions.specs.Moves.{track_after}
 use Rattle.definitions.specs.Places.{Slot, slot_at}
-use Rattle.definitions.specs.Held.{known, held, resolved_count, next_place}
+use Rattle.definitions.specs.Held.{held, resolved_count, next_place}
 use Rattle.definitions.specs.Meets.{cell_before}
 use Rattle.definitions.specs.Honest.{made_count}
+use Rattle.definition_laws.specs.Distances.{last_cell}
 use Rattle.dilation.specs.Dilated.{cell_of}
 use Rattle.wait_rule.specs.declared.views.View.{View}
 use Rattle.wait_rule.specs.declared.views.Stage.{Stage}
@@ -32,15 +32,11 @@ pub record IsView (game : Game) (me : ℕ) (h : List Entry) (q : ℕ) (v : View)
 abbrev pub AreViews : Game → ℕ → List Entry → List View → Type 0
 AreViews game me h views = (q : ℕ) → q < players_of game → (q ≡ me → ⊥) → IsView game me h q (item_or views q no_view)
 
--- the cell to which the resolved moves of player q lead
-abbrev pub last_cell : Game → ℕ → List Entry → ℕ → Cell
-last_cell game me h q = (track_after game q (known game me h q).moves).at
-
 -- these are the cells to which the resolved moves of each other player lead
 abbrev pub AreLastCells : Game → ℕ → List Entry → List Cell → Type 0
 AreLastCells game me h cells = (q : ℕ) → q < players_of game → (q ≡ me → ⊥) → cell_of cells q ≡ last_cell game me h q
 
--- the place of a stage's frame in the own stream
+-- the frame of a stage: one of the two of a turn, or none behind the last
 abbrev pub slot_of : Stage → Option Slot
 slot_of (Commit t last) = Some (record { what = F.Commit; turn = t })
 slot_of (Reveal t at) = Some (record { what = F.Reveal; turn = t })

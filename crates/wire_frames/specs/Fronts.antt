@@ -2,7 +2,7 @@
 use Rattle.std.specs.Prelude.{ℕ, ◌+◌, Bool, not, ◌==◌, ◌&&◌, ◌||◌, nat_lt, nat_le, List, take, Option, Some, None, length, slice_index, slice_range, if◌then◌else◌, option_map}
 use Rattle.std.specs.Int.{w32, from_be_bytes}
 use Rattle.definitions.specs.declared.frames.TurnFrame.{TurnFrame}
-use Rattle.commitment.specs.Spelling.{turn_frame_of}
+use Rattle.commitment.specs.Spelling.{has_head, turn_frame_of}
 use Rattle.wire_frames.specs.declared.frames.Frame.{Frame}
 use Rattle.wire_frames.specs.declared.frames.Frame.TheVariants.{Hello, Turn, Want}
 use Rattle.wire_frames.specs.declared.fronts.Front.{Front}
@@ -43,12 +43,6 @@ is_bad_flag bytes = nat_lt 12 (length bytes) && not (has_flag (slice_index bytes
 -- the place of the first byte with which the bytes begin no frame
 unfoldable pub bad_place : List ℕ → Option ℕ
 bad_place bytes = first_bad (is_bad_kind bytes) (is_bad_high bytes) (is_bad_low bytes) (is_bad_flag bytes)
-
--- the bytes are of this kind, and their payload is as long as its length says
-abbrev pub has_head : ℕ → ℕ → List ℕ → Bool
-has_head kind payload bytes =
-    (length bytes == payload + 3) && (slice_index bytes 0 == kind) && (slice_index bytes 1 == 0) &&
-    (slice_index bytes 2 == payload)
 
 -- the number in the four bytes from this place on
 abbrev pub place_at : List ℕ → ℕ → ℕ

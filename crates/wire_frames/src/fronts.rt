@@ -1,6 +1,7 @@
 //! The frame at the front of a run of bytes.
 
 ghost use Rattle.std.specs.Prelude.{◌≡◌, ◌+◌, ◌≤◌, length, slice_range};
+ghost use Rattle.commitment.specs.Spelling as S;
 ghost use Rattle.wire_frames.specs.Fronts as F;
 
 use crate::frames::{Frame, Place};
@@ -106,7 +107,7 @@ fn place_at(bytes: &[u8], at: usize) -> Place
 
 /// Whether the bytes are of this kind, with a payload as long as its length says.
 fn has_head(kind: u8, payload: u8, bytes: &[u8]) -> bool
-    ensures { result ≡ F.has_head kind payload bytes.now }
+    ensures { result ≡ S.has_head kind payload bytes.now }
 {
     bytes.len() == usize::from(payload) + 3
         && bytes[0] == kind

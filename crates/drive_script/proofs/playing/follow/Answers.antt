@@ -1,7 +1,6 @@
-use Rattle.std.proofs.Common.{refl}
+use Rattle.std.proofs.Common.{[], refl}
 use Rattle.text_io.proofs.Frames.{onward_ended}
-use Rattle.station.specs.Outside.{known}
-use Rattle.text_io.specs.Lines.{lines_of}
+use Rattle.text_io.proofs.ReadBytes.{read_front}
 use Rattle.drive_script.specs.Hearing.{driven_from}
 use Rattle.drive_script.proofs.Hearings.{between_text, onward_text}
 use Rattle.drive_script.proofs.playing.follow.Goals as goal
@@ -9,14 +8,20 @@ use Rattle.drive_script.proofs.playing.follow.Goals as goal
 pub put_start-requires : goal.put_start-requires
 put_start-requires g c = rw c.peer.ensures c.requires
 
+pub returns-then-is_some-clause-front : goal.returns-then-is_some-clause-front
+returns-then-is_some-clause-front g c = λ t. read_front _ _ [] refl
+
+pub returns-in-Failed-clause-front : goal.returns-in-Failed-clause-front
+returns-in-Failed-clause-front g c = λ t. read_front _ _ [] refl
+
 pub returns-then-is_some-clause-text : goal.returns-then-is_some-clause-text
-returns-then-is_some-clause-text g c = λ t u.
-    onward_ended _ _ _ _ _ _ (onward_text _ _ _ _ _ refl (rw c.peer.ensures at (c.in-All.ensures.text u))) (c.end_caught.ensures.text (c.put_start.ensures.told u) _)
+returns-then-is_some-clause-text g c = λ t rest m.
+    onward_ended _ _ c.put_start.ensures.told _ _ _ _ _ _ (onward_text _ _ _ _ _ _ refl (λ u. rw c.peer.ensures at (c.in-All.ensures.text u))) (c.end_caught.ensures.text _)
 
 pub returns-else-is_some-clause-text : goal.returns-else-is_some-clause-text
-returns-else-is_some-clause-text g c = λ t u.
-    onward_ended _ _ _ _ _ _ (onward_text _ _ _ _ _ refl (rw c.peer.ensures at (c.in-All.ensures.text u)))
-    (rw c.new-reader.ensures at (c.answer_lines.ensures.text t (c.put_start.ensures.told u)))
+returns-else-is_some-clause-text g c = λ t rest m.
+    onward_ended _ _ c.put_start.ensures.told _ _ _ _ _ _ (onward_text _ _ _ _ _ _ refl (λ u. rw c.peer.ensures at (c.in-All.ensures.text u)))
+    (rw c.new-reader.ensures at (c.answer_lines.ensures.text t rest m))
 
 pub returns-in-Failed-clause-text : goal.returns-in-Failed-clause-text
-returns-in-Failed-clause-text g c = λ t u. between_text _ _ _ _ (driven_from c.args.driver.now (lines_of (known (g.I.Source.left c.args.input.now)))) refl (rw c.peer.ensures at (c.in-Failed.ensures.text u))
+returns-in-Failed-clause-text g c = λ t rest m u. between_text _ _ _ _ (driven_from c.args.driver.now _) refl (rw c.peer.ensures at (c.in-Failed.ensures.text u))

@@ -1,6 +1,6 @@
 use Rattle.std.proofs.Common.{◌≡◌, ◌∙◌, ◌++◌, ◌∷◌, [], List, ap, arith, length, length-append, subst, sym}
 use Rattle.definitions.specs.declared.logs.Entry.{Entry}
-use Rattle.session_log.specs.Reading.{Reading}
+use Rattle.session_log.specs.Reading.{LogReading}
 use Rattle.old_log.specs.Old.{IsOld}
 use Rattle.std.specs.Prelude.{Option, ℕ}
 use Rattle.old_log.proofs.Asking.{IsReading, ReadsOn, are_bytes, read_all, reading_start, reads_on}
@@ -9,7 +9,7 @@ use Rattle.old_log.proofs.reading.read_old.Goals as goal
 pub loop-entry-init : goal.loop-entry-init
 loop-entry-init c =
     let Is : List Entry → Type 0 = λ es. IsReading c.args.session.now c.args.bytes.now es c.new-reader.result in
-    let at : c.new-reader.result.at ≡ 0 = ap (λ (r : Reading). r.at) c.new-reader.ensures in
+    let at : c.new-reader.result.at ≡ 0 = ap (λ (r : LogReading). r.at) c.new-reader.ensures in
     record {
       within = omega arith;
       reading = subst Is (sym c.new-entries.ensures.items) (reading_start c.args.session.now c.args.bytes.now c.new-reader.result c.new-reader.ensures);

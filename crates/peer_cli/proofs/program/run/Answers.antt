@@ -1,11 +1,11 @@
-use Rattle.std.proofs.Common.{Bool, true, arith, ap, rules, inl, inr, ◌∙◌, ◌⊎◌, ◌≡◌, ◌≤◌}
-use Rattle.station.specs.Outside.{known}
-use Rattle.text_io.specs.Frame.{Answer, line_by_line}
+use Rattle.std.proofs.Common.{Bool, None, true, arith, ap, sym, rules, inl, inr, ◌++◌, ◌∙◌, ◌⊎◌, ◌≡◌, ◌≤◌}
+use Rattle.station.specs.Outside.{told_bytes}
+use Rattle.text_io.specs.Frame.{Answer}
+use Rattle.text_io.specs.Inputs.{AtEnd, ending_of, input_of, lines_in, read_of}
 use Rattle.text_io.specs.declared.statuses.Status.{Status}
 use Rattle.text_io.specs.declared.statuses.Status.TheVariants.{Done, NoMemory}
 use Rattle.text_io.proofs.Finish.{finished}
 use Rattle.grid_world.proofs.Found.{game_found}
-use Rattle.text_io.specs.Lines.{lines_of}
 use Rattle.drive_script.specs.Drive.{bad_line, drive, status_for}
 use Rattle.drive_script.proofs.Ends.{drive_status}
 use Rattle.drive_script.proofs.Fair.{drive_fair}
@@ -15,16 +15,17 @@ use Rattle.drive_script.proofs.Tellings.{drive_tells}
 use Rattle.peer_cli.specs.Causes.{HasCause}
 use Rattle.peer_cli.specs.Ends.{RunEnds}
 use Rattle.peer_cli.proofs.Begun.{begun_honest}
-use Rattle.peer_cli.proofs.Causes.{caused, completed, finished_cause, set_answer}
+use Rattle.peer_cli.specs.Program.{answer_to}
+use Rattle.peer_cli.proofs.Causes.{caused, completed, ends_at_end, finished_cause, lines_at_end, set_answer}
 use Rattle.peer_cli.proofs.program.run.Goals as goal
 
 pub returns-clause-text : goal.returns-clause-text
-returns-clause-text g c = λ ti to th.
-    finished line_by_line _ _ _ _ RunEnds _ _ c.work-status.result c.refuse.result (c.work-status.ensures.text ti to th) c.work-status.ensures.cause (c.refuse.ensures.text (c.work-status.ensures.told_out to))
+returns-clause-text g c = λ t th rest m.
+    finished _ _ c.work-status.ensures.told_out _ _ _ _ rest (answer_to _ _) _ _ c.refuse.result c.work-status.result (c.work-status.ensures.text t th rest m) c.refuse.ensures.text
 
 pub returns-clause-own : goal.returns-clause-own
-returns-clause-own g c = λ ti to th.
-    finished_cause (HasCause _ _ _) _ _ _ _ c.refuse.result (returns-clause-text g c ti to th) (caused _ _ _) tt tt tt
+returns-clause-own g c = λ t th rest m.
+    finished_cause _ _ _ _ _ _ _ (HasCause _ _ _) c.refuse.result (returns-clause-text g c t th rest m) (caused _ _ _ (ends_at_end (read_of (g.I.Source.left c.args.input.now) (g.I.Source.left c.work-status.new.input) ++ rest))) tt tt tt
 
 neither : (P Q : Type 0) → ¬ P → ¬ Q → P ⊎ Q → ⊥
 neither P Q p q (inl h) = p h
@@ -38,24 +39,31 @@ pub returns-clause-cause : goal.returns-clause-cause
 returns-clause-cause g c = search rules
 
 pub returns-clause-complete : goal.returns-clause-complete
-returns-clause-complete g c = λ ti to th player b set lines clean ni ns no.
-    let due = ap (λ (a : Answer). a.status) (set_answer _ _ _ player b set) ∙ drive_status b.game player b.first (known (g.I.Source.left c.args.input.now)) ∙
-    ap (λ (b : Bool). status_for b (bad_line 0 (lines_of (known (g.I.Source.left c.args.input.now))))) clean ∙ ap (status_for true) lines in
-    done_or_memory _ _ due (completed RunEnds _ _ _ _ _ _ c.refuse.result (returns-clause-text g c ti to th) (returns-clause-cause g c) (neither _ _ ni ns) no)
+returns-clause-complete g c = λ t th player b set lines clean ni ns no.
+    let all = told_bytes (g.I.Source.left c.args.input.now) in
+    let same : input_of AtEnd all ≡ input_of AtEnd (read_of (g.I.Source.left c.args.input.now) (g.I.Source.left c.work-status.new.input) ++ told_bytes (g.I.Source.left c.work-status.new.input)) =
+    ap (input_of AtEnd) (c.work-status.ensures.front t) in
+    let due =
+    ap (λ (a : Answer). a.status) (ap (answer_to _ _) (sym same) ∙ set_answer _ _ _ player b set) ∙ drive_status b.game player b.first (input_of AtEnd all) ∙
+    ap (λ (b : Bool). status_for b (bad_line 0 (lines_in (input_of AtEnd all))) (ending_of (input_of AtEnd all))) clean ∙
+    ap (λ ls. status_for true (bad_line 0 ls) (ending_of (input_of AtEnd all))) (lines_at_end all) ∙
+    ap (λ o. status_for true o (ending_of (input_of AtEnd all))) lines ∙ ap (status_for true None) (ends_at_end all) in
+    done_or_memory _ _ due
+    (completed _ _ _ _ _ _ _ RunEnds _ _ c.refuse.result (returns-clause-text g c t th (told_bytes (g.I.Source.left c.work-status.new.input)) (λ e. e)) (returns-clause-cause g c) (neither _ _ ni ns) no)
 
 pub returns-clause-tells : goal.returns-clause-tells
-returns-clause-tells g c = λ player b set. record {
-  told = (drive b.game player b.first (known (g.I.Source.left c.args.input.now))).body;
+returns-clause-tells g c = λ input player b set. record {
+  told = (drive b.game player b.first input).body;
   body_is = ap (λ (a : Answer). a.body) (set_answer _ _ _ player b set);
-  tells = drive_tells b.game player b.first _;
+  tells = drive_tells b.game player b.first input;
 }
 
 pub returns-clause-fair : goal.returns-clause-fair
-returns-clause-fair g c = λ player b set.
+returns-clause-fair g c = λ input player b set.
     let read = game_found _ b.game set.seated.named.read in
     let ahead : 1 ≤ b.game.ahead = omega (arith, read.session.ahead) in
     let begins = begun_honest b.game player _ b set.begins in
-    drive_fair b.game player b.first _ ahead (begins.honest)
+    drive_fair b.game player b.first input ahead (begins.honest)
 
 pub returns-clause-runs : goal.returns-clause-runs
 returns-clause-runs g c = drive_runs

@@ -1,5 +1,5 @@
 use Rattle.std.specs.Prelude.{IsSome}
-use Rattle.station.specs.Outside.{known}
+use Rattle.station.specs.Outside.{told_bytes}
 use Rattle.std.proofs.Common.{◌≡◌, ◌<◌, ◌≤◌, ◌-◌, List, ℕ, length, take}
 use Rattle.text_io.proofs.fronts.read_front.Given as goal
 
@@ -9,7 +9,7 @@ invariant-chunks g l = record {
   keeps : g.H.Shelf.told l.initial.shelf → (n : List ℕ) → g.H.Shelf.content l.shelf n ≡ g.H.Shelf.content l.initial.shelf n;
   steady : g.H.Shelf.faults l.shelf ≡ g.H.Shelf.faults l.initial.shelf;
   short : length l.text.items ≤ l.limit;
-  text : g.H.Shelf.told l.initial.shelf → l.text.items ≡ take (length l.text.items) (known (g.H.Shelf.content l.initial.shelf l.name));
+  text : g.H.Shelf.told l.initial.shelf → l.text.items ≡ take (length l.text.items) (told_bytes (g.H.Shelf.content l.initial.shelf l.name));
   there : g.H.Shelf.told l.initial.shelf → 0 < length l.text.items → IsSome (g.H.Shelf.content l.initial.shelf l.name);
 }
 

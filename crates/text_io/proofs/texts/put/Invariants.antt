@@ -1,5 +1,5 @@
 use Rattle.std.specs.Prelude.{IsSome}
-use Rattle.station.specs.Outside.{known}
+use Rattle.station.specs.Outside.{told_bytes}
 use Rattle.std.proofs.Common.{◌≡◌, length}
 use Rattle.text_io.specs.Texts.{Underway}
 use Rattle.text_io.proofs.texts.put.Given as goal
@@ -7,7 +7,7 @@ use Rattle.text_io.proofs.texts.put.Given as goal
 abbrev pub invariant-loop-rest : goal.invariant-loop-rest
 invariant-loop-rest g l = record {
   told : IsSome (g.O.Sink.held l.initial.out) → IsSome (g.O.Sink.held l.out);
-  text : IsSome (g.O.Sink.held l.initial.out) → Underway (known (g.O.Sink.held l.initial.out)) l.initial.rest (known (g.O.Sink.held l.out)) l.rest;
+  text : IsSome (g.O.Sink.held l.initial.out) → Underway (told_bytes (g.O.Sink.held l.initial.out)) l.initial.rest (told_bytes (g.O.Sink.held l.out)) l.rest;
   steady : g.O.Sink.faults l.out ≡ g.O.Sink.faults l.initial.out;
 }
 

@@ -7,7 +7,7 @@ pub returns-in-Nothing : goal.returns-in-Nothing
 returns-in-Nothing c =
     let few = c.in-Nothing.ensures.few in
     record {
-      answers = λ lines. rw c.count.ensures.after (passed_over _ _ _ _ _ lines c.requires.clean c.in-Nothing.ensures.value);
+      answers = λ input. rw c.count.ensures.after (passed_over _ _ _ _ _ input c.requires.clean c.in-Nothing.ensures.value);
       counts = rw c.count.ensures.after (refl, omega (arith, few), tt);
     }
 
@@ -15,7 +15,7 @@ pub returns-in-Choose : goal.returns-in-Choose
 returns-in-Choose c =
     let few = c.in-Choose.ensures.few in
     record {
-      answers = λ lines. rw (c.choose.ensures.answer, c.choose.ensures.after, c.count.ensures.after) (answered _ _ _ _ _ lines _ _ c.requires.clean c.in-Choose.ensures.value);
+      answers = λ input. rw (c.choose.ensures.answer, c.choose.ensures.after, c.count.ensures.after) (answered _ _ _ _ _ input _ _ c.requires.clean c.in-Choose.ensures.value);
       counts = rw (c.choose.ensures.answer, c.choose.ensures.after, c.count.ensures.after) (refl, omega (arith, few), choice_longer _ _ _ _ _);
     }
 
@@ -23,7 +23,7 @@ pub returns-in-Got : goal.returns-in-Got
 returns-in-Got c =
     let few = c.in-Got.ensures.few in
     record {
-      answers = λ lines. rw (c.receive.ensures.place, c.receive.ensures.answer, c.receive.ensures.entries, c.receive.ensures.after, c.count.ensures.after) (received _ _ _ _ _ lines _ _ c.requires.clean c.in-Got.ensures.value);
+      answers = λ input. rw (c.receive.ensures.place, c.receive.ensures.answer, c.receive.ensures.entries, c.receive.ensures.after, c.count.ensures.after) (received _ _ _ _ _ input _ _ c.requires.clean c.in-Got.ensures.value);
       counts = rw (c.receive.ensures.entries, c.receive.ensures.after, c.count.ensures.after) (refl, omega (arith, few), got_longer _ _ _ c.in-Got.from c.in-Got.frame);
     }
 
@@ -33,7 +33,7 @@ returns-in-Bytes c =
     let known = c.in-Bytes.ensures.known in
     let room = c.count.ensures.few c.in-Bytes.from in
     record {
-      answers = λ lines. rw c.count.ensures.after (brought _ _ _ _ _ lines _ _ c.requires.clean c.in-Bytes.ensures.value);
+      answers = λ input. rw c.count.ensures.after (brought _ _ _ _ _ input _ _ c.requires.clean c.in-Bytes.ensures.value);
       counts = (
         rw c.count.ensures.after refl,
         rw c.count.ensures.after (omega (arith, few)),
@@ -49,6 +49,6 @@ pub returns-in-Log : goal.returns-in-Log
 returns-in-Log c =
     let few = c.in-Log.ensures.few in
     record {
-      answers = λ lines. rw c.count.ensures.after (printed _ _ _ _ _ lines c.requires.clean c.in-Log.ensures.value);
+      answers = λ input. rw c.count.ensures.after (printed _ _ _ _ _ input c.requires.clean c.in-Log.ensures.value);
       counts = rw c.count.ensures.after (refl, omega (arith, few), tt);
     }

@@ -1,0 +1,14 @@
+-- Laws of lines: what is spelled is read, and what is read was spelled so.
+use Rattle.std.specs.Prelude.{ℕ, ◌≡◌, ◌⊎◌, List}
+use Rattle.script_grammar.specs.declared.grammar.DriveLine.{DriveLine}
+use Rattle.script_grammar.specs.declared.grammar.DriveLine.TheVariants.{Bad}
+use Rattle.script_grammar.specs.Grammar.{line_of}
+use Rattle.script_grammar.specs.Spelling.{Says}
+
+-- a line is read as what it says
+abbrev pub LinesAreRead : Type 0
+LinesAreRead = (line : List ℕ) (said : DriveLine) → Says line said → line_of line ≡ said
+
+-- a line says what it is read as, or it is read as bad and says nothing
+abbrev pub LinesAreSpelled : Type 0
+LinesAreSpelled = (line : List ℕ) → Says line (line_of line) ⊎ ((line_of line ≡ Bad) × ((said : DriveLine) → Says line said → ⊥))

@@ -1,0 +1,54 @@
+-- Spelling: the text of each line of a script, from the parts that the line says.
+use Rattle.std.specs.Prelude.{ℕ, ◌≡◌, ◌≤◌, ◌<◌, ◌⊎◌, List, [], ◌++◌, Option, Some, None, length, codes}
+use Rattle.std.specs.Fmt.{decimal}
+use Rattle.hex.specs.Hex.{IsBytes, encode_lower}
+use Rattle.definitions.specs.declared.world.Cell.{Cell}
+use Rattle.definitions.specs.declared.world.Move.{Move}
+use Rattle.definitions.specs.declared.openings.Nonce.{Nonce}
+use Rattle.definitions.specs.declared.frames.TurnFrame.{TurnFrame}
+use Rattle.definitions.specs.Openings.{FitsCell, FitsStrike}
+use Rattle.commitment.specs.Spelling.{frame_bytes, FitsFrame}
+use Rattle.script_grammar.specs.declared.grammar.DriveLine.{DriveLine}
+use Rattle.script_grammar.specs.declared.grammar.DriveLine.TheVariants.{Nothing, Choose, Got, Bytes, Log, Bad}
+
+-- a number in its one form, and a space
+abbrev pub number_text : ℕ → List ℕ
+number_text n = decimal n ++ codes " "
+
+-- `X Y `
+abbrev pub cell_text : Cell → List ℕ
+cell_text c = number_text c.x ++ number_text c.y
+
+-- `SX SY `, or nothing where the move does not strike
+abbrev pub strike_text : Option Cell → List ℕ
+strike_text None = []
+strike_text (Some c) = cell_text c
+
+-- `choose X Y NONCE` or `choose X Y SX SY NONCE`
+unfoldable pub choose_text : Move → Nonce → List ℕ
+choose_text mv nonce = codes "choose " ++ (cell_text mv.to ++ (strike_text mv.strike ++ encode_lower nonce.bytes))
+
+-- `got Q FRAME`
+unfoldable pub got_text : ℕ → TurnFrame → List ℕ
+got_text q frame = codes "got " ++ (number_text q ++ encode_lower (frame_bytes frame))
+
+-- `bytes Q HEX`
+unfoldable pub bytes_text : ℕ → List ℕ → List ℕ
+bytes_text q bytes = codes "bytes " ++ (number_text q ++ encode_lower bytes)
+
+-- 32 bytes
+abbrev pub FitsNonce : Nonce → Type 0
+FitsNonce nonce = (length nonce.bytes ≡ 32) × IsBytes nonce.bytes
+
+-- the line is empty, or begins with `#`
+abbrev pub IsPassedOver : List ℕ → Type 0
+IsPassedOver line = (line ≡ []) ⊎ ((comment : List ℕ) × (line ≡ codes "#" ++ comment))
+
+-- what a line says: the parts fit their limits, and the line is spelled from them. No line says `Bad`
+abbrev pub Says : List ℕ → DriveLine → Type 0
+Says line Nothing = IsPassedOver line
+Says line (Choose mv nonce) = FitsCell mv.to × FitsStrike mv.strike × FitsNonce nonce × (line ≡ choose_text mv nonce)
+Says line (Got q frame) = (q ≤ 255) × FitsFrame frame × IsBytes (frame_bytes frame) × (line ≡ got_text q frame)
+Says line (Bytes q bytes) = (q ≤ 15) × (0 < length bytes) × IsBytes bytes × (line ≡ bytes_text q bytes)
+Says line Log = line ≡ codes "log"
+Says line Bad = ⊥

@@ -1,0 +1,54 @@
+-- Inputs: what a run reads of its source.
+use Rattle.std.specs.Prelude.{◌≡◌, ℕ, ◌-◌, Option, List, [], ◌∷◌, ◌++◌, length, take}
+use Rattle.station.specs.Outside.{told_bytes}
+use Rattle.text_io.specs.Lines.{lines_of, closed_lines_of}
+use Rattle.text_io.specs.declared.statuses.Status.{Status}
+use Rattle.text_io.specs.declared.statuses.Status.TheVariants.{InputFault}
+
+-- an input as it is read: a line and then more of it, its end, or a fault of the source
+pub data Input : Type 0 where
+  Line : (line : List ℕ) → Input → Input
+  End : Input
+  Fault : Input
+
+-- what reading comes to
+pub data Ending : Type 0 where
+  -- the end of the source
+  AtEnd : Ending
+  -- a fault of the source
+  AtFault : Ending
+
+-- these lines, and then this
+abbrev pub lines_then : List (List ℕ) → Input → Input
+lines_then [] input = input
+lines_then (line ∷ lines) input = Line line (lines_then lines input)
+
+-- the lines of an input
+abbrev pub lines_in : Input → List (List ℕ)
+lines_in (Line line input) = line ∷ lines_in input
+lines_in End = []
+lines_in Fault = []
+
+-- what reading it comes to
+abbrev pub ending_of : Input → Ending
+ending_of (Line line input) = ending_of input
+ending_of End = AtEnd
+ending_of Fault = AtFault
+
+-- an input of which these bytes are read until its end or until a fault: behind a fault a line that has no LF yet is not read
+abbrev pub input_of : Ending → List ℕ → Input
+input_of AtEnd bytes = lines_then (lines_of bytes) End
+input_of AtFault bytes = lines_then (closed_lines_of bytes) Fault
+
+-- the bytes that were read of a source that had the ones left and has the others left now
+unfoldable pub read_of : (before now : Option (List ℕ)) → List ℕ
+read_of before now = take (length (told_bytes before) - length (told_bytes now)) (told_bytes before)
+
+-- These bytes may stand behind those that were read: where none are left, none.
+abbrev pub MayFollow : (left : Option (List ℕ)) → (rest : List ℕ) → Type 0
+MayFollow left rest = told_bytes left ≡ [] → rest ≡ []
+
+-- the input of a run that ended with this status, where it read these bytes and `rest` stands behind them
+abbrev pub input_by : Status → (read rest : List ℕ) → Input
+input_by InputFault read rest = input_of AtFault read
+input_by status read rest = input_of AtEnd (read ++ rest)
