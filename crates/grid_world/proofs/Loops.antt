@@ -12,6 +12,11 @@ use Rattle.grid_world.specs.Lines.{is_bare}
 use Rattle.grid_world.specs.Reading.{◌>>=◌, Fails, start_at, starts_at, is_after, wall_at, walls_at}
 use Rattle.grid_world.proofs.Steps.{wall_at_ok}
 
+-- a fault that is said is answered
+pub said_fails : {Y : Type 0} (e : SessionFault) (read : Result Y SessionFault) → read ≡ Err e → Fails e read
+said_fails Memory read h = tt
+said_fails (At n rule) read h = h
+
 -- the starts that were read before, and those that are still read
 abbrev pub with_starts : List Cell → Result (List Cell × List (List ℕ)) SessionFault → Result (List Cell × List (List ℕ)) SessionFault
 with_starts front read = read >>= λ x. Ok (front ++ x.0, x.1)

@@ -174,7 +174,12 @@ game_at text = do
   said ← said_by (ended_lines_of text)
   Ok (game_of (sha256 text) said.grid said.rules said.turns said.starts)
 
--- what a function that reads answers where there is this fault; of want of memory nothing is said
+-- what a function that takes no memory answers: what is said, seen by view, or the fault
+abbrev pub Says : {X Y : Type 0} → (X → Y) → Result X SessionFault → Result Y SessionFault → Type 0
+Says view (Ok x) read = read ≡ Ok (view x)
+Says view (Err e) read = read ≡ Err e
+
+-- what a function that takes memory answers where there is this fault; of want of memory nothing is said
 abbrev pub Fails : {Y : Type 0} → SessionFault → Result Y SessionFault → Type 0
 Fails Memory read = Unit {0}
 Fails (At n rule) read = read ≡ Err (At n rule)

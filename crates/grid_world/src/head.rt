@@ -5,7 +5,7 @@ ghost use Rattle.definitions.specs.World.{is_inside};
 ghost use Rattle.grid_world.specs.Lines as words;
 ghost use Rattle.grid_world.specs.Lines.{ended_lines_of};
 ghost use Rattle.grid_world.specs.Reading as spec;
-ghost use Rattle.grid_world.specs.Reading.{Gives, line_at, version_at, sides_at, steps_at, charges_at, turns_at, players_at, head_at, cell_at};
+ghost use Rattle.grid_world.specs.Reading.{Says, line_at, version_at, sides_at, steps_at, charges_at, turns_at, players_at, head_at, cell_at};
 ghost use Rattle.grid_world.specs.Parts.{bare, head_of};
 ghost use Rattle.grid_world.specs.declared.fault.SessionFault.TheVariants.{At};
 
@@ -25,7 +25,7 @@ pub(crate) fn fault(line: u32, what: SessionRule) -> SessionFault
 /// The number of line `n`, which has this name and one number, and the text behind the line.
 fn one_at<'a>(n: u32, name: &[u8], text: &'a [u8]) -> Result<(u32, &'a [u8]), SessionFault>
     requires { 0 < length name.now }
-    ensures { Gives (λ x. (x.0, ended_lines_of x.1.now)) result (line_at n (words.one_of name.now) (ended_lines_of text.now)) }
+    ensures { Says (λ x. (x.0, ended_lines_of x.1.now)) result (line_at n (words.one_of name.now) (ended_lines_of text.now)) }
 {
     let (line, rest) = take_line(text);
     match one_of(name, line) {
@@ -37,7 +37,7 @@ fn one_at<'a>(n: u32, name: &[u8], text: &'a [u8]) -> Result<(u32, &'a [u8]), Se
 /// The numbers of line `n`, which has this name and two numbers, and the text behind the line.
 fn two_at<'a>(n: u32, name: &[u8], text: &'a [u8]) -> Result<((u32, u32), &'a [u8]), SessionFault>
     requires { 0 < length name.now }
-    ensures { Gives (λ x. (x.0, ended_lines_of x.1.now)) result (line_at n (words.two_of name.now) (ended_lines_of text.now)) }
+    ensures { Says (λ x. (x.0, ended_lines_of x.1.now)) result (line_at n (words.two_of name.now) (ended_lines_of text.now)) }
 {
     let (line, rest) = take_line(text);
     match two_of(name, line) {
@@ -53,7 +53,7 @@ pub(crate) fn three_at<'a>(
     text: &'a [u8],
 ) -> Result<((u32, u32, u32), &'a [u8]), SessionFault>
     requires { 0 < length name.now }
-    ensures { Gives (λ x. (x.0, ended_lines_of x.1.now)) result (line_at n (words.three_of name.now) (ended_lines_of text.now)) }
+    ensures { Says (λ x. (x.0, ended_lines_of x.1.now)) result (line_at n (words.three_of name.now) (ended_lines_of text.now)) }
 {
     let (line, rest) = take_line(text);
     match three_of(name, line) {
@@ -72,7 +72,7 @@ fn is_within(low: u32, high: u32, n: u32) -> bool
 /// The version's line, which says 1, and the text behind it.
 #[tactic(auto, unfolding(crate::specs::Reading::version_at))]
 fn version(text: &[u8]) -> Result<&[u8], SessionFault>
-    ensures { Gives (λ x. ended_lines_of x.now) result (version_at (ended_lines_of text.now)) }
+    ensures { Says (λ x. ended_lines_of x.now) result (version_at (ended_lines_of text.now)) }
 {
     let (version, rest) = one_at(1, b"playout", text)?;
     if version != 1 {
@@ -84,7 +84,7 @@ fn version(text: &[u8]) -> Result<&[u8], SessionFault>
 /// How wide and how high the grid is.
 #[tactic(auto, unfolding(crate::specs::Reading::sides_at))]
 fn sides(text: &[u8]) -> Result<(Sides, &[u8]), SessionFault>
-    ensures { Gives (λ x. ((x.0.width, x.0.height), ended_lines_of x.1.now)) result (sides_at (ended_lines_of text.now)) }
+    ensures { Says (λ x. ((x.0.width, x.0.height), ended_lines_of x.1.now)) result (sides_at (ended_lines_of text.now)) }
 {
     let ((width, height), rest) = two_at(2, b"grid", text)?;
     if !(is_within(1, 256, width) && is_within(1, 256, height)) {
@@ -100,7 +100,7 @@ fn sides(text: &[u8]) -> Result<(Sides, &[u8]), SessionFault>
 /// Speed, reach and blast.
 #[tactic(auto, unfolding(crate::specs::Reading::steps_at))]
 fn steps(text: &[u8]) -> Result<((u8, u8, u8), &[u8]), SessionFault>
-    ensures { Gives (λ x. (x.0, ended_lines_of x.1.now)) result (steps_at (ended_lines_of text.now)) }
+    ensures { Says (λ x. (x.0, ended_lines_of x.1.now)) result (steps_at (ended_lines_of text.now)) }
 {
     let ((speed, reach, blast), rest) = three_at(3, b"rules", text)?;
     if !(is_within(1, 8, speed) && (reach <= 8 && blast <= 2)) {
@@ -112,7 +112,7 @@ fn steps(text: &[u8]) -> Result<((u8, u8, u8), &[u8]), SessionFault>
 /// The start charge, the cap and the cost.
 #[tactic(auto, unfolding(crate::specs::Reading::charges_at))]
 fn charges(text: &[u8]) -> Result<((u8, u8, u8), &[u8]), SessionFault>
-    ensures { Gives (λ x. (x.0, ended_lines_of x.1.now)) result (charges_at (ended_lines_of text.now)) }
+    ensures { Says (λ x. (x.0, ended_lines_of x.1.now)) result (charges_at (ended_lines_of text.now)) }
 {
     let ((start, cap, cost), rest) = three_at(4, b"charge", text)?;
     if !(start <= 255 && (cap <= 255 && (cost <= 255 && start <= cap))) {
@@ -124,7 +124,7 @@ fn charges(text: &[u8]) -> Result<((u8, u8, u8), &[u8]), SessionFault>
 /// How many turns are played.
 #[tactic(auto, unfolding(crate::specs::Reading::turns_at))]
 fn turns(text: &[u8]) -> Result<(u32, &[u8]), SessionFault>
-    ensures { Gives (λ x. (x.0, ended_lines_of x.1.now)) result (turns_at (ended_lines_of text.now)) }
+    ensures { Says (λ x. (x.0, ended_lines_of x.1.now)) result (turns_at (ended_lines_of text.now)) }
 {
     let (turns, rest) = one_at(5, b"turns", text)?;
     if !is_within(1, 4096, turns) {
@@ -136,7 +136,7 @@ fn turns(text: &[u8]) -> Result<(u32, &[u8]), SessionFault>
 /// How many players there are.
 #[tactic(auto, unfolding(crate::specs::Reading::players_at))]
 fn players(text: &[u8]) -> Result<(u8, &[u8]), SessionFault>
-    ensures { Gives (λ x. (x.0, ended_lines_of x.1.now)) result (players_at (ended_lines_of text.now)) }
+    ensures { Says (λ x. (x.0, ended_lines_of x.1.now)) result (players_at (ended_lines_of text.now)) }
 {
     let (players, rest) = one_at(6, b"players", text)?;
     if !is_within(2, 16, players) {
@@ -148,7 +148,7 @@ fn players(text: &[u8]) -> Result<(u8, &[u8]), SessionFault>
 /// What the first six lines say, and the text behind them.
 #[tactic(auto, unfolding(crate::specs::Reading::head_at))]
 pub(crate) fn head(text: &[u8]) -> Result<(Head, &[u8]), SessionFault>
-    ensures { Gives (λ x. (head_of x.0, ended_lines_of x.1.now)) result (head_at (ended_lines_of text.now)) }
+    ensures { Says (λ x. (head_of x.0, ended_lines_of x.1.now)) result (head_at (ended_lines_of text.now)) }
 {
     let rest = version(text)?;
     let (sides, rest) = sides(rest)?;

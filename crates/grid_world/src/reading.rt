@@ -4,7 +4,7 @@ ghost use Rattle.std.specs.Prelude.{◌≡◌, ◌<◌, ◌≤◌, ◌+◌, ◌&
 ghost use Rattle.definitions.specs.World.{has_cell, is_inside};
 ghost use Rattle.grid_world.specs.Lines.{ended_lines_of};
 ghost use Rattle.grid_world.specs.Reading as spec;
-ghost use Rattle.grid_world.specs.Reading.{Gives, start_at, starts_at, wall_at, walls_at, cell_at, game_at, session_fault};
+ghost use Rattle.grid_world.specs.Reading.{Gives, Says, head_at, start_at, starts_at, wall_at, walls_at, cell_at, game_at, session_fault};
 ghost use Rattle.definitions.specs.World.{Game};
 ghost use Rattle.grid_world.specs.Answers.{IsReadFrom, IsRead, Faults};
 ghost use Rattle.grid_world.specs.Parts.{bare};
@@ -36,7 +36,7 @@ fn cell_of(sides: Sides, x: u32, y: u32) -> Option<Cell>
 /// Where the player starts, which its line says, and the text behind that line.
 #[tactic(auto, unfolding(crate::specs::Reading::start_at))]
 fn start_of(sides: Sides, player: PlayerId, text: &[u8]) -> Result<(Cell, &[u8]), SessionFault>
-    ensures { Gives (λ x. (x.0, ended_lines_of x.1.now)) result (start_at (bare sides) player (ended_lines_of text.now)) }
+    ensures { Says (λ x. (x.0, ended_lines_of x.1.now)) result (start_at (bare sides) player (ended_lines_of text.now)) }
 {
     let line = 7 + u32::from(player);
     let ((number, x, y), rest) = three_at(line, b"player", text)?;
@@ -93,7 +93,7 @@ fn wall_of(
     n: u32,
     line: &[u8],
 ) -> Result<Cell, SessionFault>
-    ensures { Gives (λ x. x) result (wall_at (bare sides) starts.now before n line.now) }
+    ensures { Says (λ x. x) result (wall_at (bare sides) starts.now before n line.now) }
 {
     let Some((x, y)) = two_of(b"wall", line) else {
         return Err(fault(n, SessionRule::S1));
@@ -144,7 +144,8 @@ fn walls_of(
 /// The session of a text, or the first rule that the text breaks.
 #[tactic(auto, unfolding(crate::specs::Reading::game_at, crate::specs::Reading::said_by))]
 fn session_of(alloc: Global, text: &[u8]) -> Result<Session, SessionFault>
-    ensures { Gives (λ s. s) result (game_at text.now) }
+    ensures said { Gives (λ s. s) result (game_at text.now) }
+    ensures early { (e : SessionFault) → head_at (ended_lines_of text.now) ≡ Err e → result ≡ Err e }
 {
     let (head, rest) = head(text)?;
     let (starts, rest) = starts_of(alloc, head.sides, head.players, rest)?;
@@ -166,6 +167,8 @@ pub fn read_session(alloc: Global, text: &[u8]) -> Result<Session, SessionFault>
     ensures only { (game : Game) → IsReadFrom game text.now → IsRead game result }
     // Which line is at fault, and which rule it breaks.
     ensures exact { Faults result (session_fault text.now) }
+    // A fault in the lines before those of the players is answered before any memory is taken.
+    ensures early { (e : SessionFault) → head_at (ended_lines_of text.now) ≡ Err e → result ≡ Err e }
     // All of it once more, as the text is read line by line.
     ensures said { Gives (λ s. s) result (game_at text.now) }
 {

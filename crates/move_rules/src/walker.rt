@@ -1,6 +1,6 @@
 //! Which moves are legal.
 
-ghost use Rattle.std.specs.Prelude.{◌≡◌, ◌<◌, ◌≤◌, IsTrue, IfOk, IfNone, IfSome};
+ghost use Rattle.std.specs.Prelude.{◌≡◌, ◌<◌, ◌≤◌, IsTrue, IfOk, IsOk, IfNone, IfSome};
 ghost use Rattle.definitions.specs.World.{players_of, is_open};
 ghost use Rattle.definitions.specs.Walk.{in_reach};
 ghost use Rattle.definitions.specs.Moves as M;
@@ -85,7 +85,8 @@ fn move_fault(session: &Session, player: PlayerId, track: &Track, mv: &Move) -> 
 impl Walker {
     /// A walker for grids of this grid's size.
     pub fn new(_alloc: Global, grid: &Grid) -> Result<Walker, AllocError>
-        ensures { IfOk result (λ w. w ≡ size_of grid.now) }
+        ensures value { IfOk result (λ w. w ≡ size_of grid.now) }
+        ensures sure { IsOk result }
     {
         Ok(Walker {
             width: grid.width(),

@@ -6,11 +6,8 @@ use Rattle.station.specs.declared.sources.Pull.TheVariants.{Took, Ended, Failed 
 use Rattle.station.specs.declared.sinks.Push.{Push}
 use Rattle.station.specs.declared.sinks.Push.TheVariants.{Gave, Failed as PushFailed}
 use Rattle.station.specs.Files.{content_in}
+use Rattle.station.specs.Outside.{one_more}
 use Rattle.station.specs.Plans.{Plan, HeldSource, HeldSink, HeldShelf}
-
--- a number and one more, up to the last value
-abbrev pub one_more : ℕ → ℕ
-one_more n = min (n + 1) (2 ^ 64 - 1)
 
 -- the plan of an object that was not called yet
 abbrev pub unused : List ℕ → Plan

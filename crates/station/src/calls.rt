@@ -1,7 +1,8 @@
 //! Which calls of an object in memory fail.
 
 ghost use Rattle.std.specs.Prelude.{◌≡◌, ◌≤◌, false};
-ghost use Rattle.station.specs.Memory.{unused, one_more, fails_next, after_call};
+ghost use Rattle.station.specs.Outside.{one_more};
+ghost use Rattle.station.specs.Memory.{unused, fails_next, after_call};
 
 use std::marker::Model;
 

@@ -1,7 +1,7 @@
 //! Files by name.
 
 ghost use Rattle.std.specs.Prelude.{◌≡◌, ◌<◌, ◌≤◌, Option, List, ℕ, length};
-ghost use Rattle.station.specs.Outside.{Rose};
+ghost use Rattle.station.specs.Outside.{one_more};
 ghost use Rattle.station.specs.Pulls.{PulledAt, TakesWithin, OnPullFailed, OnPulled};
 
 use crate::sources::Pull;
@@ -28,9 +28,9 @@ pub trait Shelf {
         ensures keeps { told self.old → (n : List ℕ) → content self.new n ≡ content self.old n }
         ensures bytes { told self.old → PulledAt (content self.old name.now) at result buf.new }
 
-        // The count rises exactly where the call fails.
+        // The count rises, by one, exactly where the call fails.
         ensures later { faults self.old ≤ faults self.new }
-        ensures cause { OnPullFailed result (Rose (faults self.old) (faults self.new)) }
+        ensures cause { OnPullFailed result (faults self.new ≡ one_more (faults self.old)) }
         ensures asked { OnPullFailed result (failed self.old self.new name.now) }
         ensures steady { OnPulled result (faults self.new ≡ faults self.old) };
 }

@@ -1,7 +1,7 @@
 //! Bytes to be written.
 
 ghost use Rattle.std.specs.Prelude.{◌≡◌, ◌<◌, ◌≤◌, IsSome, Option, List, ℕ, length};
-ghost use Rattle.station.specs.Outside.{told_bytes, Rose};
+ghost use Rattle.station.specs.Outside.{told_bytes, one_more};
 ghost use Rattle.station.specs.Pushes.{Pushed, GivesWithin, OnPushFailed, OnPushed};
 
 /// What a sink answers.
@@ -28,8 +28,8 @@ pub trait Sink {
         ensures told { IsSome (held self.old) → IsSome (held self.new) }
         ensures bytes { IsSome (held self.old) → Pushed (told_bytes (held self.old)) (told_bytes (held self.new)) result bytes.now }
 
-        // The count rises exactly where the call fails.
+        // The count rises, by one, exactly where the call fails.
         ensures later { faults self.old ≤ faults self.new }
-        ensures cause { OnPushFailed result (Rose (faults self.old) (faults self.new)) }
+        ensures cause { OnPushFailed result (faults self.new ≡ one_more (faults self.old)) }
         ensures steady { OnPushed result (faults self.new ≡ faults self.old) };
 }

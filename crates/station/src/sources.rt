@@ -1,7 +1,7 @@
 //! Bytes to be read.
 
 ghost use Rattle.std.specs.Prelude.{◌≡◌, ◌<◌, ◌≤◌, IsSome, Option, List, ℕ, length};
-ghost use Rattle.station.specs.Outside.{told_bytes, Rose};
+ghost use Rattle.station.specs.Outside.{told_bytes, one_more};
 ghost use Rattle.station.specs.Pulls.{Pulled, TakesWithin, OnPullFailed, OnPulled};
 
 /// What a source or a shelf answers.
@@ -30,8 +30,8 @@ pub trait Source {
         ensures told { IsSome (left self.old) → IsSome (left self.new) }
         ensures bytes { IsSome (left self.old) → Pulled (told_bytes (left self.old)) (told_bytes (left self.new)) result buf.new }
 
-        // The count rises exactly where the call fails.
+        // The count rises, by one, exactly where the call fails.
         ensures later { faults self.old ≤ faults self.new }
-        ensures cause { OnPullFailed result (Rose (faults self.old) (faults self.new)) }
+        ensures cause { OnPullFailed result (faults self.new ≡ one_more (faults self.old)) }
         ensures steady { OnPulled result (faults self.new ≡ faults self.old) };
 }

@@ -6,7 +6,7 @@ use Rattle.text_io.specs.Statuses.{refusal_of}
 use Rattle.text_io.specs.declared.statuses.Status.{Status}
 use Rattle.text_io.specs.declared.statuses.Status.TheVariants.{NoMemory, InputFault, OutputFault}
 
--- The status stays and its line was written, or the sink failed in it, whose count rose.
+-- The status stays and its line was written, or the sink failed in it.
 abbrev pub Refused : (told : Type 0) → (before now : List ℕ) → Status → (result : Status) → Type 0
 Refused told before now status result =
     ((result ≡ status) × (told → now ≡ before ++ refusal_of status)) ⊎ ((result ≡ OutputFault) × (told → Between before (refusal_of status) now))
