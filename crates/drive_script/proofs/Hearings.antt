@@ -101,11 +101,11 @@ too_long game me s n [] last c l = absurd l
 too_long game me s n (line ∷ lines) last c l = refused game me s n line (lines_then lines last) c (sym (overlong n line l))
 
 -- the text before the rest was written
-pub onward_text : (told : Type 0) (a b t : List ℕ) (p q : Answer) → p ≡ after_text t q → (told → b ≡ a ++ t) → Onward told a p b q
-onward_text told a b t p q e w = record {
-  longer = λ h. (grew a b (t, w h)).longer;
-  kept = λ h. (grew a b (t, w h)).kept;
-  text = λ h. ap (λ x. x ++ q.body) (w h) ∙ append_assoc a t q.body ∙ ap (λ (r : Answer). a ++ r.body) (sym e);
+pub onward_text : (a b t : List ℕ) (p q : Answer) → p ≡ after_text t q → (b ≡ a ++ t) → Onward a p b q
+onward_text a b t p q e w = record {
+  longer = (grew a b (t, w)).longer;
+  kept = (grew a b (t, w)).kept;
+  text = ap (λ x. x ++ q.body) w ∙ append_assoc a t q.body ∙ ap (λ (r : Answer). a ++ r.body) (sym e);
   status = ap (λ (r : Answer). r.status) (sym e);
 }
 
@@ -114,15 +114,15 @@ pub between_text : (a b t : List ℕ) (p q : Answer) → p ≡ after_text t q �
 between_text a b t p q e w = let F : Answer → Type 0 = λ r. Between a r.body b in subst F (sym e) (wrote_first a b t q.body w)
 
 -- a line of no grammar ends the run, and nothing was written
-pub bad_ends : (told : Type 0) (a : List ℕ) (p : Answer) (n : ℕ) → p ≡ bare_answer (BadLine Script n) → Ended told a a p (BadLine Script n)
-bad_ends told a p n e = (λ h. sym (append-nil a) ∙ ap (λ (r : Answer). a ++ r.body) (sym e), ap (λ (r : Answer). r.status) (sym e))
+pub bad_ends : (a : List ℕ) (p : Answer) (n : ℕ) → p ≡ bare_answer (BadLine Script n) → Ended a a p (BadLine Script n)
+bad_ends a p n e = (sym (append-nil a) ∙ ap (λ (r : Answer). a ++ r.body) (sym e), ap (λ (r : Answer). r.status) (sym e))
 
 -- a fault of the source ends the run, and nothing was written
-pub fault_ends : (told : Type 0) (game : Game) (me : ℕ) (s : State) (n : ℕ) (a : List ℕ) (input : Input) → is_clean game s.log ≡ true → input ≡ Fault →
-    Ended told a a (answer_from game me s n input) InputFault
-fault_ends told game me s n a input c e =
+pub fault_ends : (game : Game) (me : ℕ) (s : State) (n : ℕ) (a : List ℕ) (input : Input) → is_clean game s.log ≡ true → input ≡ Fault →
+    Ended a a (answer_from game me s n input) InputFault
+fault_ends game me s n a input c e =
     let due : answer_from game me s n input ≡ bare_answer InputFault = ap (answer_from game me s n) e ∙ goes_on game me s.log (drive_from game me s n Fault) c in
-    (λ h. sym (append-nil a) ∙ ap (λ (r : Answer). a ++ r.body) (sym due), ap (λ (r : Answer). r.status) (sym due))
+    (sym (append-nil a) ∙ ap (λ (r : Answer). a ++ r.body) (sym due), ap (λ (r : Answer). r.status) (sym due))
 
 -- a log has no finding where its peer tells of none, and has one where it tells of it
 pub told_none : (b clean : Bool) → b ≡ not clean → b ≡ false → clean ≡ true

@@ -1,5 +1,5 @@
 -- Plays: a line that is read and answered, and the ends to which reading comes.
-use Rattle.std.proofs.Common.{◌≡◌, ℕ, ◌<◌, List, [], ◌∷◌, ◌++◌, Option, length, refl, subst, sym, ◌∙◌}
+use Rattle.std.proofs.Common.{◌≡◌, ℕ, ◌<◌, List, [], ◌∷◌, ◌++◌, Bool, length, refl, subst, sym, ◌∙◌}
 use Rattle.text_io.specs.Lines.{IsOpen}
 use Rattle.text_io.specs.Frame.{Ended, EndCause, Onward}
 use Rattle.text_io.specs.Inputs.{AtEnd, End, Input, Line, input_by, input_of}
@@ -20,25 +20,25 @@ whole_read output InputFault bytes rest c = absurd c
 whole_read output s bytes rest c = refl
 
 -- the run ended by what it read
-module _ (told output : Type 0) (a b : List ℕ) (d : Driven) (s : Status) (bytes rest : List ℕ) (c : EndCause ScriptEnds ⊥ output s) where
-  ended_by : (input : Input) → input_of AtEnd (bytes ++ rest) ≡ input → Ended told a b (driven_from d input) s → Ended told a b (driven_from d (input_by s bytes rest)) s
+module _ (output : Type 0) (a b : List ℕ) (d : Driven) (s : Status) (bytes rest : List ℕ) (c : EndCause ScriptEnds ⊥ output s) where
+  ended_by : (input : Input) → input_of AtEnd (bytes ++ rest) ≡ input → Ended a b (driven_from d input) s → Ended a b (driven_from d (input_by s bytes rest)) s
   ended_by input e ended =
-      let E : Input → Type 0 = λ i. Ended told a b (driven_from d i) s in
+      let E : Input → Type 0 = λ i. Ended a b (driven_from d i) s in
       subst E (sym (whole_read output s bytes rest c ∙ e)) ended
 
   -- at the end
-  pub ended_at_end : bytes ≡ [] → rest ≡ [] → Ended told a b (driven_from d End) s → Ended told a b (driven_from d (input_by s bytes rest)) s
+  pub ended_at_end : bytes ≡ [] → rest ≡ [] → Ended a b (driven_from d End) s → Ended a b (driven_from d (input_by s bytes rest)) s
   ended_at_end none gone ended = ended_by End (end_read bytes rest none gone) ended
 
   -- at the last line
-  pub ended_at_last : (line : List ℕ) → IsOpen line → 0 < length line → bytes ≡ line → rest ≡ [] → Ended told a b (driven_from d (Line line End)) s → Ended told a b (driven_from d (input_by s bytes rest)) s
+  pub ended_at_last : (line : List ℕ) → IsOpen line → 0 < length line → bytes ≡ line → rest ≡ [] → Ended a b (driven_from d (Line line End)) s → Ended a b (driven_from d (input_by s bytes rest)) s
   ended_at_last line uncut some is gone ended = ended_by (Line line End) (last_read bytes line rest uncut some is gone) ended
 
 -- a line was read and answered
-pub line_played : (told output : Type 0) (a b : List ℕ) (d d' : Driven) (bytes held line : List ℕ) (left : Option (List ℕ)) (turn : LoopTurn) → IsOpen line → bytes ≡ line ++ 10 ∷ held →
-    ((input : Input) → Turned told a (driven_from d (Line line input)) b (driven_from d' input) turn) → TurnCause ScriptEnds ⊥ output turn → Played told a b d d' bytes left held turn
-line_played told output a b d d' bytes held line left On uncut is turned c = λ ending rest.
-    let O : Input → Type 0 = λ i. Onward told a (driven_from d i) b (driven_from d' (input_of ending (held ++ rest))) in
+pub line_played : (output : Type 0) (a b : List ℕ) (d d' : Driven) (bytes held line : List ℕ) (left : Bool) (turn : LoopTurn) → IsOpen line → bytes ≡ line ++ 10 ∷ held →
+    ((input : Input) → Turned a (driven_from d (Line line input)) b (driven_from d' input) turn) → TurnCause ScriptEnds ⊥ output turn → Played a b d d' bytes left held turn
+line_played output a b d d' bytes held line left On uncut is turned c = λ ending rest.
+    let O : Input → Type 0 = λ i. Onward a (driven_from d i) b (driven_from d' (input_of ending (held ++ rest))) in
     subst O (sym (line_read ending bytes line held rest uncut is)) (turned (input_of ending (held ++ rest)))
-line_played told output a b d d' bytes held line left (Over s) uncut is turned c = λ rest m.
-    ended_by told output a b d s bytes rest c (Line line (input_of AtEnd (held ++ rest))) (line_read AtEnd bytes line held rest uncut is) (turned (input_of AtEnd (held ++ rest)))
+line_played output a b d d' bytes held line left (Over s) uncut is turned c = λ rest m.
+    ended_by output a b d s bytes rest c (Line line (input_of AtEnd (held ++ rest))) (line_read AtEnd bytes line held rest uncut is) (turned (input_of AtEnd (held ++ rest)))

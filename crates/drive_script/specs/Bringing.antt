@@ -9,10 +9,10 @@ use Rattle.drive_script.specs.Driven.{Driven}
 use Rattle.drive_script.specs.Hearing.{driven_from, bytes_from}
 
 -- The whole stays, with the rest of the bytes or without it; or the sink failed in a front of it.
-abbrev pub Brought : (told : Type 0) → (before : List ℕ) → (due : Answer) → (now : List ℕ) → Driven → ℕ → List ℕ → Input → PartTurn → Type 0
-Brought told before due now d q bytes input (On used) = Onward told before due now (bytes_from d q (drop used bytes) input)
-Brought told before due now d q bytes input Over = Onward told before due now (driven_from d input)
-Brought told before due now d q bytes input Failed = told → Between before due.body now
+abbrev pub Brought : (before : List ℕ) → (due : Answer) → (now : List ℕ) → Driven → ℕ → List ℕ → Input → PartTurn → Type 0
+Brought before due now d q bytes input (On used) = Onward before due now (bytes_from d q (drop used bytes) input)
+Brought before due now d q bytes input Over = Onward before due now (driven_from d input)
+Brought before due now d q bytes input Failed = Between before due.body now
 
 -- P, where the sink failed
 abbrev pub OnFailed : PartTurn → Type 0 → Type 0

@@ -1,8 +1,8 @@
 //! Lines that are answered.
 
-ghost use Rattle.std.specs.Prelude.{◌≡◌, ◌≤◌, ◌<◌, ◌+◌, ◌∷◌, List, ℕ, length, drop, IsSome, IsTrue};
+ghost use Rattle.std.specs.Prelude.{◌≡◌, ◌≤◌, ◌<◌, ◌+◌, ◌∷◌, List, ℕ, length, drop, IsTrue};
 ghost use Rattle.definitions.specs.Findings.{is_clean};
-ghost use Rattle.station.specs.Outside.{told_bytes, Rose};
+ghost use Rattle.station.specs.Outside.{Rose};
 ghost use Rattle.text_io.specs.Frame.{UnlessOutputFault, OnDone};
 ghost use Rattle.text_io.specs.Inputs.{Input, Line};
 ghost use Rattle.text_io.specs.Turns.{Turned, TurnCause, MatchTurn, OnOn};
@@ -41,10 +41,9 @@ pub(crate) fn bad_line_status(driver: &Driver) -> Status
 /// Reads on in bytes that come from a player, up to the end of a frame, and tells of it.
 fn bring_part<O: Sink>(driver: &mut Driver, from: PlayerId, bytes: &[u8], out: &mut O) -> PartTurn
     requires { MayCome driver.old from bytes.now }
-    ensures told { IsSome (O.held out.old) → IsSome (O.held out.new) }
-    ensures text { (input : Input) → Brought (IsSome (O.held out.old))
-        (told_bytes (O.held out.old)) (bytes_from driver.old from bytes.now input)
-        (told_bytes (O.held out.new)) driver.new from bytes.now input result }
+    ensures text { (input : Input) → Brought
+        (O.held out.old) (bytes_from driver.old from bytes.now input)
+        (O.held out.new) driver.new from bytes.now input result }
     ensures later { O.faults out.old ≤ O.faults out.new }
     ensures cause { OnFailed result (Rose (O.faults out.old) (O.faults out.new)) }
     ensures steady { OnWell result (O.faults out.new ≡ O.faults out.old) }
@@ -69,10 +68,9 @@ fn bring_part<O: Sink>(driver: &mut Driver, from: PlayerId, bytes: &[u8], out: &
 /// and of a bad byte.
 fn bring<O: Sink>(driver: &mut Driver, from: PlayerId, bytes: &[u8], out: &mut O) -> LoopTurn
     requires { MayCome driver.old from bytes.now }
-    ensures told { IsSome (O.held out.old) → IsSome (O.held out.new) }
-    ensures text { (input : Input) → Turned (IsSome (O.held out.old))
-        (told_bytes (O.held out.old)) (bytes_from driver.old from bytes.now input)
-        (told_bytes (O.held out.new)) (driven_from driver.new input) result }
+    ensures text { (input : Input) → Turned
+        (O.held out.old) (bytes_from driver.old from bytes.now input)
+        (O.held out.new) (driven_from driver.new input) result }
     ensures later { O.faults out.old ≤ O.faults out.new }
     ensures cause { TurnCause ScriptEnds ⊥ (Rose (O.faults out.old) (O.faults out.new)) result }
     ensures steady { MatchTurn result (O.faults out.new ≡ O.faults out.old) (λ s. UnlessOutputFault s (O.faults out.new ≡ O.faults out.old)) }
@@ -93,10 +91,9 @@ fn bring<O: Sink>(driver: &mut Driver, from: PlayerId, bytes: &[u8], out: &mut O
 pub(crate) fn answer<O: Sink>(driver: &mut Driver, line: &[u8], out: &mut O) -> LoopTurn
     requires short { length line.now ≤ 1024 }
     requires clean { IsTrue (is_clean driver.old.game driver.old.state.log) }
-    ensures told { IsSome (O.held out.old) → IsSome (O.held out.new) }
-    ensures text { (input : Input) → Turned (IsSome (O.held out.old))
-        (told_bytes (O.held out.old)) (driven_from driver.old (Line line.now input))
-        (told_bytes (O.held out.new)) (driven_from driver.new input) result }
+    ensures text { (input : Input) → Turned
+        (O.held out.old) (driven_from driver.old (Line line.now input))
+        (O.held out.new) (driven_from driver.new input) result }
     ensures later { O.faults out.old ≤ O.faults out.new }
     ensures cause { TurnCause ScriptEnds ⊥ (Rose (O.faults out.old) (O.faults out.new)) result }
     ensures steady { MatchTurn result (O.faults out.new ≡ O.faults out.old) (λ s. UnlessOutputFault s (O.faults out.new ≡ O.faults out.old)) }

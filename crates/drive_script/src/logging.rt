@@ -1,8 +1,8 @@
 //! The log so far, printed.
 
-ghost use Rattle.std.specs.Prelude.{◌≡◌, ◌≤◌, ◌++◌, codes, IsSome};
+ghost use Rattle.std.specs.Prelude.{◌≡◌, ◌≤◌, ◌++◌, codes};
 ghost use Rattle.hex.specs.Hex.{encode_lower};
-ghost use Rattle.station.specs.Outside.{told_bytes, Rose};
+ghost use Rattle.station.specs.Outside.{Rose};
 ghost use Rattle.text_io.specs.Texts.{Wrote, OnUnwritten, OnWritten};
 ghost use Rattle.session_log.specs.Writing.{written, after, all_written, fresh};
 ghost use Rattle.drive_script.specs.Lines.{log_text, log_field};
@@ -32,8 +32,7 @@ fn entry_digits(writer: &mut LogWriter, entry: &Entry) -> ArrayVec<u8, 192>
 
 /// Writes the digits of the bytes of these entries of a log.
 fn put_digits<O: Sink>(writer: &mut LogWriter, entries: &[Entry], out: &mut O) -> Written
-    ensures told { IsSome (O.held out.old) → IsSome (O.held out.new) }
-    ensures text { IsSome (O.held out.old) → Wrote (told_bytes (O.held out.old)) (told_bytes (O.held out.new)) (encode_lower (all_written writer.old entries.now)) result }
+    ensures text { Wrote (O.held out.old) (O.held out.new) (encode_lower (all_written writer.old entries.now)) result }
     ensures later { O.faults out.old ≤ O.faults out.new }
     ensures cause { OnUnwritten result (Rose (O.faults out.old) (O.faults out.new)) }
     ensures steady { OnWritten result (O.faults out.new ≡ O.faults out.old) }
@@ -49,8 +48,7 @@ fn put_digits<O: Sink>(writer: &mut LogWriter, entries: &[Entry], out: &mut O) -
 
 /// Writes the digits of a log as a field of a line; nothing where the log has no bytes.
 fn put_field<O: Sink>(peer: &Peer, out: &mut O) -> Written
-    ensures told { IsSome (O.held out.old) → IsSome (O.held out.new) }
-    ensures text { IsSome (O.held out.old) → Wrote (told_bytes (O.held out.old)) (told_bytes (O.held out.new)) (log_field (log_bytes peer.now.game.id peer.now.me peer.now.entries)) result }
+    ensures text { Wrote (O.held out.old) (O.held out.new) (log_field (log_bytes peer.now.game.id peer.now.me peer.now.entries)) result }
     ensures later { O.faults out.old ≤ O.faults out.new }
     ensures cause { OnUnwritten result (Rose (O.faults out.old) (O.faults out.new)) }
     ensures steady { OnWritten result (O.faults out.new ≡ O.faults out.old) }
@@ -68,8 +66,7 @@ fn put_field<O: Sink>(peer: &Peer, out: &mut O) -> Written
 
 /// Writes the word and the log.
 fn put_word_and_field<O: Sink>(peer: &Peer, out: &mut O) -> Written
-    ensures told { IsSome (O.held out.old) → IsSome (O.held out.new) }
-    ensures text { IsSome (O.held out.old) → Wrote (told_bytes (O.held out.old)) (told_bytes (O.held out.new)) (codes "log" ++ log_field (log_bytes peer.now.game.id peer.now.me peer.now.entries)) result }
+    ensures text { Wrote (O.held out.old) (O.held out.new) (codes "log" ++ log_field (log_bytes peer.now.game.id peer.now.me peer.now.entries)) result }
     ensures later { O.faults out.old ≤ O.faults out.new }
     ensures cause { OnUnwritten result (Rose (O.faults out.old) (O.faults out.new)) }
     ensures steady { OnWritten result (O.faults out.new ≡ O.faults out.old) }
@@ -83,8 +80,7 @@ fn put_word_and_field<O: Sink>(peer: &Peer, out: &mut O) -> Written
 /// Writes the line that prints the log so far, all of its bytes, entry by entry.
 #[tactic(auto, unfolding(crate::specs::Lines::log_text))]
 pub(crate) fn put_log<O: Sink>(peer: &Peer, out: &mut O) -> Written
-    ensures told { IsSome (O.held out.old) → IsSome (O.held out.new) }
-    ensures text { IsSome (O.held out.old) → Wrote (told_bytes (O.held out.old)) (told_bytes (O.held out.new)) (log_text peer.now.game peer.now.me peer.now.entries) result }
+    ensures text { Wrote (O.held out.old) (O.held out.new) (log_text peer.now.game peer.now.me peer.now.entries) result }
     ensures later { O.faults out.old ≤ O.faults out.new }
     ensures cause { OnUnwritten result (Rose (O.faults out.old) (O.faults out.new)) }
     ensures steady { OnWritten result (O.faults out.new ≡ O.faults out.old) }

@@ -1,10 +1,10 @@
 //! A script that is answered line by line.
 
-ghost use Rattle.std.specs.Prelude.{◌≡◌, ◌≤◌, ◌+◌, ◌++◌, [], List, ℕ, false, length, IsSome, IsTrue};
+ghost use Rattle.std.specs.Prelude.{◌≡◌, ◌≤◌, ◌+◌, ◌++◌, [], List, ℕ, false, true, length, IsTrue};
 ghost use Rattle.definitions.specs.Advance.{advance};
 ghost use Rattle.definitions.specs.Findings.{is_clean};
 ghost use Rattle.log_scan.specs.First.{finding_of_log};
-ghost use Rattle.station.specs.Outside.{told_bytes, Rose};
+ghost use Rattle.station.specs.Outside.{Rose};
 ghost use Rattle.text_io.specs.Inputs.{Input, Line, End, MayFollow, input_by, read_of};
 ghost use Rattle.text_io.specs.Frame.{Ended, EndCause, after_text, OnDone, UnlessInputFault, UnlessOutputFault};
 ghost use Rattle.text_io.specs.Turns.{TurnCause, MatchTurn, OnOver, OnOn};
@@ -24,8 +24,7 @@ use text_io::{LineReader, LoopTurn, NextLine, Status, Written};
 /// Writes the end of a peer whose log has a finding.
 fn end_caught<O: Sink>(driver: &Driver, out: &mut O) -> Status
     requires { is_clean driver.now.game driver.now.state.log ≡ false }
-    ensures told { IsSome (O.held out.old) → IsSome (O.held out.new) }
-    ensures text { (input : Input) → Ended (IsSome (O.held out.old)) (told_bytes (O.held out.old)) (told_bytes (O.held out.new)) (driven_from driver.now input) result }
+    ensures text { (input : Input) → Ended (O.held out.old) (O.held out.new) (driven_from driver.now input) result }
     ensures later { O.faults out.old ≤ O.faults out.new }
     ensures cause { EndCause ScriptEnds ⊥ (Rose (O.faults out.old) (O.faults out.new)) result }
     ensures steady { UnlessOutputFault result (O.faults out.new ≡ O.faults out.old) }
@@ -39,8 +38,7 @@ fn end_caught<O: Sink>(driver: &Driver, out: &mut O) -> Status
 
 /// Writes the end of a peer whose script came to its end.
 fn end<O: Sink>(driver: &Driver, out: &mut O) -> Status
-    ensures told { IsSome (O.held out.old) → IsSome (O.held out.new) }
-    ensures text { Ended (IsSome (O.held out.old)) (told_bytes (O.held out.old)) (told_bytes (O.held out.new)) (driven_from driver.now End) result }
+    ensures text { Ended (O.held out.old) (O.held out.new) (driven_from driver.now End) result }
     ensures later { O.faults out.old ≤ O.faults out.new }
     ensures cause { EndCause ScriptEnds ⊥ (Rose (O.faults out.old) (O.faults out.new)) result }
     ensures steady { UnlessOutputFault result (O.faults out.new ≡ O.faults out.old) }
@@ -58,8 +56,7 @@ fn end<O: Sink>(driver: &Driver, out: &mut O) -> Status
 fn answer_last<O: Sink>(driver: &mut Driver, line: &[u8], out: &mut O) -> Status
     requires short { length line.now ≤ 1024 }
     requires clean { IsTrue (is_clean driver.old.game driver.old.state.log) }
-    ensures told { IsSome (O.held out.old) → IsSome (O.held out.new) }
-    ensures text { Ended (IsSome (O.held out.old)) (told_bytes (O.held out.old)) (told_bytes (O.held out.new)) (driven_from driver.old (Line line.now End)) result }
+    ensures text { Ended (O.held out.old) (O.held out.new) (driven_from driver.old (Line line.now End)) result }
     ensures later { O.faults out.old ≤ O.faults out.new }
     ensures cause { EndCause ScriptEnds ⊥ (Rose (O.faults out.old) (O.faults out.new)) result }
     ensures steady { UnlessOutputFault result (O.faults out.new ≡ O.faults out.old) }
@@ -77,18 +74,16 @@ fn answer_line<I: Source, O: Sink>(
     input: &mut I,
     out: &mut O,
 ) -> LoopTurn
-    ensures told_in { IsSome (I.left input.old) → IsSome (I.left input.new) }
-    ensures told_out { IsSome (O.held out.old) → IsSome (O.held out.new) }
-    ensures front { IsSome (I.left input.old) → told_bytes (I.left input.old) ≡ read_of (I.left input.old) (I.left input.new) ++ told_bytes (I.left input.new) }
-    ensures text { IsSome (I.left input.old) → Played (IsSome (O.held out.old)) (told_bytes (O.held out.old)) (told_bytes (O.held out.new))
-        driver.old driver.new (reader.old.pending ++ read_of (I.left input.old) (I.left input.new)) (I.left input.new) reader.new.pending result }
+    ensures front { I.seen input.new ≡ I.seen input.old ++ read_of (I.seen input.old) (I.seen input.new) }
+    ensures text { Played (O.held out.old) (O.held out.new)
+        driver.old driver.new (reader.old.pending ++ read_of (I.seen input.old) (I.seen input.new)) (I.ended input.new) reader.new.pending result }
     ensures later_in { I.faults input.old ≤ I.faults input.new }
     ensures later_out { O.faults out.old ≤ O.faults out.new }
     ensures cause { TurnCause ScriptEnds (Rose (I.faults input.old) (I.faults input.new)) (Rose (O.faults out.old) (O.faults out.new)) result }
     ensures steady_in { MatchTurn result (I.faults input.new ≡ I.faults input.old) (λ s. UnlessInputFault s (I.faults input.new ≡ I.faults input.old)) }
     ensures steady_out { MatchTurn result (O.faults out.new ≡ O.faults out.old) (λ s. UnlessOutputFault s (O.faults out.new ≡ O.faults out.old)) }
     ensures counted { OnOn result ((driver.new.lines ≡ driver.old.lines + 1) × (driver.new.lines ≤ 1048576)) }
-    ensures read { IsSome (I.left input.old) → OnOver result (told_bytes (I.left input.new) ≡ []) }
+    ensures read { OnOver result (I.ended input.new ≡ true) }
 {
     if driver.peer().finding().is_some() {
         return LoopTurn::Over(end_caught(driver, out));
@@ -109,18 +104,16 @@ fn answer_lines<I: Source, O: Sink>(
     input: &mut I,
     out: &mut O,
 ) -> Status
-    ensures told_in { IsSome (I.left input.old) → IsSome (I.left input.new) }
-    ensures told_out { IsSome (O.held out.old) → IsSome (O.held out.new) }
-    ensures front { IsSome (I.left input.old) → told_bytes (I.left input.old) ≡ read_of (I.left input.old) (I.left input.new) ++ told_bytes (I.left input.new) }
-    ensures text { IsSome (I.left input.old) → (rest : List ℕ) → MayFollow (I.left input.new) rest →
-        Ended (IsSome (O.held out.old)) (told_bytes (O.held out.old)) (told_bytes (O.held out.new))
-        (driven_from driver.old (input_by result (reader.old.pending ++ read_of (I.left input.old) (I.left input.new)) rest)) result }
+    ensures front { I.seen input.new ≡ I.seen input.old ++ read_of (I.seen input.old) (I.seen input.new) }
+    ensures text { (rest : List ℕ) → MayFollow (I.ended input.new) rest →
+        Ended (O.held out.old) (O.held out.new)
+        (driven_from driver.old (input_by result (reader.old.pending ++ read_of (I.seen input.old) (I.seen input.new)) rest)) result }
     ensures later_in { I.faults input.old ≤ I.faults input.new }
     ensures later_out { O.faults out.old ≤ O.faults out.new }
     ensures cause { EndCause ScriptEnds (Rose (I.faults input.old) (I.faults input.new)) (Rose (O.faults out.old) (O.faults out.new)) result }
     ensures steady_in { UnlessInputFault result (I.faults input.new ≡ I.faults input.old) }
     ensures steady_out { UnlessOutputFault result (O.faults out.new ≡ O.faults out.old) }
-    ensures read { IsSome (I.left input.old) → OnDone result (told_bytes (I.left input.new) ≡ []) }
+    ensures read { OnDone result (I.ended input.new ≡ true) }
 {
     'lines: loop {
         match answer_line(driver, reader, input, out) {
@@ -139,20 +132,18 @@ fn follow<I: Source, O: Sink>(
     out: &mut O,
 ) -> Status
     requires { entries ≤ length driver.old.state.log }
-    ensures told_in { IsSome (I.left input.old) → IsSome (I.left input.new) }
-    ensures told_out { IsSome (O.held out.old) → IsSome (O.held out.new) }
-    ensures front { IsSome (I.left input.old) → told_bytes (I.left input.old) ≡ read_of (I.left input.old) (I.left input.new) ++ told_bytes (I.left input.new) }
-    ensures text { IsSome (I.left input.old) → (rest : List ℕ) → MayFollow (I.left input.new) rest →
-        Ended (IsSome (O.held out.old)) (told_bytes (O.held out.old)) (told_bytes (O.held out.new))
+    ensures front { I.seen input.new ≡ I.seen input.old ++ read_of (I.seen input.old) (I.seen input.new) }
+    ensures text { (rest : List ℕ) → MayFollow (I.ended input.new) rest →
+        Ended (O.held out.old) (O.held out.new)
         (after_text (added_text entries driver.old.state.log ++ found_text (finding_of_log driver.old.game driver.old.state.log))
-        (driven_from driver.old (input_by result (read_of (I.left input.old) (I.left input.new)) rest))) result }
+        (driven_from driver.old (input_by result (read_of (I.seen input.old) (I.seen input.new)) rest))) result }
     ensures untouched { is_clean driver.old.game driver.old.state.log ≡ false → input.new ≡ input.old }
     ensures later_in { I.faults input.old ≤ I.faults input.new }
     ensures later_out { O.faults out.old ≤ O.faults out.new }
     ensures cause { EndCause ScriptEnds (Rose (I.faults input.old) (I.faults input.new)) (Rose (O.faults out.old) (O.faults out.new)) result }
     ensures steady_in { UnlessInputFault result (I.faults input.new ≡ I.faults input.old) }
     ensures steady_out { UnlessOutputFault result (O.faults out.new ≡ O.faults out.old) }
-    ensures read { IsSome (I.left input.old) → OnDone result (told_bytes (I.left input.new) ≡ []) }
+    ensures read { OnDone result (I.ended input.new ≡ true) }
 {
     let mut reader = LineReader::new();
     match put_start(driver.peer(), entries, out) {
@@ -169,14 +160,12 @@ fn follow<I: Source, O: Sink>(
 
 /// Lets the peer advance, and then answers the lines of the input as its script. Nothing is written behind a fault.
 pub fn play<I: Source, O: Sink>(peer: Peer, input: &mut I, out: &mut O) -> Status
-    ensures told_in { IsSome (I.left input.old) → IsSome (I.left input.new) }
-    ensures told_out { IsSome (O.held out.old) → IsSome (O.held out.new) }
 
     // What is written, and how the run ends: as is due for the bytes that were read, whatever stands behind them.
-    ensures front { IsSome (I.left input.old) → told_bytes (I.left input.old) ≡ read_of (I.left input.old) (I.left input.new) ++ told_bytes (I.left input.new) }
-    ensures text { IsSome (I.left input.old) → (rest : List ℕ) → MayFollow (I.left input.new) rest →
-        Ended (IsSome (O.held out.old)) (told_bytes (O.held out.old)) (told_bytes (O.held out.new))
-        (drive peer.game peer.me peer.entries (input_by result (read_of (I.left input.old) (I.left input.new)) rest)) result }
+    ensures front { I.seen input.new ≡ I.seen input.old ++ read_of (I.seen input.old) (I.seen input.new) }
+    ensures text { (rest : List ℕ) → MayFollow (I.ended input.new) rest →
+        Ended (O.held out.old) (O.held out.new)
+        (drive peer.game peer.me peer.entries (input_by result (read_of (I.seen input.old) (I.seen input.new)) rest)) result }
 
     // Where the log that the peer begins with has a finding, the input is left alone.
     ensures untouched { is_clean peer.game (advance peer.game peer.me peer.entries) ≡ false → input.new ≡ input.old }
@@ -189,7 +178,7 @@ pub fn play<I: Source, O: Sink>(peer: Peer, input: &mut I, out: &mut O) -> Statu
     ensures steady_out { UnlessOutputFault result (O.faults out.new ≡ O.faults out.old) }
 
     // At the end the input was read to its end.
-    ensures read { IsSome (I.left input.old) → OnDone result (told_bytes (I.left input.new) ≡ []) }
+    ensures read { OnDone result (I.ended input.new ≡ true) }
 {
     let entries = peer.entries().len();
     let mut driver = Driver::new(peer);

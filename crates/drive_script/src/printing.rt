@@ -1,8 +1,8 @@
 //! What is written about a peer.
 
-ghost use Rattle.std.specs.Prelude.{◌≡◌, ◌≤◌, ◌++◌, flat_map, length, IsSome};
+ghost use Rattle.std.specs.Prelude.{◌≡◌, ◌≤◌, ◌++◌, flat_map, length};
 ghost use Rattle.definitions.specs.World.{players_of};
-ghost use Rattle.station.specs.Outside.{told_bytes, Rose};
+ghost use Rattle.station.specs.Outside.{Rose};
 ghost use Rattle.text_io.specs.Texts.{Wrote, OnUnwritten, OnWritten};
 ghost use Rattle.drive_script.specs.Lines.{entry_text, need_text, needs_text, stand_text, players_text, last_text, end_text, choice_text, found_text, added_text};
 ghost use Rattle.drive_script.specs.Hearing.{reply_text, part_text, answered_text, HasAll, HasBefore};
@@ -21,8 +21,7 @@ use text_io::{Written, put};
 
 /// Writes what these entries, which came into the log, are told by.
 fn put_entries<O: Sink>(entries: &[Entry], out: &mut O) -> Written
-    ensures told { IsSome (O.held out.old) → IsSome (O.held out.new) }
-    ensures text { IsSome (O.held out.old) → Wrote (told_bytes (O.held out.old)) (told_bytes (O.held out.new)) (flat_map entry_text entries.now) result }
+    ensures text { Wrote (O.held out.old) (O.held out.new) (flat_map entry_text entries.now) result }
     ensures later { O.faults out.old ≤ O.faults out.new }
     ensures cause { OnUnwritten result (Rose (O.faults out.old) (O.faults out.new)) }
     ensures steady { OnWritten result (O.faults out.new ≡ O.faults out.old) }
@@ -40,8 +39,7 @@ fn put_entries<O: Sink>(entries: &[Entry], out: &mut O) -> Written
 #[tactic(auto, unfolding(crate::specs::Lines::added_text))]
 pub(crate) fn put_added<O: Sink>(peer: &Peer, entries: usize, out: &mut O) -> Written
     requires { entries ≤ length peer.now.entries }
-    ensures told { IsSome (O.held out.old) → IsSome (O.held out.new) }
-    ensures text { IsSome (O.held out.old) → Wrote (told_bytes (O.held out.old)) (told_bytes (O.held out.new)) (added_text entries peer.now.entries) result }
+    ensures text { Wrote (O.held out.old) (O.held out.new) (added_text entries peer.now.entries) result }
     ensures later { O.faults out.old ≤ O.faults out.new }
     ensures cause { OnUnwritten result (Rose (O.faults out.old) (O.faults out.new)) }
     ensures steady { OnWritten result (O.faults out.new ≡ O.faults out.old) }
@@ -51,8 +49,7 @@ pub(crate) fn put_added<O: Sink>(peer: &Peer, entries: usize, out: &mut O) -> Wr
 
 /// Writes these needs.
 fn put_each_need<O: Sink>(needs: &[Need], out: &mut O) -> Written
-    ensures told { IsSome (O.held out.old) → IsSome (O.held out.new) }
-    ensures text { IsSome (O.held out.old) → Wrote (told_bytes (O.held out.old)) (told_bytes (O.held out.new)) (flat_map need_text needs.now) result }
+    ensures text { Wrote (O.held out.old) (O.held out.new) (flat_map need_text needs.now) result }
     ensures later { O.faults out.old ≤ O.faults out.new }
     ensures cause { OnUnwritten result (Rose (O.faults out.old) (O.faults out.new)) }
     ensures steady { OnWritten result (O.faults out.new ≡ O.faults out.old) }
@@ -68,8 +65,7 @@ fn put_each_need<O: Sink>(needs: &[Need], out: &mut O) -> Written
 
 /// Writes the needs, or that there is none.
 fn put_needs<O: Sink>(needs: &[Need], out: &mut O) -> Written
-    ensures told { IsSome (O.held out.old) → IsSome (O.held out.new) }
-    ensures text { IsSome (O.held out.old) → Wrote (told_bytes (O.held out.old)) (told_bytes (O.held out.new)) (needs_text needs.now) result }
+    ensures text { Wrote (O.held out.old) (O.held out.new) (needs_text needs.now) result }
     ensures later { O.faults out.old ≤ O.faults out.new }
     ensures cause { OnUnwritten result (Rose (O.faults out.old) (O.faults out.new)) }
     ensures steady { OnWritten result (O.faults out.new ≡ O.faults out.old) }
@@ -83,8 +79,7 @@ fn put_needs<O: Sink>(needs: &[Need], out: &mut O) -> Written
 /// Writes how the peer stands; nothing where its log has a finding.
 #[tactic(auto, unfolding(crate::specs::Lines::stand_text))]
 fn put_stand<O: Sink>(peer: &Peer, out: &mut O) -> Written
-    ensures told { IsSome (O.held out.old) → IsSome (O.held out.new) }
-    ensures text { IsSome (O.held out.old) → Wrote (told_bytes (O.held out.old)) (told_bytes (O.held out.new)) (stand_text peer.now.game peer.now.me peer.now.entries) result }
+    ensures text { Wrote (O.held out.old) (O.held out.new) (stand_text peer.now.game peer.now.me peer.now.entries) result }
     ensures later { O.faults out.old ≤ O.faults out.new }
     ensures cause { OnUnwritten result (Rose (O.faults out.old) (O.faults out.new)) }
     ensures steady { OnWritten result (O.faults out.new ≡ O.faults out.old) }
@@ -101,8 +96,7 @@ fn put_stand<O: Sink>(peer: &Peer, out: &mut O) -> Written
 
 /// Writes what the peer's log shows of each player.
 fn put_players<O: Sink>(peer: &Peer, out: &mut O) -> Written
-    ensures told { IsSome (O.held out.old) → IsSome (O.held out.new) }
-    ensures text { IsSome (O.held out.old) → Wrote (told_bytes (O.held out.old)) (told_bytes (O.held out.new)) (players_text peer.now.game peer.now.me peer.now.entries 0 (players_of peer.now.game)) result }
+    ensures text { Wrote (O.held out.old) (O.held out.new) (players_text peer.now.game peer.now.me peer.now.entries 0 (players_of peer.now.game)) result }
     ensures later { O.faults out.old ≤ O.faults out.new }
     ensures cause { OnUnwritten result (Rose (O.faults out.old) (O.faults out.new)) }
     ensures steady { OnWritten result (O.faults out.new ≡ O.faults out.old) }
@@ -118,8 +112,7 @@ fn put_players<O: Sink>(peer: &Peer, out: &mut O) -> Written
 
 /// Writes what the peer's log shows of each player, and that this is the end.
 fn put_last<O: Sink>(peer: &Peer, out: &mut O) -> Written
-    ensures told { IsSome (O.held out.old) → IsSome (O.held out.new) }
-    ensures text { IsSome (O.held out.old) → Wrote (told_bytes (O.held out.old)) (told_bytes (O.held out.new)) (last_text peer.now.game peer.now.me peer.now.entries) result }
+    ensures text { Wrote (O.held out.old) (O.held out.new) (last_text peer.now.game peer.now.me peer.now.entries) result }
     ensures later { O.faults out.old ≤ O.faults out.new }
     ensures cause { OnUnwritten result (Rose (O.faults out.old) (O.faults out.new)) }
     ensures steady { OnWritten result (O.faults out.new ≡ O.faults out.old) }
@@ -132,8 +125,7 @@ fn put_last<O: Sink>(peer: &Peer, out: &mut O) -> Written
 
 /// Writes the end: how the peer stands, and what its log shows of each player.
 pub(crate) fn put_end<O: Sink>(peer: &Peer, out: &mut O) -> Written
-    ensures told { IsSome (O.held out.old) → IsSome (O.held out.new) }
-    ensures text { IsSome (O.held out.old) → Wrote (told_bytes (O.held out.old)) (told_bytes (O.held out.new)) (end_text peer.now.game peer.now.me peer.now.entries) result }
+    ensures text { Wrote (O.held out.old) (O.held out.new) (end_text peer.now.game peer.now.me peer.now.entries) result }
     ensures later { O.faults out.old ≤ O.faults out.new }
     ensures cause { OnUnwritten result (Rose (O.faults out.old) (O.faults out.new)) }
     ensures steady { OnWritten result (O.faults out.new ≡ O.faults out.old) }
@@ -153,8 +145,7 @@ fn put_choice<O: Sink>(
     out: &mut O,
 ) -> Written
     requires { entries ≤ length peer.now.entries }
-    ensures told { IsSome (O.held out.old) → IsSome (O.held out.new) }
-    ensures text { IsSome (O.held out.old) → Wrote (told_bytes (O.held out.old)) (told_bytes (O.held out.new)) (choice_text turn fault ++ added_text entries peer.now.entries) result }
+    ensures text { Wrote (O.held out.old) (O.held out.new) (choice_text turn fault ++ added_text entries peer.now.entries) result }
     ensures later { O.faults out.old ≤ O.faults out.new }
     ensures cause { OnUnwritten result (Rose (O.faults out.old) (O.faults out.new)) }
     ensures steady { OnWritten result (O.faults out.new ≡ O.faults out.old) }
@@ -168,8 +159,7 @@ fn put_choice<O: Sink>(
 /// Writes the answer to a frame that came, and what is told of the entries that the log has by now behind those before.
 fn put_reply<O: Sink>(peer: &Peer, from: PlayerId, reply: &Reply, out: &mut O) -> Written
     requires { reply.now.entries ≤ length peer.now.entries }
-    ensures told { IsSome (O.held out.old) → IsSome (O.held out.new) }
-    ensures text { IsSome (O.held out.old) → Wrote (told_bytes (O.held out.old)) (told_bytes (O.held out.new)) (reply_text from reply.now peer.now.entries) result }
+    ensures text { Wrote (O.held out.old) (O.held out.new) (reply_text from reply.now peer.now.entries) result }
     ensures later { O.faults out.old ≤ O.faults out.new }
     ensures cause { OnUnwritten result (Rose (O.faults out.old) (O.faults out.new)) }
     ensures steady { OnWritten result (O.faults out.new ≡ O.faults out.old) }
@@ -183,8 +173,7 @@ fn put_reply<O: Sink>(peer: &Peer, from: PlayerId, reply: &Reply, out: &mut O) -
 /// Writes what is told of a line.
 pub(crate) fn put_answered<O: Sink>(peer: &Peer, answered: &Answered, out: &mut O) -> Written
     requires { HasAll answered.now peer.now.entries }
-    ensures told { IsSome (O.held out.old) → IsSome (O.held out.new) }
-    ensures text { IsSome (O.held out.old) → Wrote (told_bytes (O.held out.old)) (told_bytes (O.held out.new)) (answered_text peer.now.game peer.now.me answered.now peer.now.entries) result }
+    ensures text { Wrote (O.held out.old) (O.held out.new) (answered_text peer.now.game peer.now.me answered.now peer.now.entries) result }
     ensures later { O.faults out.old ≤ O.faults out.new }
     ensures cause { OnUnwritten result (Rose (O.faults out.old) (O.faults out.new)) }
     ensures steady { OnWritten result (O.faults out.new ≡ O.faults out.old) }
@@ -204,8 +193,7 @@ pub(crate) fn put_answered<O: Sink>(peer: &Peer, answered: &Answered, out: &mut 
 /// Writes what is told of what was found in bytes that came from a player.
 pub(crate) fn put_part<O: Sink>(peer: &Peer, from: PlayerId, found: &Found, out: &mut O) -> Written
     requires { HasBefore found.now peer.now.entries }
-    ensures told { IsSome (O.held out.old) → IsSome (O.held out.new) }
-    ensures text { IsSome (O.held out.old) → Wrote (told_bytes (O.held out.old)) (told_bytes (O.held out.new)) (part_text found.now from peer.now.entries) result }
+    ensures text { Wrote (O.held out.old) (O.held out.new) (part_text found.now from peer.now.entries) result }
     ensures later { O.faults out.old ≤ O.faults out.new }
     ensures cause { OnUnwritten result (Rose (O.faults out.old) (O.faults out.new)) }
     ensures steady { OnWritten result (O.faults out.new ≡ O.faults out.old) }
@@ -221,8 +209,7 @@ pub(crate) fn put_part<O: Sink>(peer: &Peer, from: PlayerId, found: &Found, out:
 
 /// Writes the first finding of the peer's log, if it has one.
 fn put_found<O: Sink>(peer: &Peer, out: &mut O) -> Written
-    ensures told { IsSome (O.held out.old) → IsSome (O.held out.new) }
-    ensures text { IsSome (O.held out.old) → Wrote (told_bytes (O.held out.old)) (told_bytes (O.held out.new)) (found_text (finding_of_log peer.now.game peer.now.entries)) result }
+    ensures text { Wrote (O.held out.old) (O.held out.new) (found_text (finding_of_log peer.now.game peer.now.entries)) result }
     ensures later { O.faults out.old ≤ O.faults out.new }
     ensures cause { OnUnwritten result (Rose (O.faults out.old) (O.faults out.new)) }
     ensures steady { OnWritten result (O.faults out.new ≡ O.faults out.old) }
@@ -236,8 +223,7 @@ fn put_found<O: Sink>(peer: &Peer, out: &mut O) -> Written
 /// Writes what is told of the log's entries behind the first so many, and the log's first finding, if it has one.
 pub(crate) fn put_start<O: Sink>(peer: &Peer, entries: usize, out: &mut O) -> Written
     requires { entries ≤ length peer.now.entries }
-    ensures told { IsSome (O.held out.old) → IsSome (O.held out.new) }
-    ensures text { IsSome (O.held out.old) → Wrote (told_bytes (O.held out.old)) (told_bytes (O.held out.new)) (added_text entries peer.now.entries ++ found_text (finding_of_log peer.now.game peer.now.entries)) result }
+    ensures text { Wrote (O.held out.old) (O.held out.new) (added_text entries peer.now.entries ++ found_text (finding_of_log peer.now.game peer.now.entries)) result }
     ensures later { O.faults out.old ≤ O.faults out.new }
     ensures cause { OnUnwritten result (Rose (O.faults out.old) (O.faults out.new)) }
     ensures steady { OnWritten result (O.faults out.new ≡ O.faults out.old) }

@@ -5,11 +5,12 @@
 //! files for reading and touches nothing else.
 #![tactic(auto)]
 
-ghost use Rattle.std.specs.Prelude.{◌≡◌, None, false, IsErr};
+ghost use Rattle.std.specs.Prelude.{◌≡◌, [], false, IsErr};
 ghost use Rattle.std.specs.Io.{ReadsAtMost};
 ghost use Rattle.std.specs.Str.{is_utf8};
 ghost use Rattle.file_shelf.specs.Pulls.{pull_of};
 
+use record::Record;
 use station::{Pull, Shelf};
 use std::io::{self, ErrorKind, Read, Seek, SeekFrom};
 use std::rt::Files;
@@ -20,14 +21,20 @@ use std::{fs, str};
 pub struct FileShelf<R> {
     files: R,
     faults: u64,
+    told: Record,
 }
 
 impl<R: Files> FileShelf<R> {
     /// A shelf of the files that this runtime reaches, with no fault so far.
     pub fn new(files: R) -> FileShelf<R>
-        ensures { result.faults ≡ 0 }
+        ensures faults { result.faults ≡ 0 }
+        ensures pieces { ⟦<FileShelf<R> as Shelf>⟧.pieces result ≡ [] }
     {
-        FileShelf { files, faults: 0 }
+        FileShelf {
+            files,
+            faults: 0,
+            told: Record::new(),
+        }
     }
 }
 
@@ -58,18 +65,21 @@ fn pull_of(read: &io::Result<usize>) -> Pull
 }
 
 impl<R: Files> Shelf for FileShelf<R> {
-    ghost told = { λ s. ⊥ };
+    ghost use Rattle.station.specs.Noted.{pieces_of};
 
-    ghost content = { λ s name. None };
+    ghost pieces = { λ s. pieces_of s.told.notes };
 
     ghost faults = { λ s. s.faults };
 
-    ghost failed = { λ _ _ _. Unit {0} };
-
     fn read_at(&mut self, name: &[u8], at: u64, buf: &mut [u8]) -> Pull {
         let pull = pull_of(&read_file(&self.files, name, at, buf));
-        if let Pull::Failed = pull {
-            self.faults = self.faults.saturating_add(1);
+        match pull {
+            Pull::Took(count) => self.told.note(&[at], name, &buf[..count]),
+            Pull::Ended => self.told.note(&[at], name, b""),
+            Pull::Failed => {
+                self.told.note(&[at, 1], name, b"");
+                self.faults = self.faults.saturating_add(1);
+            }
         }
         pull
     }

@@ -90,15 +90,15 @@ pub caused : (words : List (List ℕ)) (files : List ℕ → Option (List ℕ)) 
 caused words files input ends = commanded words files input ends (command_of words) refl
 
 -- what holds of the status that is due, of want of memory and of faults holds of the status that comes
-module _ (told : Type 0) (before now : List ℕ) (whole cut : Answer) (source shelf : Type 0) where
-  pub finished_cause : (P : Status → Type 0) (s : Status) → Finished told before now whole cut source shelf s → P whole.status → P NoMemory → P InputFault → P OutputFault → P s
+module _ (before now : List ℕ) (whole cut : Answer) (source shelf : Type 0) where
+  pub finished_cause : (P : Status → Type 0) (s : Status) → Finished before now whole cut source shelf s → P whole.status → P NoMemory → P InputFault → P OutputFault → P s
   finished_cause P NoMemory f p m i o = m
   finished_cause P InputFault f p m i o = i
   finished_cause P OutputFault f p m i o = o
   finished_cause P s f p m i o = subst P (sym f.0) p
 
   -- a run that nothing outside cuts short comes to what is due, unless memory is wanting
-  pub completed : (own : Status → Type 0) (input output : Type 0) (s : Status) → Finished told before now whole cut source shelf s →
+  pub completed : (own : Status → Type 0) (input output : Type 0) (s : Status) → Finished before now whole cut source shelf s →
       EndCause own input output s → (input → ⊥) → (output → ⊥) → (s ≡ whole.status) ⊎ (s ≡ NoMemory)
   completed own input output NoMemory f c i o = inr refl
   completed own input output InputFault f c i o = absurd (i c)

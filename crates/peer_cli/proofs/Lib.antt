@@ -1,3 +1,4 @@
 pub mod Causes
 pub mod Begun
 pub mod Begins
+pub mod Shelves

@@ -1,10 +1,9 @@
 -- Games: the session that a file has and the log that a player goes on from, or how the run ends where there is none. A file that
 -- isn't there counts as one without bytes here; reading it is a fault of the shelf, which is answered where the file is read.
-use Rattle.std.specs.Prelude.{◌≡◌, ◌⊎◌, ◌<◌, ℕ, List, [], take, Result, Ok, Err, Option, Some, None, nat_lt, if◌then◌else◌}
+use Rattle.std.specs.Prelude.{◌≡◌, ◌⊎◌, ◌<◌, ℕ, List, [], take, Result, Ok, Err, Option, Some, None, nat_lt, if◌then◌else◌, unwrap_or}
 use Rattle.definitions.specs.declared.logs.Entry.{Entry}
 use Rattle.definitions.specs.World.{Game, players_of}
 use Rattle.definitions.specs.Honest.{IsHonest}
-use Rattle.station.specs.Outside.{told_bytes}
 use Rattle.text_io.specs.declared.statuses.Status.{Status}
 use Rattle.text_io.specs.declared.statuses.Status.TheVariants.{NoMemory, Usage, BadSession, InputFault, BadLog}
 use Rattle.grid_world.specs.declared.fault.SessionFault.{SessionFault}
@@ -15,7 +14,7 @@ use Rattle.old_log.specs.Old.{Fault, old_entries, dropped_at, old_fault}
 
 -- the bytes of a session's file that are read
 unfoldable pub front_of : Option (List ℕ) → List ℕ
-front_of content = take 1048576 (told_bytes content)
+front_of content = take 1048576 (unwrap_or content [])
 
 -- the session that is read, or how the run ends where none is
 abbrev pub ended_by : Result Game SessionFault → Result Game Status
@@ -38,7 +37,7 @@ game_for player content = with_player player (session_in content)
 
 -- the bytes of a log's file that are read: one more than a log may have, so that a longer one is told from it
 unfoldable pub log_front_of : Option (List ℕ) → List ℕ
-log_front_of content = take 67108865 (told_bytes content)
+log_front_of content = take 67108865 (unwrap_or content [])
 
 -- what a run begins with: a session, the log of its player, and the byte from which on the log's file is dropped, if it is
 pub record Beginning : Type 0 where

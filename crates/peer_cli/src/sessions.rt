@@ -1,6 +1,9 @@
 //! The session of a file, and a peer for it.
 
-ghost use Rattle.std.specs.Prelude.{◌≡◌, ◌≤◌, ◌<◌, List, ℕ, Some, option_map};
+ghost use Rattle.std.specs.Prelude.{◌≡◌, ◌≤◌, ◌<◌, Option, List, ℕ, Some, option_map};
+ghost use Rattle.std.specs.List.{AllByRecursion};
+ghost use Rattle.station.specs.Pieces.{ArePiecesOf};
+ghost use Rattle.station.specs.Since.{since, Grows};
 ghost use Rattle.station.specs.Outside.{Rose};
 ghost use Rattle.text_io.specs.Frame.{StartCause, StartSteady};
 ghost use Rattle.grid_world.specs.Reading.{game_at};
@@ -8,7 +11,7 @@ ghost use Rattle.definitions.specs.World.{players_of};
 ghost use Rattle.peer_cli.specs.Ends.{SessionEnds, StartEnds, LogEnds};
 ghost use Rattle.old_log.specs.Old.{old_fault};
 ghost use Rattle.peer_cli.specs.Games as G;
-ghost use Rattle.peer_cli.specs.Games.{IsDue, IsRead, IsStartFor, OnShelfFault};
+ghost use Rattle.peer_cli.specs.Games.{IsDue, IsRead, IsStartFor};
 
 use definitions::PlayerId;
 use grid_world::{Session, SessionFault, read_session};
@@ -39,12 +42,11 @@ fn session_of(alloc: Global, text: &[u8]) -> Result<Session, Status>
 /// The session of a file.
 #[tactic(auto, unfolding(crate::specs::Games::front_of))]
 fn open_session<H: Shelf>(alloc: Global, shelf: &mut H, name: &[u8]) -> Result<Session, Status>
-    ensures due { H.told shelf.old → IsDue (G.session_in (H.content shelf.old name.now)) result }
-    ensures told { H.told shelf.old → H.told shelf.new }
-    ensures keeps { H.told shelf.old → (n : List ℕ) → H.content shelf.new n ≡ H.content shelf.old n }
+    ensures due { (files : List ℕ → Option (List ℕ)) → ArePiecesOf files (since (H.pieces shelf.old) (H.pieces shelf.new)) → IsDue (G.session_in (files name.now)) result }
+    ensures grows { Grows (H.pieces shelf.old) (H.pieces shelf.new) }
     ensures later { H.faults shelf.old ≤ H.faults shelf.new }
     ensures cause { StartCause SessionEnds (Rose (H.faults shelf.old) (H.faults shelf.new)) result }
-    ensures asked { OnShelfFault result ((mid : H) × H.failed mid shelf.new name.now) }
+    ensures asked { AllByRecursion (λ piece. piece.name ≡ name.now) (since (H.pieces shelf.old) (H.pieces shelf.new)) }
     ensures steady { StartSteady result (H.faults shelf.new ≡ H.faults shelf.old) }
 {
     match read_front(alloc, shelf, name, FRONT) {
@@ -97,10 +99,11 @@ fn begin_with_file<H: Shelf>(
     name: &[u8],
 ) -> Result<Resumed, Status>
     requires { player < players_of session.now }
-    ensures due { H.told shelf.old → IsStartFor player (G.begun player session.now (Some (H.content shelf.old name.now))) result }
+    ensures grows { Grows (H.pieces shelf.old) (H.pieces shelf.new) }
+    ensures due { (files : List ℕ → Option (List ℕ)) → ArePiecesOf files (since (H.pieces shelf.old) (H.pieces shelf.new)) → IsStartFor player (G.begun player session.now (Some (files name.now))) result }
     ensures later { H.faults shelf.old ≤ H.faults shelf.new }
     ensures cause { StartCause LogEnds (Rose (H.faults shelf.old) (H.faults shelf.new)) result }
-    ensures asked { OnShelfFault result ((mid : H) × H.failed mid shelf.new name.now) }
+    ensures asked { AllByRecursion (λ piece. piece.name ≡ name.now) (since (H.pieces shelf.old) (H.pieces shelf.new)) }
     ensures steady { StartSteady result (H.faults shelf.new ≡ H.faults shelf.old) }
 {
     match read_front(alloc, shelf, name, LOG_FRONT) {
@@ -118,11 +121,12 @@ fn begin<H: Shelf>(
     player: PlayerId,
     old: Option<&[u8]>,
 ) -> Result<Resumed, Status>
-    ensures due { H.told shelf.old →
-        IsStartFor player (G.with_log player (G.with_player player (Ok session.now)) (option_map (λ name. H.content shelf.old name.now) old.entry)) result }
+    ensures due { (files : List ℕ → Option (List ℕ)) → ArePiecesOf files (since (H.pieces shelf.old) (H.pieces shelf.new)) →
+        IsStartFor player (G.with_log player (G.with_player player (Ok session.now)) (option_map (λ name. files name.now) old.entry)) result }
     ensures later { H.faults shelf.old ≤ H.faults shelf.new }
     ensures cause { StartCause StartEnds (Rose (H.faults shelf.old) (H.faults shelf.new)) result }
-    ensures asked { OnShelfFault result ((mid : H) × (name : List ℕ) × (option_map (λ n. n.now) old.entry ≡ Some name) × (player < players_of session.now) × H.failed mid shelf.new name) }
+    ensures grows { Grows (H.pieces shelf.old) (H.pieces shelf.new) }
+    ensures asked { AllByRecursion (λ piece. (option_map (λ n. n.now) old.entry ≡ Some piece.name) × (player < players_of session.now)) (since (H.pieces shelf.old) (H.pieces shelf.new)) }
     ensures steady { StartSteady result (H.faults shelf.new ≡ H.faults shelf.old) }
 {
     if player >= session.players() {
@@ -142,11 +146,12 @@ pub(crate) fn open_peer<H: Shelf>(
     player: PlayerId,
     old: Option<&[u8]>,
 ) -> Result<Resumed, Status>
-    ensures due { H.told shelf.old →
-        IsStartFor player (G.beginning_for player (H.content shelf.old name.now) (option_map (λ name. H.content shelf.old name.now) old.entry)) result }
+    ensures due { (files : List ℕ → Option (List ℕ)) → ArePiecesOf files (since (H.pieces shelf.old) (H.pieces shelf.new)) →
+        IsStartFor player (G.beginning_for player (files name.now) (option_map (λ name. files name.now) old.entry)) result }
     ensures later { H.faults shelf.old ≤ H.faults shelf.new }
     ensures cause { StartCause StartEnds (Rose (H.faults shelf.old) (H.faults shelf.new)) result }
-    ensures asked { H.told shelf.old → OnShelfFault result ((mid : H) × (n : List ℕ) × IsRead name.now player (option_map (λ n. n.now) old.entry) (H.content shelf.old) n × H.failed mid shelf.new n) }
+    ensures grows { Grows (H.pieces shelf.old) (H.pieces shelf.new) }
+    ensures asked { (files : List ℕ → Option (List ℕ)) → ArePiecesOf files (since (H.pieces shelf.old) (H.pieces shelf.new)) → AllByRecursion (λ piece. IsRead name.now player (option_map (λ n. n.now) old.entry) files piece.name) (since (H.pieces shelf.old) (H.pieces shelf.new)) }
     ensures steady { StartSteady result (H.faults shelf.new ≡ H.faults shelf.old) }
 {
     match open_session(alloc, shelf, name) {

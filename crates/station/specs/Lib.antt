@@ -1,4 +1,7 @@
 pub mod Outside
+pub mod Since
+pub mod Pieces
+pub mod Noted
 pub mod Pulls
 pub mod Pushes
 pub mod Files

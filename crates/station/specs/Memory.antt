@@ -1,5 +1,5 @@
 -- What the objects in memory answer, and which of their calls fail.
-use Rattle.std.specs.Prelude.{◌≡◌, ◌⊎◌, IsTrue, ℕ, ◌+◌, ◌-◌, ◌^◌, min, Bool, true, false, ◌&&◌, ◌||◌, ◌==◌, nat_lt, nat_le, Option, Some, None, List, length, drop, if◌then◌else◌}
+use Rattle.std.specs.Prelude.{ℕ, ◌+◌, ◌-◌, ◌^◌, min, Bool, true, false, ◌&&◌, ◌||◌, ◌==◌, nat_lt, nat_le, Option, Some, None, List, length, drop, if◌then◌else◌}
 use Rattle.std.specs.List.{list_any}
 use Rattle.station.specs.declared.sources.Pull.{Pull}
 use Rattle.station.specs.declared.sources.Pull.TheVariants.{Took, Ended, Failed as PullFailed}
@@ -52,8 +52,3 @@ pull_at (Some content) at room = pull_of (drop at content) room
 -- what a shelf in memory answers: it fails at its numbers, and for a name that isn't there
 abbrev pub shelf_answer : HeldShelf → List ℕ → ℕ → ℕ → Pull
 shelf_answer shelf name at room = if fails_next shelf.plan then PullFailed else pull_at (content_in shelf.files name) at room
-
--- a call for this name failed and led from the one shelf to the other: it was to fail, or there is no file of the name
-pub record IsFailedCall (before now : HeldShelf) (name : List ℕ) : Type 0 where
-  pub why : IsTrue (fails_next before.plan) ⊎ (content_in before.files name ≡ None)
-  pub counted : now.plan ≡ after_call before.plan true

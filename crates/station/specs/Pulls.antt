@@ -1,5 +1,5 @@
 -- What the answers of a source and of a shelf say of the bytes and of the buffer.
-use Rattle.std.specs.Prelude.{◌≡◌, ℕ, ◌<◌, ◌≤◌, Option, Some, None, List, [], ◌++◌, length, take, drop}
+use Rattle.std.specs.Prelude.{◌≡◌, ℕ, Bool, true, ◌<◌, ◌≤◌, Option, Some, None, List, [], ◌++◌, length, take, drop}
 use Rattle.station.specs.declared.sources.Pull.{Pull}
 use Rattle.station.specs.declared.sources.Pull.TheVariants.{Took, Ended, Failed}
 
@@ -9,20 +9,23 @@ TakesWithin (Took count) buf = (0 < count) × (count ≤ length buf) × (count �
 TakesWithin Ended buf = Unit {0}
 TakesWithin Failed buf = Unit {0}
 
--- The bytes taken are the first of those that were left. Ended comes exactly where nothing is left, and a failed pull leaves all.
+-- The bytes taken stand behind those that were given before. Where none are taken, none is given.
 abbrev pub Pulled : List ℕ → List ℕ → Pull → List ℕ → Type 0
-Pulled before now (Took count) buf = before ≡ take count buf ++ now
-Pulled before now Ended buf = (before ≡ []) × (now ≡ [])
+Pulled before now (Took count) buf = now ≡ before ++ take count buf
+Pulled before now Ended buf = now ≡ before
 Pulled before now Failed buf = now ≡ before
 
--- The bytes taken are the file's from that place on. Ended comes exactly where none are there. A file that isn't there gives neither.
-abbrev pub PulledAt : Option (List ℕ) → ℕ → Pull → List ℕ → Type 0
-PulledAt (Some content) at (Took count) buf = take count buf ≡ take count (drop at content)
-PulledAt (Some content) at Ended buf = length content ≤ at
-PulledAt (Some content) at Failed buf = Unit {0}
-PulledAt None at (Took count) buf = ⊥
-PulledAt None at Ended buf = ⊥
-PulledAt None at Failed buf = Unit {0}
+-- The end is answered, or the answer before stands.
+abbrev pub EndsWith : Bool → Bool → Pull → Type 0
+EndsWith before now (Took count) = now ≡ before
+EndsWith before now Ended = now ≡ true
+EndsWith before now Failed = now ≡ before
+
+-- the bytes that a call gave, none at the end, and nothing where it failed
+abbrev pub pulled : Pull → List ℕ → Option (List ℕ)
+pulled (Took count) buf = Some (take count buf)
+pulled Ended buf = Some []
+pulled Failed buf = None
 
 -- The bytes taken are the first of these. Ended comes exactly where there are none, and the pull never fails.
 abbrev pub Copied : List ℕ → Pull → List ℕ → Type 0

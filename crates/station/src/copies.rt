@@ -1,7 +1,8 @@
 //! Bytes copied into a buffer.
 
 ghost use Rattle.std.specs.Prelude.{◌≡◌, ◌<◌, Some, length, drop};
-ghost use Rattle.station.specs.Pulls.{Copied, PulledAt, TakesWithin};
+ghost use Rattle.station.specs.Pulls.{Copied, pulled, TakesWithin};
+ghost use Rattle.station.specs.Pieces.{GivesAt};
 ghost use Rattle.station.specs.Memory.{pull_of};
 
 use crate::sources::Pull;
@@ -25,7 +26,8 @@ pub(crate) fn copy_front(from: &[u8], buf: &mut [u8]) -> Pull
 pub(crate) fn copy_at(content: &[u8], at: u64, buf: &mut [u8]) -> Pull
     requires { 0 < length buf.old }
     ensures within { TakesWithin result buf.new }
-    ensures copied { PulledAt (Some content.now) at result buf.new }
+    ensures gives { GivesAt (Some content.now) at (pulled result buf.new) }
+    ensures copied { Copied (drop at content.now) result buf.new }
     ensures answer { result ≡ pull_of (drop at content.now) (length buf.old) }
 {
     let at = (at as usize).min(content.len());

@@ -51,9 +51,7 @@ impl MemorySink {
 }
 
 impl Sink for MemorySink {
-    ghost use Rattle.std.specs.Prelude.{Some};
-
-    ghost held = { λ s. Some s.held };
+    ghost held = { λ s. s.held };
 
     ghost faults = { λ s. s.plan.faults };
 

@@ -1,7 +1,7 @@
 //! A source in memory.
 
-ghost use Rattle.std.specs.Prelude.{◌≡◌, ◌<◌, ◌≤◌, length};
-ghost use Rattle.station.specs.Pulls.{Pulled, TakesWithin};
+ghost use Rattle.std.specs.Prelude.{◌≡◌, ◌<◌, ◌≤◌, ◌++◌, [], false, length};
+ghost use Rattle.station.specs.Pulls.{Pulled, EndsWith, TakesWithin};
 ghost use Rattle.station.specs.Memory.{unused, source_answer, after_call, is_pull_failed};
 
 use crate::calls::CallPlan;
@@ -21,13 +21,13 @@ impl Model for MemorySource {
 
     ghost Value = { HeldSource };
 
-    ghost view = { λ s. record { left = s.source; plan = s.plan } };
+    ghost view = { λ s. record { seen = s.source.seen; left = s.source.left; ended = s.source.ended; plan = s.plan } };
 }
 
 impl MemorySource {
     /// Has these bytes left. The calls of `read` whose numbers stand in `fails`, counted from 1, fail.
     pub fn new(bytes: Vec<u8>, fails: Vec<u32>) -> MemorySource
-        ensures { result ≡ record { left = bytes.items; plan = unused fails.items } }
+        ensures { result ≡ record { seen = []; left = bytes.items; ended = false; plan = unused fails.items } }
     {
         MemorySource {
             source: SureSource::new(bytes),
@@ -37,9 +37,9 @@ impl MemorySource {
 }
 
 impl Source for MemorySource {
-    ghost use Rattle.std.specs.Prelude.{Some};
+    ghost seen = { λ s. s.seen };
 
-    ghost left = { λ s. Some s.left };
+    ghost ended = { λ s. s.ended };
 
     ghost faults = { λ s. s.plan.faults };
 
@@ -47,7 +47,9 @@ impl Source for MemorySource {
     fn read(&mut self, buf: &mut [u8]) -> Pull
         requires { 0 < length buf.old }
         ensures within { TakesWithin result buf.new }
-        ensures bytes { Pulled self.old.left self.new.left result buf.new }
+        ensures bytes { Pulled self.old.seen self.new.seen result buf.new }
+        ensures end { EndsWith self.old.ended self.new.ended result }
+        ensures left { self.old.seen ++ self.old.left ≡ self.new.seen ++ self.new.left }
         ensures later { self.old.plan.faults ≤ self.new.plan.faults }
         ensures answer { result ≡ source_answer self.old (length buf.old) }
         ensures counted { self.new.plan ≡ after_call self.old.plan (is_pull_failed result) }

@@ -1,7 +1,7 @@
 //! Bytes to be written.
 
-ghost use Rattle.std.specs.Prelude.{◌≡◌, ◌<◌, ◌≤◌, IsSome, Option, List, ℕ, length};
-ghost use Rattle.station.specs.Outside.{told_bytes, one_more};
+ghost use Rattle.std.specs.Prelude.{◌≡◌, ◌<◌, ◌≤◌, List, ℕ, length};
+ghost use Rattle.station.specs.Outside.{one_more};
 ghost use Rattle.station.specs.Pushes.{Pushed, GivesWithin, OnPushFailed, OnPushed};
 
 /// What a sink answers.
@@ -15,8 +15,8 @@ pub enum Push {
 
 /// Takes bytes, each behind those before it.
 pub trait Sink {
-    /// The bytes taken so far, where they are told.
-    ghost held: { Self → Option (List ℕ) };
+    /// The bytes that its calls took so far.
+    ghost held: { Self → List ℕ };
 
     /// How many calls failed so far. It never falls, and stays at 2^64 - 1 once it is there.
     ghost faults: { Self → ℕ };
@@ -25,8 +25,7 @@ pub trait Sink {
     fn write(&mut self, bytes: &[u8]) -> Push
         requires { 0 < length bytes.now }
         ensures within { GivesWithin result bytes.now }
-        ensures told { IsSome (held self.old) → IsSome (held self.new) }
-        ensures bytes { IsSome (held self.old) → Pushed (told_bytes (held self.old)) (told_bytes (held self.new)) result bytes.now }
+        ensures bytes { Pushed (held self.old) (held self.new) result bytes.now }
 
         // The count rises, by one, exactly where the call fails.
         ensures later { faults self.old ≤ faults self.new }

@@ -1,8 +1,8 @@
 //! Bytes to be read.
 
-ghost use Rattle.std.specs.Prelude.{◌≡◌, ◌<◌, ◌≤◌, IsSome, Option, List, ℕ, length};
-ghost use Rattle.station.specs.Outside.{told_bytes, one_more};
-ghost use Rattle.station.specs.Pulls.{Pulled, TakesWithin, OnPullFailed, OnPulled};
+ghost use Rattle.std.specs.Prelude.{◌≡◌, ◌<◌, ◌≤◌, Bool, List, ℕ, length};
+ghost use Rattle.station.specs.Outside.{one_more};
+ghost use Rattle.station.specs.Pulls.{Pulled, EndsWith, TakesWithin, OnPullFailed, OnPulled};
 
 /// What a source or a shelf answers.
 #[derive(Clone, Copy, Debug, PartialEq, Eq)]
@@ -17,8 +17,11 @@ pub enum Pull {
 
 /// Gives bytes from first to last.
 pub trait Source {
-    /// The bytes that are left, where they are told.
-    ghost left: { Self → Option (List ℕ) };
+    /// The bytes that its calls gave so far.
+    ghost seen: { Self → List ℕ };
+
+    /// Whether one of its calls answered the end.
+    ghost ended: { Self → Bool };
 
     /// How many calls failed so far. It never falls, and stays at 2^64 - 1 once it is there.
     ghost faults: { Self → ℕ };
@@ -27,8 +30,8 @@ pub trait Source {
     fn read(&mut self, buf: &mut [u8]) -> Pull
         requires { 0 < length buf.old }
         ensures within { TakesWithin result buf.new }
-        ensures told { IsSome (left self.old) → IsSome (left self.new) }
-        ensures bytes { IsSome (left self.old) → Pulled (told_bytes (left self.old)) (told_bytes (left self.new)) result buf.new }
+        ensures bytes { Pulled (seen self.old) (seen self.new) result buf.new }
+        ensures end { EndsWith (ended self.old) (ended self.new) result }
 
         // The count rises, by one, exactly where the call fails.
         ensures later { faults self.old ≤ faults self.new }

@@ -1,37 +1,57 @@
 //! Adapters over std's readers and writers.
 
-ghost use Rattle.std.specs.Prelude.{◌≡◌};
+ghost use Rattle.std.specs.Prelude.{◌≡◌, [], false};
 
 use crate::sinks::{Push, Sink};
 use crate::sources::{Pull, Source};
+use record::Record;
 use std::io::{Read, Write};
 
-/// A reader of std as a source. It tells what the reader tells, and each error of the reader is a fault.
+/// A reader of std as a source. Each error of the reader is a fault.
 #[derive(Drop)]
 pub struct StdSource<T> {
     reader: T,
+    ended: bool,
     faults: u64,
+    told: Record,
 }
 
 impl<T: Read> StdSource<T> {
-    /// Has left what the reader has.
+    /// Has given nothing yet.
     pub fn new(reader: T) -> StdSource<T>
-        ensures left { ⟦<StdSource<T> as Source>⟧.left result ≡ T.remaining reader }
+        ensures seen { ⟦<StdSource<T> as Source>⟧.seen result ≡ [] }
+        ensures ended { ⟦<StdSource<T> as Source>⟧.ended result ≡ false }
         ensures faults { ⟦<StdSource<T> as Source>⟧.faults result ≡ 0 }
     {
-        StdSource { reader, faults: 0 }
+        StdSource {
+            reader,
+            ended: false,
+            faults: 0,
+            told: Record::new(),
+        }
     }
 }
 
 impl<T: Read> Source for StdSource<T> {
-    ghost left = { λ s. T.remaining s.reader };
+    ghost use Rattle.station.specs.Noted.{bytes_of};
+
+    ghost seen = { λ s. bytes_of s.told.notes };
+
+    ghost ended = { λ s. s.ended };
 
     ghost faults = { λ s. s.faults };
 
+    #[tactic(auto, using(crate::proofs::Notes::bytes_more))]
     fn read(&mut self, buf: &mut [u8]) -> Pull {
         match self.reader.read(buf) {
-            Ok(0) => Pull::Ended,
-            Ok(count) => Pull::Took(count),
+            Ok(0) => {
+                self.ended = true;
+                Pull::Ended
+            }
+            Ok(count) => {
+                self.told.note(&[], b"", &buf[..count]);
+                Pull::Took(count)
+            }
             Err(_) => {
                 self.faults = self.faults.saturating_add(1);
                 Pull::Failed
@@ -40,36 +60,46 @@ impl<T: Read> Source for StdSource<T> {
     }
 }
 
-/// A writer of std as a sink. It tells what the writer tells. Each error of the writer is a fault, and so is a write that
-/// gives no byte.
+/// A writer of std as a sink. Each error of the writer is a fault, and so is a write that gives no byte.
 #[derive(Drop)]
 pub struct StdSink<T> {
     writer: T,
     faults: u64,
+    told: Record,
 }
 
 impl<T: Write> StdSink<T> {
-    /// Holds what the writer holds.
+    /// Has taken nothing yet.
     pub fn new(writer: T) -> StdSink<T>
-        ensures held { ⟦<StdSink<T> as Sink>⟧.held result ≡ T.contents writer }
+        ensures held { ⟦<StdSink<T> as Sink>⟧.held result ≡ [] }
         ensures faults { ⟦<StdSink<T> as Sink>⟧.faults result ≡ 0 }
     {
-        StdSink { writer, faults: 0 }
+        StdSink {
+            writer,
+            faults: 0,
+            told: Record::new(),
+        }
     }
 }
 
 impl<T: Write> Sink for StdSink<T> {
-    ghost held = { λ s. T.contents s.writer };
+    ghost use Rattle.station.specs.Noted.{bytes_of};
+
+    ghost held = { λ s. bytes_of s.told.notes };
 
     ghost faults = { λ s. s.faults };
 
+    #[tactic(auto, using(crate::proofs::Notes::bytes_more))]
     fn write(&mut self, bytes: &[u8]) -> Push {
         match self.writer.write(bytes) {
             Ok(0) | Err(_) => {
                 self.faults = self.faults.saturating_add(1);
                 Push::Failed
             }
-            Ok(count) => Push::Gave(count),
+            Ok(count) => {
+                self.told.note(&[], b"", &bytes[..count]);
+                Push::Gave(count)
+            }
         }
     }
 }

@@ -43,48 +43,48 @@ both : (before body line mid now : List ℕ) → mid ≡ before ++ body → now 
 both before body line mid now m n = n ∙ ap (λ x. x ++ line) m ∙ append_assoc before body line
 
 -- The same run before its last line and behind it: `status` is that of the run, `result` the one behind the line.
-module _ (told told' : Type 0) (tells : told → told') (before mid now : List ℕ) (whole cut : Answer) (source shelf : Type 0) (result : Status) where
-  failed : result ≡ OutputFault → (text : List ℕ) → IsToBeWritten whole cut source shelf text → (told → Between before text now) → Finished told before now whole cut source shelf result
-  failed e text w b = let F : Status → Type 0 = λ s. Finished told before now whole cut source shelf s in subst F (sym e) (text, w, b)
+module _ (before mid now : List ℕ) (whole cut : Answer) (source shelf : Type 0) (result : Status) where
+  failed : result ≡ OutputFault → (text : List ℕ) → IsToBeWritten whole cut source shelf text → (Between before text now) → Finished before now whole cut source shelf result
+  failed e text w b = let F : Status → Type 0 = λ s. Finished before now whole cut source shelf s in subst F (sym e) (text, w, b)
 
   -- an answer that is due was written, and then its line
-  answered : (due : Answer) (status : Status) → (told → mid ≡ before ++ due.body) → status ≡ due.status →
-      ((told → now ≡ before ++ told_by due) → Finished told before now whole cut source shelf status) → IsToBeWritten whole cut source shelf (told_by due) →
-      Refused told' mid now status result → Finished told before now whole cut source shelf result
+  answered : (due : Answer) (status : Status) → (mid ≡ before ++ due.body) → status ≡ due.status →
+      ((now ≡ before ++ told_by due) → Finished before now whole cut source shelf status) → IsToBeWritten whole cut source shelf (told_by due) →
+      Refused mid now status result → Finished before now whole cut source shelf result
   answered due status m d make w (inl h) =
-      let F : Status → Type 0 = λ s. Finished told before now whole cut source shelf s in
-      subst F (sym h.0) (make (λ t. both before due.body (refusal_of due.status) mid now (m t) (h.1 (tells t) ∙ ap (λ s. mid ++ refusal_of s) d)))
+      let F : Status → Type 0 = λ s. Finished before now whole cut source shelf s in
+      subst F (sym h.0) (make (both before due.body (refusal_of due.status) mid now (m) (h.1 ∙ ap (λ s. mid ++ refusal_of s) d)))
   answered due status m d make w (inr h) =
       failed h.0 (told_by due) w
-      (λ t. between_next before due.body (refusal_of due.status) mid now (m t) (let B : Status → Type 0 = λ s. Between mid (refusal_of s) now in subst B d (h.1 (tells t))))
+      (between_next before due.body (refusal_of due.status) mid now (m) (let B : Status → Type 0 = λ s. Between mid (refusal_of s) now in subst B d (h.1)))
 
   -- nothing was written but the line
-  bare : (status : Status) → (told → mid ≡ before) → ((told → now ≡ before ++ refusal_of status) → Finished told before now whole cut source shelf status) →
-      IsToBeWritten whole cut source shelf (refusal_of status) → Refused told' mid now status result → Finished told before now whole cut source shelf result
+  bare : (status : Status) → (mid ≡ before) → ((now ≡ before ++ refusal_of status) → Finished before now whole cut source shelf status) →
+      IsToBeWritten whole cut source shelf (refusal_of status) → Refused mid now status result → Finished before now whole cut source shelf result
   bare status m make w (inl h) =
-      let F : Status → Type 0 = λ s. Finished told before now whole cut source shelf s in
-      subst F (sym h.0) (make (λ t. h.1 (tells t) ∙ ap (λ x. x ++ refusal_of status) (m t)))
-  bare status m make w (inr h) = failed h.0 (refusal_of status) w (λ t. between_first before (refusal_of status) mid now (m t) (h.1 (tells t)))
+      let F : Status → Type 0 = λ s. Finished before now whole cut source shelf s in
+      subst F (sym h.0) (make (h.1 ∙ ap (λ x. x ++ refusal_of status) (m)))
+  bare status m make w (inr h) = failed h.0 (refusal_of status) w (between_first before (refusal_of status) mid now (m) (h.1))
 
-  unwritten : (told → Between before whole.body mid) → Refused told' mid now OutputFault result → Finished told before now whole cut source shelf result
+  unwritten : (Between before whole.body mid) → Refused mid now OutputFault result → Finished before now whole cut source shelf result
   unwritten b (inl h) =
       failed h.0 (told_by whole) (inl refl)
-      (λ t. between_longer before whole.body (refusal_of whole.status) now (between_still before whole.body mid now (b t) (between_all mid now (h.1 (tells t)))))
+      (between_longer before whole.body (refusal_of whole.status) now (between_still before whole.body mid now (b) (between_all mid now (h.1))))
   unwritten b (inr h) =
       failed h.0 (told_by whole) (inl refl)
-      (λ t. between_longer before whole.body (refusal_of whole.status) now (between_still before whole.body mid now (b t) (h.1 (tells t))))
+      (between_longer before whole.body (refusal_of whole.status) now (between_still before whole.body mid now (b) (h.1)))
 
 -- A command that ran, and then the line of its status: this is all that a run has written.
-module _ (told told' : Type 0) (tells : told → told') (before mid now read rest : List ℕ) (f : Input → Answer) (source shelf : Type 0) (result : Status) where
-  pub finished : (status : Status) → Ran told before mid (f (input_by status read rest)) source shelf status → Refused told' mid now status result →
-      Finished told before now (f (input_of AtEnd (read ++ rest))) (f (input_of AtFault read)) source shelf result
-  finished NoMemory ran end = bare told told' tells before mid now (f (input_of AtEnd (read ++ rest))) (f (input_of AtFault read)) source shelf result NoMemory ran (λ k. k) (inr (inr (inl refl))) end
+module _ (before mid now read rest : List ℕ) (f : Input → Answer) (source shelf : Type 0) (result : Status) where
+  pub finished : (status : Status) → Ran before mid (f (input_by status read rest)) source shelf status → Refused mid now status result →
+      Finished before now (f (input_of AtEnd (read ++ rest))) (f (input_of AtFault read)) source shelf result
+  finished NoMemory ran end = bare before mid now (f (input_of AtEnd (read ++ rest))) (f (input_of AtFault read)) source shelf result NoMemory ran (λ k. k) (inr (inr (inl refl))) end
   finished InputFault (inl ran) end =
-      bare told told' tells before mid now (f (input_of AtEnd (read ++ rest))) (f (input_of AtFault read)) source shelf result InputFault ran.1 (λ k. inl (ran.0, k)) (inr (inr (inr (ran.0, refl)))) end
+      bare before mid now (f (input_of AtEnd (read ++ rest))) (f (input_of AtFault read)) source shelf result InputFault ran.1 (λ k. inl (ran.0, k)) (inr (inr (inr (ran.0, refl)))) end
   finished InputFault (inr ran) end =
-      answered told told' tells before mid now (f (input_of AtEnd (read ++ rest))) (f (input_of AtFault read)) source shelf result (f (input_of AtFault read)) InputFault ran.2 ran.1
+      answered before mid now (f (input_of AtEnd (read ++ rest))) (f (input_of AtFault read)) source shelf result (f (input_of AtFault read)) InputFault ran.2 ran.1
       (λ k. inr (ran.0, sym ran.1, k)) (inr (inl (ran.0, sym ran.1, refl))) end
-  finished OutputFault ran end = unwritten told told' tells before mid now (f (input_of AtEnd (read ++ rest))) (f (input_of AtFault read)) source shelf result ran end
+  finished OutputFault ran end = unwritten before mid now (f (input_of AtEnd (read ++ rest))) (f (input_of AtFault read)) source shelf result ran end
   finished s ran end =
-      answered told told' tells before mid now (f (input_of AtEnd (read ++ rest))) (f (input_of AtFault read)) source shelf result (f (input_of AtEnd (read ++ rest))) s ran.0 ran.1
+      answered before mid now (f (input_of AtEnd (read ++ rest))) (f (input_of AtFault read)) source shelf result (f (input_of AtEnd (read ++ rest))) s ran.0 ran.1
       (λ k. (ran.1, k)) (inl refl) end

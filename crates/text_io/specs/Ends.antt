@@ -7,9 +7,9 @@ use Rattle.text_io.specs.declared.statuses.Status.{Status}
 use Rattle.text_io.specs.declared.statuses.Status.TheVariants.{NoMemory, InputFault, OutputFault}
 
 -- The status stays and its line was written, or the sink failed in it.
-abbrev pub Refused : (told : Type 0) → (before now : List ℕ) → Status → (result : Status) → Type 0
-Refused told before now status result =
-    ((result ≡ status) × (told → now ≡ before ++ refusal_of status)) ⊎ ((result ≡ OutputFault) × (told → Between before (refusal_of status) now))
+abbrev pub Refused : (before now : List ℕ) → Status → (result : Status) → Type 0
+Refused before now status result =
+    ((result ≡ status) × (now ≡ before ++ refusal_of status)) ⊎ ((result ≡ OutputFault) × (Between before (refusal_of status) now))
 
 -- The status stays, or the count of the sink rose.
 abbrev pub RefuseCause : Type 0 → Status → Status → Type 0
@@ -31,9 +31,9 @@ IsToBeWritten whole cut source shelf text =
 -- What a run has written when it ends with this status: all that is due and the status's line, or the part of it that the
 -- status tells of. `whole` is due by the whole input, `cut` by the part of it that was read before a fault of the source, and
 -- `source` and `shelf` say that their counts of faults rose.
-abbrev pub Finished : (told : Type 0) → (before now : List ℕ) → (whole cut : Answer) → (source shelf : Type 0) → Status → Type 0
-Finished told before now whole cut source shelf NoMemory = told → now ≡ before ++ refusal_of NoMemory
-Finished told before now whole cut source shelf InputFault =
-    (shelf × (told → now ≡ before ++ refusal_of InputFault)) ⊎ (source × (cut.status ≡ InputFault) × (told → now ≡ before ++ told_by cut))
-Finished told before now whole cut source shelf OutputFault = (text : List ℕ) × IsToBeWritten whole cut source shelf text × (told → Between before text now)
-Finished told before now whole cut source shelf status = (status ≡ whole.status) × (told → now ≡ before ++ told_by whole)
+abbrev pub Finished : (before now : List ℕ) → (whole cut : Answer) → (source shelf : Type 0) → Status → Type 0
+Finished before now whole cut source shelf NoMemory = now ≡ before ++ refusal_of NoMemory
+Finished before now whole cut source shelf InputFault =
+    (shelf × (now ≡ before ++ refusal_of InputFault)) ⊎ (source × (cut.status ≡ InputFault) × (now ≡ before ++ told_by cut))
+Finished before now whole cut source shelf OutputFault = (text : List ℕ) × IsToBeWritten whole cut source shelf text × (Between before text now)
+Finished before now whole cut source shelf status = (status ≡ whole.status) × (now ≡ before ++ told_by whole)

@@ -20,26 +20,26 @@ abbrev pub bare_answer : Status → Answer
 bare_answer status = record { body = []; status = status }
 
 -- A run goes on: what is held and what is still to come make the same whole as before.
-pub record Onward (told : Type 0) (held : List ℕ) (due : Answer) (held' : List ℕ) (due' : Answer) : Type 0 where
-  pub longer : told → length held ≤ length held'
-  pub kept : told → take (length held) held' ≡ held
-  pub text : told → held' ++ due'.body ≡ held ++ due.body
+pub record Onward (held : List ℕ) (due : Answer) (held' : List ℕ) (due' : Answer) : Type 0 where
+  pub longer : length held ≤ length held'
+  pub kept : take (length held) held' ≡ held
+  pub text : held' ++ due'.body ≡ held ++ due.body
   pub status : due'.status ≡ due.status
 
 -- A run over its input ends with this status, all its memory taken, where `due` was still to come when `before` was held:
 -- all of it is written, or a front of it where the sink failed.
-abbrev pub Ended : (told : Type 0) → (before now : List ℕ) → Answer → Status → Type 0
-Ended told before now due NoMemory = ⊥
-Ended told before now due OutputFault = told → Between before due.body now
-Ended told before now due status = (told → now ≡ before ++ due.body) × (status ≡ due.status)
+abbrev pub Ended : (before now : List ℕ) → Answer → Status → Type 0
+Ended before now due NoMemory = ⊥
+Ended before now due OutputFault = Between before due.body now
+Ended before now due status = (now ≡ before ++ due.body) × (status ≡ due.status)
 
 -- A command has ended with this status, but for the line of a refusal. Before its first byte memory may be wanting, or the
 -- shelf may fail: nothing is written in either case. `source` and `shelf` say that their counts of faults rose.
-abbrev pub Ran : (told : Type 0) → (before now : List ℕ) → Answer → (source shelf : Type 0) → Status → Type 0
-Ran told before now due source shelf NoMemory = told → now ≡ before
-Ran told before now due source shelf InputFault = (shelf × (told → now ≡ before)) ⊎ (source × (InputFault ≡ due.status) × (told → now ≡ before ++ due.body))
-Ran told before now due source shelf OutputFault = told → Between before due.body now
-Ran told before now due source shelf status = (told → now ≡ before ++ due.body) × (status ≡ due.status)
+abbrev pub Ran : (before now : List ℕ) → Answer → (source shelf : Type 0) → Status → Type 0
+Ran before now due source shelf NoMemory = now ≡ before
+Ran before now due source shelf InputFault = (shelf × (now ≡ before)) ⊎ (source × (InputFault ≡ due.status) × (now ≡ before ++ due.body))
+Ran before now due source shelf OutputFault = Between before due.body now
+Ran before now due source shelf status = (now ≡ before ++ due.body) × (status ≡ due.status)
 
 -- Why a run may end with this status: want of memory is free, a fault comes only where its count rose, and each other
 -- status only where `own` allows it, which each command says for itself.

@@ -1,5 +1,5 @@
 -- What was read of a file's front.
-use Rattle.std.specs.Prelude.{◌≡◌, ℕ, List, take, Result, Ok, Err, Option, Some, None}
+use Rattle.std.specs.Prelude.{◌≡◌, ℕ, List, [], length, take, Result, Ok, Err, Option, Some, None}
 use Rattle.text_io.specs.declared.fronts.FrontFault.{FrontFault}
 use Rattle.text_io.specs.declared.fronts.FrontFault.TheVariants.{NoMemory, Failed}
 
@@ -19,3 +19,8 @@ abbrev pub OnFrontRead : {T : Type 0} → Result T FrontFault → Type 0 → Typ
 OnFrontRead (Ok text) P = P
 OnFrontRead (Err NoMemory) P = P
 OnFrontRead (Err Failed) P = Unit {0}
+
+-- Nothing was read yet, or the file is there and the text is a front of it.
+abbrev pub Fronted : Option (List ℕ) → List ℕ → Type 0
+Fronted (Some content) text = text ≡ take (length text) content
+Fronted None text = text ≡ []

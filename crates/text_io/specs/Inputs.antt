@@ -1,6 +1,5 @@
 -- Inputs: what a run reads of its source.
-use Rattle.std.specs.Prelude.{◌≡◌, ℕ, ◌-◌, Option, List, [], ◌∷◌, ◌++◌, length, take}
-use Rattle.station.specs.Outside.{told_bytes}
+use Rattle.std.specs.Prelude.{◌≡◌, ℕ, Bool, true, List, [], ◌∷◌, ◌++◌, length, drop}
 use Rattle.text_io.specs.Lines.{lines_of, closed_lines_of}
 use Rattle.text_io.specs.declared.statuses.Status.{Status}
 use Rattle.text_io.specs.declared.statuses.Status.TheVariants.{InputFault}
@@ -40,13 +39,13 @@ abbrev pub input_of : Ending → List ℕ → Input
 input_of AtEnd bytes = lines_then (lines_of bytes) End
 input_of AtFault bytes = lines_then (closed_lines_of bytes) Fault
 
--- the bytes that were read of a source that had the ones left and has the others left now
-unfoldable pub read_of : (before now : Option (List ℕ)) → List ℕ
-read_of before now = take (length (told_bytes before) - length (told_bytes now)) (told_bytes before)
+-- the bytes that were read of a source that had given the ones before and has given the others now
+unfoldable pub read_of : (before now : List ℕ) → List ℕ
+read_of before now = drop (length before) now
 
--- These bytes may stand behind those that were read: where none are left, none.
-abbrev pub MayFollow : (left : Option (List ℕ)) → (rest : List ℕ) → Type 0
-MayFollow left rest = told_bytes left ≡ [] → rest ≡ []
+-- These bytes may stand behind those that were read: none where the source answered the end.
+abbrev pub MayFollow : (ended : Bool) → (rest : List ℕ) → Type 0
+MayFollow ended rest = ended ≡ true → rest ≡ []
 
 -- the input of a run that ended with this status, where it read these bytes and `rest` stands behind them
 abbrev pub input_by : Status → (read rest : List ℕ) → Input

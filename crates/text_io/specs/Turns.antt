@@ -11,9 +11,9 @@ MatchTurn On P Q = P
 MatchTurn (Over status) P Q = Q status
 
 -- The loop goes on with the same whole, or it has ended.
-abbrev pub Turned : (told : Type 0) → List ℕ → Answer → List ℕ → Answer → LoopTurn → Type 0
-Turned told before due now due' On = Onward told before due now due'
-Turned told before due now due' (Over status) = Ended told before now due status
+abbrev pub Turned : List ℕ → Answer → List ℕ → Answer → LoopTurn → Type 0
+Turned before due now due' On = Onward before due now due'
+Turned before due now due' (Over status) = Ended before now due status
 
 -- Why the loop may be over with this status.
 abbrev pub TurnCause : (Status → Type 0) → Type 0 → Type 0 → LoopTurn → Type 0

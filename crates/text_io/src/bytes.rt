@@ -1,7 +1,7 @@
 //! Bytes from a source, one by one, through a buffer.
 
-ghost use Rattle.std.specs.Prelude.{◌≡◌, ◌<◌, ◌≤◌, ◌++◌, ◌∷◌, [], List, ℕ, length, IsSome};
-ghost use Rattle.station.specs.Outside.{told_bytes, Rose};
+ghost use Rattle.std.specs.Prelude.{◌≡◌, ◌<◌, ◌≤◌, ◌++◌, ◌∷◌, [], List, ℕ, length};
+ghost use Rattle.station.specs.Outside.{Rose};
 ghost use Rattle.text_io.specs.Inputs.{read_of};
 ghost use Rattle.text_io.specs.Readings.{GaveByte, OnByteFailed, OnByteRead};
 
@@ -51,9 +51,8 @@ impl ByteReader {
 
     /// The next byte of those held and of those that the source has left.
     pub fn next<I: Source>(&mut self, input: &mut I) -> NextByte
-        ensures told { IsSome (I.left input.old) → IsSome (I.left input.new) }
-        ensures front { IsSome (I.left input.old) → told_bytes (I.left input.old) ≡ read_of (I.left input.old) (I.left input.new) ++ told_bytes (I.left input.new) }
-        ensures byte { IsSome (I.left input.old) → GaveByte (self.old ++ read_of (I.left input.old) (I.left input.new)) (told_bytes (I.left input.new)) self.new result }
+        ensures front { I.seen input.new ≡ I.seen input.old ++ read_of (I.seen input.old) (I.seen input.new) }
+        ensures byte { GaveByte (self.old ++ read_of (I.seen input.old) (I.seen input.new)) (I.ended input.new) self.new result }
 
         // A fault is answered exactly where the source's count rose.
         ensures later { I.faults input.old ≤ I.faults input.new }

@@ -1,7 +1,10 @@
 //! The front of a file.
 
-ghost use Rattle.std.specs.Prelude.{◌≡◌, ◌<◌, ◌≤◌, List, ℕ, length, IfOk};
+ghost use Rattle.std.specs.Prelude.{◌≡◌, ◌<◌, ◌≤◌, Option, List, ℕ, length, IfOk};
+ghost use Rattle.std.specs.List.{AllByRecursion};
 ghost use Rattle.station.specs.Outside.{Rose};
+ghost use Rattle.station.specs.Pieces.{ArePiecesOf};
+ghost use Rattle.station.specs.Since.{since, Grows};
 ghost use Rattle.text_io.specs.Fronts.{IsFrontOf, OnFrontFailed, OnFrontRead};
 
 use station::{Pull, Shelf};
@@ -27,15 +30,14 @@ pub fn read_front<H: Shelf>(
     limit: usize,
 ) -> Result<Vec<u8>, FrontFault>
     requires { 0 < limit }
-    ensures told { H.told shelf.old → H.told shelf.new }
-    ensures keeps { H.told shelf.old → (n : List ℕ) → H.content shelf.new n ≡ H.content shelf.old n }
-    ensures front { H.told shelf.old → IfOk result (λ text. IsFrontOf limit (H.content shelf.old name.now) text.items) }
+    ensures grows { Grows (H.pieces shelf.old) (H.pieces shelf.new) }
+    ensures front { (files : List ℕ → Option (List ℕ)) → ArePiecesOf files (since (H.pieces shelf.old) (H.pieces shelf.new)) → IfOk result (λ text. IsFrontOf limit (files name.now) text.items) }
     ensures short { IfOk result (λ text. length text.items ≤ limit) }
 
     // A fault is answered exactly where the shelf's count rose.
     ensures later { H.faults shelf.old ≤ H.faults shelf.new }
     ensures cause { OnFrontFailed result (Rose (H.faults shelf.old) (H.faults shelf.new)) }
-    ensures asked { OnFrontFailed result ((mid : H) × H.failed mid shelf.new name.now) }
+    ensures asked { AllByRecursion (λ piece. piece.name ≡ name.now) (since (H.pieces shelf.old) (H.pieces shelf.new)) }
     ensures steady { OnFrontRead result (H.faults shelf.new ≡ H.faults shelf.old) }
 {
     let mut text = Vec::new(alloc);

@@ -1,7 +1,7 @@
 //! Lines from a source.
 
-ghost use Rattle.std.specs.Prelude.{◌≡◌, ◌≤◌, ◌++◌, [], List, ℕ, length, IsSome};
-ghost use Rattle.station.specs.Outside.{told_bytes, Rose};
+ghost use Rattle.std.specs.Prelude.{◌≡◌, ◌≤◌, ◌++◌, [], List, ℕ, length};
+ghost use Rattle.station.specs.Outside.{Rose};
 ghost use Rattle.text_io.specs.Inputs.{read_of};
 ghost use Rattle.text_io.specs.Readings.{GaveLine, OnLineFailed, OnLineRead};
 
@@ -63,9 +63,8 @@ impl LineReader {
 
     /// Reads the next line of the bytes held and of those that the source has left.
     pub fn next<I: Source>(&mut self, input: &mut I) -> NextLine
-        ensures told { IsSome (I.left input.old) → IsSome (I.left input.new) }
-        ensures front { IsSome (I.left input.old) → told_bytes (I.left input.old) ≡ read_of (I.left input.old) (I.left input.new) ++ told_bytes (I.left input.new) }
-        ensures line { IsSome (I.left input.old) → GaveLine (self.old.pending ++ read_of (I.left input.old) (I.left input.new)) (told_bytes (I.left input.new)) self.new.pending result self.new.line }
+        ensures front { I.seen input.new ≡ I.seen input.old ++ read_of (I.seen input.old) (I.seen input.new) }
+        ensures line { GaveLine (self.old.pending ++ read_of (I.seen input.old) (I.seen input.new)) (I.ended input.new) self.new.pending result self.new.line }
         ensures short { length self.new.line ≤ 1024 }
 
         // A fault is answered exactly where the source's count rose.
@@ -83,9 +82,8 @@ fn take_line<I: Source>(
     line: &mut ArrayVec<u8, 1024>,
     input: &mut I,
 ) -> NextLine
-    ensures told { IsSome (I.left input.old) → IsSome (I.left input.new) }
-    ensures front { IsSome (I.left input.old) → told_bytes (I.left input.old) ≡ read_of (I.left input.old) (I.left input.new) ++ told_bytes (I.left input.new) }
-    ensures line { IsSome (I.left input.old) → GaveLine (bytes.old ++ read_of (I.left input.old) (I.left input.new)) (told_bytes (I.left input.new)) bytes.new result line.new.items }
+    ensures front { I.seen input.new ≡ I.seen input.old ++ read_of (I.seen input.old) (I.seen input.new) }
+    ensures line { GaveLine (bytes.old ++ read_of (I.seen input.old) (I.seen input.new)) (I.ended input.new) bytes.new result line.new.items }
     ensures short { length line.new.items ≤ 1024 }
     ensures later { I.faults input.old ≤ I.faults input.new }
     ensures cause { OnLineFailed result (Rose (I.faults input.old) (I.faults input.new)) }

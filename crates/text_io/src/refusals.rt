@@ -1,7 +1,7 @@
 //! The last line of a run that did not come to its command's end.
 
-ghost use Rattle.std.specs.Prelude.{◌≡◌, ◌≤◌, List, ℕ, length, IsSome};
-ghost use Rattle.station.specs.Outside.{told_bytes, Rose};
+ghost use Rattle.std.specs.Prelude.{◌≡◌, ◌≤◌, List, ℕ, length};
+ghost use Rattle.station.specs.Outside.{Rose};
 ghost use Rattle.text_io.specs.Frame.{UnlessOutputFault};
 ghost use Rattle.text_io.specs.Statuses.{rule_name, why_word, text_word, bad_session_line, bad_log_line, bad_line_line, refusal_of};
 ghost use Rattle.text_io.specs.Ends.{Refused, RefuseCause};
@@ -141,8 +141,7 @@ fn refusal(status: Status) -> RefusalLine
 
 /// Writes the line by which the status is told, if it has one. Where the sink fails in it, that is the status.
 pub fn refuse<O: Sink>(status: Status, out: &mut O) -> Status
-    ensures told { IsSome (O.held out.old) → IsSome (O.held out.new) }
-    ensures text { Refused (IsSome (O.held out.old)) (told_bytes (O.held out.old)) (told_bytes (O.held out.new)) status result }
+    ensures text { Refused (O.held out.old) (O.held out.new) status result }
 
     // The status changes exactly where the sink's count rose.
     ensures later { O.faults out.old ≤ O.faults out.new }

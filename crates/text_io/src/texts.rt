@@ -1,7 +1,7 @@
 //! Texts to a sink.
 
-ghost use Rattle.std.specs.Prelude.{◌≡◌, ◌≤◌, List, ℕ, IsSome};
-ghost use Rattle.station.specs.Outside.{told_bytes, Rose};
+ghost use Rattle.std.specs.Prelude.{◌≡◌, ◌≤◌, List, ℕ};
+ghost use Rattle.station.specs.Outside.{Rose};
 ghost use Rattle.text_io.specs.Texts.{Wrote, OnUnwritten, OnWritten};
 
 use station::{Push, Sink};
@@ -17,8 +17,7 @@ pub enum Written {
 
 /// Writes the bytes, all of them unless the sink fails. An empty text is written without a call of the sink.
 pub fn put<O: Sink>(out: &mut O, bytes: &[u8]) -> Written
-    ensures told { IsSome (O.held out.old) → IsSome (O.held out.new) }
-    ensures text { IsSome (O.held out.old) → Wrote (told_bytes (O.held out.old)) (told_bytes (O.held out.new)) bytes.now result }
+    ensures text { Wrote (O.held out.old) (O.held out.new) bytes.now result }
 
     // A fault is answered exactly where the sink's count rose.
     ensures later { O.faults out.old ≤ O.faults out.new }

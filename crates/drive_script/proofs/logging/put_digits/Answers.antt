@@ -6,20 +6,19 @@ use Rattle.drive_script.proofs.Pieces.{underway_end}
 use Rattle.drive_script.proofs.logging.put_digits.Goals as goal
 
 pub returns-in-Failed-clause-text : goal.returns-in-Failed-clause-text
-returns-in-Failed-clause-text g c = λ t.
+returns-in-Failed-clause-text g c =
     let step = digits_step c.entries.writer c.entry_digits.new.writer c.args.entries.now c.entries.entry-index _ c.as_slice.result.now c.entries-test.true
     (c.as_slice.ensures.value ∙ c.entry_digits.ensures.digits) c.entry_digits.ensures.writer in
-    underway_cut _ _ _ _ _ c.as_slice.result.now _ (c.entries.invariant.text t) step (c.in-Failed.ensures.text (c.entries.invariant.told t))
+    underway_cut _ _ _ _ _ c.as_slice.result.now _ c.entries.invariant.text step (c.in-Failed.ensures.text)
 
 pub entries-preserved : goal.entries-preserved
 entries-preserved g c =
     let step = digits_step c.entries.writer c.entry_digits.new.writer c.args.entries.now c.entries.entry-index _ c.as_slice.result.now c.entries-test.true
     (c.as_slice.ensures.value ∙ c.entry_digits.ensures.digits) c.entry_digits.ensures.writer in
     record {
-      told = λ t. c.in-All.ensures.told (c.entries.invariant.told t);
-      text = λ t. underway_more _ _ _ _ _ c.as_slice.result.now _ (c.entries.invariant.text t) step (c.in-All.ensures.text (c.entries.invariant.told t));
+      text = underway_more _ _ _ _ _ c.as_slice.result.now _ c.entries.invariant.text step (c.in-All.ensures.text);
       steady = grind (arith, common_steps);
     }
 
 pub returns-clause-text : goal.returns-clause-text
-returns-clause-text g c = λ t. underway_end _ _ _ _ (c.entries.invariant.text t) (digits_end c.entries.writer c.args.entries.now c.entries.entry-index c.entries-test.false)
+returns-clause-text g c = underway_end _ _ _ _ c.entries.invariant.text (digits_end c.entries.writer c.args.entries.now c.entries.entry-index c.entries-test.false)

@@ -4,8 +4,8 @@ use Rattle.drive_script.proofs.logging.put_log.Goals as goal
 
 pub returns-in-All-clause-text : goal.returns-in-All-clause-text
 unfolding log_text
-returns-in-All-clause-text g c = λ t. wrote_both _ _ _ _ _ _ (c.in-All.ensures.text t) (c.put.ensures.text (c.put_word_and_field.ensures.told t))
+returns-in-All-clause-text g c = wrote_both _ _ _ _ _ _ c.in-All.ensures.text (c.put.ensures.text)
 
 pub returns-in-Failed-clause-text : goal.returns-in-Failed-clause-text
 unfolding log_text
-returns-in-Failed-clause-text g c = λ t. wrote_first _ _ _ _ (c.in-Failed.ensures.text t)
+returns-in-Failed-clause-text g c = wrote_first _ _ _ _ c.in-Failed.ensures.text

@@ -6,4 +6,4 @@ use Rattle.drive_script.proofs.printing.put_each_need.Goals as goal
 
 pub returns-in-Failed-clause-text : goal.returns-in-Failed-clause-text
 returns-in-Failed-clause-text g c =
-    λ t. underway_cut _ _ _ _ _ c.as_slice.result.now (flat_map need_text (drop (c.needs.need-index + 1) c.args.needs.now)) (c.needs.invariant.text t) (grind (arith, common_steps)) (c.in-Failed.ensures.text (c.needs.invariant.told t))
+    underway_cut _ _ _ _ _ c.as_slice.result.now (flat_map need_text (drop (c.needs.need-index + 1) c.args.needs.now)) c.needs.invariant.text (grind (arith, common_steps)) (c.in-Failed.ensures.text)

@@ -9,14 +9,14 @@ use Rattle.drive_script.proofs.Players.{players_more, players_none}
 use Rattle.drive_script.proofs.printing.put_players.Goals as goal
 
 pub returns-in-Failed-clause-text : goal.returns-in-Failed-clause-text
-returns-in-Failed-clause-text g c = λ t.
+returns-in-Failed-clause-text g c =
     let peer = c.args.peer.now in
     let q = c.players.player in
     let n = players_of peer.game in
     let below : q < n = grind (arith, common_steps) in
     let line : c.as_slice.result.now ≡ player_text q (player_view peer.game peer.me peer.entries q) = cc in
     let rest = players_text peer.game peer.me peer.entries (q + 1) (n - (q + 1)) in
-    underway_cut _ _ _ _ _ c.as_slice.result.now rest (c.players.invariant.text t) (players_more peer.game peer.me peer.entries q n below ∙ ap (λ x. x ++ rest) (sym line)) (c.in-Failed.ensures.text (c.players.invariant.told t))
+    underway_cut _ _ _ _ _ c.as_slice.result.now rest c.players.invariant.text (players_more peer.game peer.me peer.entries q n below ∙ ap (λ x. x ++ rest) (sym line)) (c.in-Failed.ensures.text)
 
 pub players-preserved : goal.players-preserved
 players-preserved g c =
@@ -26,13 +26,12 @@ players-preserved g c =
     let below : q < n = grind (arith, common_steps) in
     let line : c.as_slice.result.now ≡ player_text q (player_view peer.game peer.me peer.entries q) = cc in
     let rest = players_text peer.game peer.me peer.entries (q + 1) (n - (q + 1)) in record {
-      told = λ t. c.in-All.ensures.told (c.players.invariant.told t);
-      text = λ t. underway_more _ _ _ _ _ c.as_slice.result.now rest (c.players.invariant.text t) (players_more peer.game peer.me peer.entries q n below ∙ ap (λ x. x ++ rest) (sym line)) (c.in-All.ensures.text (c.players.invariant.told t));
+      text = underway_more _ _ _ _ _ c.as_slice.result.now rest c.players.invariant.text (players_more peer.game peer.me peer.entries q n below ∙ ap (λ x. x ++ rest) (sym line)) (c.in-All.ensures.text);
       steady = grind (arith, common_steps);
     }
 
 pub returns-clause-text : goal.returns-clause-text
-returns-clause-text g c = λ t.
+returns-clause-text g c =
     let peer = c.args.peer.now in
     let none : players_of peer.game - c.players.player ≡ 0 = grind (arith, common_steps) in
-    underway_end _ _ _ _ (c.players.invariant.text t) (ap (players_text peer.game peer.me peer.entries c.players.player) none ∙ players_none peer.game peer.me peer.entries c.players.player)
+    underway_end _ _ _ _ c.players.invariant.text (ap (players_text peer.game peer.me peer.entries c.players.player) none ∙ players_none peer.game peer.me peer.entries c.players.player)

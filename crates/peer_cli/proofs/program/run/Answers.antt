@@ -1,5 +1,4 @@
 use Rattle.std.proofs.Common.{Bool, None, true, arith, ap, sym, rules, inl, inr, ◌++◌, ◌∙◌, ◌⊎◌, ◌≡◌, ◌≤◌}
-use Rattle.station.specs.Outside.{told_bytes}
 use Rattle.text_io.specs.Frame.{Answer}
 use Rattle.text_io.specs.Inputs.{AtEnd, ending_of, input_of, lines_in, read_of}
 use Rattle.text_io.specs.declared.statuses.Status.{Status}
@@ -20,12 +19,12 @@ use Rattle.peer_cli.proofs.Causes.{caused, completed, ends_at_end, finished_caus
 use Rattle.peer_cli.proofs.program.run.Goals as goal
 
 pub returns-clause-text : goal.returns-clause-text
-returns-clause-text g c = λ t th rest m.
-    finished _ _ c.work-status.ensures.told_out _ _ _ _ rest (answer_to _ _) _ _ c.refuse.result c.work-status.result (c.work-status.ensures.text t th rest m) c.refuse.ensures.text
+returns-clause-text g c = λ files h rest m.
+    finished _ _ _ _ rest (answer_to _ _) _ _ c.refuse.result c.work-status.result (c.work-status.ensures.text files h rest m) c.refuse.ensures.text
 
 pub returns-clause-own : goal.returns-clause-own
-returns-clause-own g c = λ t th rest m.
-    finished_cause _ _ _ _ _ _ _ (HasCause _ _ _) c.refuse.result (returns-clause-text g c t th rest m) (caused _ _ _ (ends_at_end (read_of (g.I.Source.left c.args.input.now) (g.I.Source.left c.work-status.new.input) ++ rest))) tt tt tt
+returns-clause-own g c = λ files h rest m.
+    finished_cause _ _ _ _ _ _ (HasCause _ _ _) c.refuse.result (returns-clause-text g c files h rest m) (caused _ _ _ (ends_at_end (read_of (g.I.Source.seen c.args.input.now) (g.I.Source.seen c.work-status.new.input) ++ rest))) tt tt tt
 
 neither : (P Q : Type 0) → ¬ P → ¬ Q → P ⊎ Q → ⊥
 neither P Q p q (inl h) = p h
@@ -39,27 +38,25 @@ pub returns-clause-cause : goal.returns-clause-cause
 returns-clause-cause g c = search rules
 
 pub returns-clause-complete : goal.returns-clause-complete
-returns-clause-complete g c = λ t th player b set lines clean ni ns no.
-    let all = told_bytes (g.I.Source.left c.args.input.now) in
-    let same : input_of AtEnd all ≡ input_of AtEnd (read_of (g.I.Source.left c.args.input.now) (g.I.Source.left c.work-status.new.input) ++ told_bytes (g.I.Source.left c.work-status.new.input)) =
-    ap (input_of AtEnd) (c.work-status.ensures.front t) in
+returns-clause-complete g c = λ files h rest m player b set lines clean ni ns no.
+    let all = read_of (g.I.Source.seen c.args.input.now) (g.I.Source.seen c.work-status.new.input) ++ rest in
     let due =
-    ap (λ (a : Answer). a.status) (ap (answer_to _ _) (sym same) ∙ set_answer _ _ _ player b set) ∙ drive_status b.game player b.first (input_of AtEnd all) ∙
+    ap (λ (a : Answer). a.status) (set_answer _ _ _ player b set) ∙ drive_status b.game player b.first (input_of AtEnd all) ∙
     ap (λ (b : Bool). status_for b (bad_line 0 (lines_in (input_of AtEnd all))) (ending_of (input_of AtEnd all))) clean ∙
     ap (λ ls. status_for true (bad_line 0 ls) (ending_of (input_of AtEnd all))) (lines_at_end all) ∙
     ap (λ o. status_for true o (ending_of (input_of AtEnd all))) lines ∙ ap (status_for true None) (ends_at_end all) in
     done_or_memory _ _ due
-    (completed _ _ _ _ _ _ _ RunEnds _ _ c.refuse.result (returns-clause-text g c t th (told_bytes (g.I.Source.left c.work-status.new.input)) (λ e. e)) (returns-clause-cause g c) (neither _ _ ni ns) no)
+    (completed _ _ _ _ _ _ RunEnds _ _ c.refuse.result (returns-clause-text g c files h rest m) (returns-clause-cause g c) (neither _ _ ni ns) no)
 
 pub returns-clause-tells : goal.returns-clause-tells
-returns-clause-tells g c = λ input player b set. record {
+returns-clause-tells g c = λ files input player b set. record {
   told = (drive b.game player b.first input).body;
   body_is = ap (λ (a : Answer). a.body) (set_answer _ _ _ player b set);
   tells = drive_tells b.game player b.first input;
 }
 
 pub returns-clause-fair : goal.returns-clause-fair
-returns-clause-fair g c = λ input player b set.
+returns-clause-fair g c = λ files input player b set.
     let read = game_found _ b.game set.seated.named.read in
     let ahead : 1 ≤ b.game.ahead = omega (arith, read.session.ahead) in
     let begins = begun_honest b.game player _ b set.begins in

@@ -1,5 +1,3 @@
-use Rattle.std.specs.Prelude.{IsSome}
-use Rattle.station.specs.Outside.{told_bytes}
 use Rattle.std.proofs.Common.{◌≡◌, ◌≤◌, ◌-◌, ◌++◌, length}
 use Rattle.text_io.specs.Lines.{IsOpen}
 use Rattle.text_io.specs.Inputs.{read_of}
@@ -7,11 +5,8 @@ use Rattle.text_io.proofs.lines.take_line.Given as goal
 
 abbrev pub invariant-bytes : goal.invariant-bytes
 invariant-bytes g l = record {
-  told : IsSome (g.I.Source.left l.initial.input) → IsSome (g.I.Source.left l.input);
-  front : IsSome (g.I.Source.left l.initial.input) →
-      told_bytes (g.I.Source.left l.initial.input) ≡ read_of (g.I.Source.left l.initial.input) (g.I.Source.left l.input) ++ told_bytes (g.I.Source.left l.input);
-  read : IsSome (g.I.Source.left l.initial.input) →
-      l.initial.bytes ++ read_of (g.I.Source.left l.initial.input) (g.I.Source.left l.input) ≡ l.line.items ++ l.bytes;
+  front : g.I.Source.seen l.input ≡ g.I.Source.seen l.initial.input ++ read_of (g.I.Source.seen l.initial.input) (g.I.Source.seen l.input);
+  read : l.initial.bytes ++ read_of (g.I.Source.seen l.initial.input) (g.I.Source.seen l.input) ≡ l.line.items ++ l.bytes;
   within : IsOpen l.line.items;
   short : length l.line.items ≤ 1024;
   steady : g.I.Source.faults l.input ≡ g.I.Source.faults l.initial.input;

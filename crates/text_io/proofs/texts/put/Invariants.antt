@@ -1,13 +1,10 @@
-use Rattle.std.specs.Prelude.{IsSome}
-use Rattle.station.specs.Outside.{told_bytes}
 use Rattle.std.proofs.Common.{◌≡◌, length}
 use Rattle.text_io.specs.Texts.{Underway}
 use Rattle.text_io.proofs.texts.put.Given as goal
 
 abbrev pub invariant-loop-rest : goal.invariant-loop-rest
 invariant-loop-rest g l = record {
-  told : IsSome (g.O.Sink.held l.initial.out) → IsSome (g.O.Sink.held l.out);
-  text : IsSome (g.O.Sink.held l.initial.out) → Underway (told_bytes (g.O.Sink.held l.initial.out)) l.initial.rest (told_bytes (g.O.Sink.held l.out)) l.rest;
+  text : Underway (g.O.Sink.held l.initial.out) l.initial.rest (g.O.Sink.held l.out) l.rest;
   steady : g.O.Sink.faults l.out ≡ g.O.Sink.faults l.initial.out;
 }
 
