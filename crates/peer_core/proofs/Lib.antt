@@ -6,3 +6,4 @@ pub mod Tables
 pub mod Peers
 pub mod Choices
 pub mod Replaying
+pub mod MadeFrames

@@ -12,6 +12,7 @@ mod others;
 mod peer;
 mod resuming;
 mod room;
+mod sending;
 mod stages;
 mod views;
 
