@@ -12,10 +12,10 @@ use Rattle.dilation.proofs.Still.{with_cells}
 use Rattle.dilation.proofs.Seats.{item_read, starts_length, starts_open}
 
 -- the walk of so many steps goes as far as the player in so many turns
-pub reached_is : (game : Game) (cells : List Cell) (r b new : Region) (grid : Ground) (q missed steps : ℕ) (cell : Cell) → IsDilated game cells r b →
+pub reached_is : (game : Game) (cells : List Cell) (r new : Region) (grid : Ground) (q missed steps : ℕ) (cell : Cell) → IsDilated game cells r →
     q < players_of game → grid ≡ game.grid → cell ≡ get_or cells q cell → steps ≡ missed * game.rules.speed →
     new ≡ with_cells r (walked grid steps (cell ∷ [])) → new ≡ with_cells r (reach_of game q missed (cell_of cells q ∷ []))
-reached_is game cells r b new grid q missed steps cell facts lt same is count walk =
+reached_is game cells r new grid q missed steps cell facts lt same is count walk =
     let short : q < length cells = omega (arith, facts.seen.one_each) in
     let speed = seat_speed game q facts.seen.session lt in
     walk ∙ ap (λ (g : Ground). with_cells r (walked g steps (cell ∷ []))) same
@@ -23,12 +23,11 @@ reached_is game cells r b new grid q missed steps cell facts lt same is count wa
     ∙ ap (λ (c : Cell). with_cells r (reach_of game q missed (c ∷ []))) (item_read cells q cell no_seat.start short is)
 
 -- all stand at their starts
-pub dilated_starts : (game copy : Game) (cells : List Cell) (r b : Region) → IsSession game → copy ≡ game → cells ≡ starts_of game → IsSizeOf game.grid r → IsSizeOf game.grid b → IsDilated copy cells r b
-dilated_starts game copy cells r b facts same starts size size_too =
-    subst (λ (g : Game). IsDilated g cells r b) (sym same) (subst (λ (cs : List Cell). IsDilated game cs r b) (sym starts) (record {
+pub dilated_starts : (game copy : Game) (cells : List Cell) (r : Region) → IsSession game → copy ≡ game → cells ≡ starts_of game → IsSizeOf game.grid r → IsDilated copy cells r
+dilated_starts game copy cells r facts same starts size =
+    subst (λ (g : Game). IsDilated g cells r) (sym same) (subst (λ (cs : List Cell). IsDilated game cs r) (sym starts) (record {
       seen = record { session = facts; one_each = starts_length game.seats; each_open = starts_open (λ c. IsTrue (is_open game.grid c)) game.seats facts.starts };
       size = size;
-      size_before = size_too;
     }))
 
 -- a dilation by its parts
@@ -56,9 +55,9 @@ seen_grown game cells s r new q missed seen is =
     ap (λ (n : Region). at n.cells) is ∙ ap (λ (v : Dilated). record v { reached = reach_of v.game q missed (cell_of v.cells q ∷ []) }) seen
 
 -- the set that was grown has the grid's size
-pub region_is : (game : Game) (cells : List Cell) (s : Dilated) (r b : Region) → IsDilated game cells r b → (let d : Dilated = record { game = game; cells = cells; reached = r.cells } in d) ≡ s →
+pub region_is : (game : Game) (cells : List Cell) (s : Dilated) (r : Region) → IsDilated game cells r → (let d : Dilated = record { game = game; cells = cells; reached = r.cells } in d) ≡ s →
     r ≡ record { width = s.game.grid.width; height = s.game.grid.height; cells = s.reached }
-region_is game cells s r b facts seen =
+region_is game cells s r facts seen =
     let sized : ℕ → ℕ → Region = λ w h. record { width = w; height = h; cells = r.cells } in
     ap (λ (w : ℕ). sized w r.height) facts.size.width ∙ ap (λ (h : ℕ). sized game.grid.width h) facts.size.height
     ∙ ap (λ (v : Dilated). let n : Region = record { width = v.game.grid.width; height = v.game.grid.height; cells = v.reached } in n) seen

@@ -72,9 +72,3 @@ walk_ends grid r set new a k n is step same le =
     ap (stepped grid) (sym cells) ∙ ap (λ (s : Region). s.cells) (sym step ∙ same) ∙ cells in
     let e : n - k + k ≡ n = omega arith in
     same ∙ is ∙ ap (with_cells r) (sym (walked_still grid k (n - k) (a ∷ []) still)) ∙ ap (λ m. with_cells r (walked grid m (a ∷ []))) e
-
-pub size_as : (grid : Ground) (a b : Region) → a ≡ b → IsSizeOf grid b → IsSizeOf grid a
-size_as grid a b is size = record {
-  width = ap (λ (s : Region). s.width) is ∙ size.width;
-  height = ap (λ (s : Region). s.height) is ∙ size.height;
-}

@@ -28,8 +28,7 @@ pub record AreSeen (game : Game) (cells : List Cell) : Type 0 where
   pub one_each : length cells ≡ players_of game
   pub each_open : EachIs (λ c. IsTrue (is_open game.grid c)) cells
 
--- the players are seen, and the sets have the grid's size
-pub record IsDilated (game : Game) (cells : List Cell) (reached before : Region) : Type 0 where
+-- the players are seen, and the set has the grid's size
+pub record IsDilated (game : Game) (cells : List Cell) (reached : Region) : Type 0 where
   pub seen : AreSeen game cells
   pub size : IsSizeOf game.grid reached
-  pub size_before : IsSizeOf game.grid before

@@ -19,8 +19,6 @@ pub struct Dilation {
     // the cell of each player
     cells: Vec<Cell>,
     reached: CellSet,
-    // what was reached a step before
-    before: CellSet,
 }
 
 impl Model for Dilation {
@@ -30,7 +28,7 @@ impl Model for Dilation {
 
     ghost view = { λ d. record { game = d.session; cells = d.cells.items; reached = d.reached.cells } };
 
-    ghost invariant = { λ d. IsDilated d.session d.cells.items d.reached d.before };
+    ghost invariant = { λ d. IsDilated d.session d.cells.items d.reached };
 }
 
 /// The cells at which the players start.
@@ -53,12 +51,10 @@ impl Dilation {
         let cells = starts_of(alloc, session)?;
         let grid = session.grid();
         let reached = CellSet::empty(alloc, grid.width(), grid.height())?;
-        let before = CellSet::empty(alloc, grid.width(), grid.height())?;
         Ok(Dilation {
             session: copy,
             cells,
             reached,
-            before,
         })
     }
 
@@ -87,13 +83,7 @@ impl Dilation {
     {
         let cell = self.cells[usize::from(player)];
         let steps = missed * u32::from(self.session.rules().speed);
-        walk_from(
-            &mut self.reached,
-            &mut self.before,
-            self.session.grid(),
-            cell,
-            steps,
-        );
+        walk_from(&mut self.reached, self.session.grid(), cell, steps);
     }
 
     /// The cells to which the player was followed that `grow_to` named last; none before the first.

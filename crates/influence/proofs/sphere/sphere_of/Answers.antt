@@ -13,7 +13,7 @@ pub grow_walk-requires-clause-open : goal.grow_walk-requires-clause-open
 grow_walk-requires-clause-open c = open_kept _ _ _ _ _ c.requires.open c.grid.ensures.value c.loop-step.invariant
 
 pub loop-step-preserved : goal.loop-step-preserved
-loop-step-preserved c = step_more _ _ _ _ _ _ c.grid.ensures.value c.loop-step.invariant c.grow_walk.ensures
+loop-step-preserved c = step_more _ _ _ _ _ _ c.grid.ensures.value c.loop-step.invariant c.grow_walk.ensures.cells
 
 pub returns : goal.returns
 returns c =

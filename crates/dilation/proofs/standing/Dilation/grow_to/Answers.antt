@@ -13,5 +13,5 @@ returns c =
     = c.index-cell.ensures ∙ ap (λ n. get_or inside.cells.items n c.index-cell.result.now) c.from.ensures in
     let speed : c.from-2.result ≡ inside.session.rules.speed = c.from-2.ensures ∙ ap (λ (r : world.Rules). r.speed) c.rules.ensures.value in
     seen_grown inside.session inside.cells.items c.args.self.now inside.reached c.walk_from.new.set c.args.player c.args.missed c.self.view_is
-    (reached_is inside.session inside.cells.items inside.reached inside.before c.walk_from.new.set c.grid.result.now c.args.player c.args.missed (c.args.missed * c.from-2.result) c.index-cell.result.now
-    c.self.invariant player c.grid.ensures.value at (ap (λ n. c.args.missed * n) speed) c.walk_from.ensures.set)
+    (reached_is inside.session inside.cells.items inside.reached c.walk_from.new.set c.grid.result.now c.args.player c.args.missed (c.args.missed * c.from-2.result) c.index-cell.result.now
+    c.self.invariant player c.grid.ensures.value at (ap (λ n. c.args.missed * n) speed) c.walk_from.ensures)

@@ -9,12 +9,8 @@ returns c = dilated_from _ _ _ _ _ _ c.in_ok-copy.ensures c.in_ok-cells.ensures 
 
 pub invariant_of-result : goal.invariant_of-result
 invariant_of-result c =
-    dilated_starts c.args.session.now _ _ _ _ c.grid-grid.ensures.session c.in_ok-copy.ensures c.in_ok-cells.ensures
+    dilated_starts c.args.session.now _ _ _ c.grid-grid.ensures.session c.in_ok-copy.ensures c.in_ok-cells.ensures
     (record {
       width = ap (λ (r : Region). r.width) c.in_ok-reached.ensures ∙ c.width.ensures.value ∙ ap (λ (g : Ground). g.width) c.grid-grid.ensures.value;
       height = ap (λ (r : Region). r.height) c.in_ok-reached.ensures ∙ c.height.ensures.value ∙ ap (λ (g : Ground). g.height) c.grid-grid.ensures.value;
-    })
-    (record {
-      width = ap (λ (r : Region). r.width) c.in_ok-before.ensures ∙ c.width-2.ensures.value ∙ ap (λ (g : Ground). g.width) c.grid-grid.ensures.value;
-      height = ap (λ (r : Region). r.height) c.in_ok-before.ensures ∙ c.height-2.ensures.value ∙ ap (λ (g : Ground). g.height) c.grid-grid.ensures.value;
     })
