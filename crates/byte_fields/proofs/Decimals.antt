@@ -8,6 +8,7 @@ use Rattle.std.proofs.lemmas.List.{nil_from_length}
 use Rattle.std.proofs.lemmas.Str.Parse.{IsNumeralModel, numerals_by_fold}
 use Rattle.std.proofs.lemmas.Fmt.{decimal_digit, first_decimal, digits_decimal, digits_value-decimal, decimal-digits_value}
 use Rattle.byte_fields.specs.Numbers.{value_from, number_of}
+use Rattle.plain_lemmas.proofs.Options.{when_some, some_when}
 
 -- the number that the digits go on to spell after this one
 abbrev read_on : ℕ → List ℕ → ℕ
@@ -16,15 +17,6 @@ read_on n (d ∷ ds) = read_on (n * 10 + (d - 48)) ds
 
 own : IsNumeralModel (λ ds. all_ascii_digits ds ≡ true) (read_on 0)
 own = numerals_by_fold _ (search rules) read_on (search rules)
-
--- a value that is there under a test
-pub when_some : {A : Type 0} (b : Bool) (o : Option A) (x : A) → cond b o None ≡ Some x → (b ≡ true) × (o ≡ Some x)
-when_some true o x e = (refl, e)
-when_some false o x e = absurd cc
-
-pub some_when : {A : Type 0} (b : Bool) (x y : A) → cond b (Some x) None ≡ Some y → (b ≡ true) × (x ≡ y)
-some_when true x y e = (refl, cc)
-some_when false x y e = absurd cc
 
 -- what the digits spell, and that it is below 2 ^ 32
 record Spells (n : ℕ) (ds : List ℕ) (v : ℕ) : Type 0 where

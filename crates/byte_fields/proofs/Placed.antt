@@ -10,6 +10,8 @@ use Rattle.byte_fields.specs.declared.numbers.Number.{Number}
 use Rattle.byte_fields.specs.Numbers.{digits_len, number_of}
 use Rattle.byte_fields.specs.Standing.{StandsAt, number_at}
 use Rattle.byte_fields.proofs.Decimals.{number_of-some, number_of-decimal, decimal_digits}
+use Rattle.std.proofs.lemmas.Option.{none-some}
+use Rattle.plain_lemmas.proofs.Options.{map_some}
 
 digits_len-within : (text : List ℕ) → digits_len text ≤ length text
 digits_len-within [] = omega arith
@@ -30,13 +32,6 @@ digits_len-digits [] rest digits other = other
 digits_len-digits (d ∷ ds) rest digits other =
     let both = and_parts (is_ascii_digit d) (all_ascii_digits ds) digits in
     rw both.0 (ap suc (digits_len-digits ds rest both.1 other))
-
-pub map_some : {A B : Type 0} (f : A → B) (o : Option A) (y : B) → option_map f o ≡ Some y → (x : A) × (o ≡ Some x) × (f x ≡ y)
-map_some f None y e = absurd cc
-map_some f (Some x) y e = (x, refl, cc)
-
-none_some : {X : Type 0} (x : X) → None ≡ Some x → ⊥
-none_some x h = cc
 
 stands_read : (text : List ℕ) (at : ℕ) (n : Number) → number_at text at ≡ Some n → StandsAt text at n
 stands_read text at n e =
@@ -66,5 +61,5 @@ found_of text at None e = tt
 found_of text at (Some n) e = stands_read text at n (sym e)
 
 pub none_of : (text : List ℕ) (at : ℕ) (r : Option Number) → r ≡ number_at text at → IfNone r ((n : Number) → StandsAt text at n → ⊥)
-none_of text at None e = λ n stands. none_some n (e ∙ read_stands text at n stands)
+none_of text at None e = λ n stands. none-some n (e ∙ read_stands text at n stands)
 none_of text at (Some n) e = tt

@@ -1,6 +1,6 @@
 //! Fields of bytes that begin at a place.
 
-ghost use Rattle.std.specs.Prelude.{◌≡◌, ◌+◌, ◌≤◌, length, drop, slice_get, option_map};
+ghost use Rattle.std.specs.Prelude.{◌≡◌, ◌+◌, ◌≤◌, length, drop, slice_get, slice_range, option_map};
 ghost use Rattle.std.specs.Int.{w16, w32, to_be_bytes, from_be_bytes};
 ghost use Rattle.byte_fields.specs.Fields.{bytes_at, overwritten};
 
@@ -37,6 +37,16 @@ pub fn take_array<const N: usize>(bytes: &[u8], at: usize) -> Option<[u8; N]>
     let mut array = [0; N];
     array.copy_from_slice(&rest[..N]);
     Some(array)
+}
+
+/// The `N` bytes that begin at this place, all of which stand.
+pub fn array_at<const N: usize>(bytes: &[u8], at: usize) -> [u8; N]
+    requires { at + N ≤ length bytes.now }
+    ensures { result ≡ slice_range bytes.now at (at + N) }
+{
+    let mut array = [0; N];
+    array.copy_from_slice(&bytes[at..at + N]);
+    array
 }
 
 /// The number in the two bytes that begin at this place, the high byte first. None comes exactly where fewer than two

@@ -9,5 +9,5 @@
 mod fields;
 mod numbers;
 
-pub use fields::{put_slice, put_u16, put_u32, take_array, take_u8, take_u16, take_u32};
+pub use fields::{array_at, put_slice, put_u16, put_u32, take_array, take_u8, take_u16, take_u32};
 pub use numbers::{Number, take_number};

@@ -6,23 +6,10 @@ use Rattle.std.proofs.lemmas.List.{length-take-le, length-drop}
 use Rattle.definitions.specs.declared.frames.TurnFrame.{TurnFrame}
 use Rattle.definitions.specs.Openings.{FitsCell}
 use Rattle.commitment.specs.Spelling.{FitsFrame, cell_at, has_head, short_at, turn_at, turn_frame_of}
-
--- all items are bytes
-abbrev AreBytes : List ℕ → Type 0
-AreBytes bytes = (i : ℕ) → slice_index bytes i < 256
-
--- a choice, by how its test went
-chosen : {X : Type 0} (b : Bool) (x y z : X) → (if b then x else y) ≡ z → ((b ≡ true) × (x ≡ z)) ⊎ ((b ≡ false) × (y ≡ z))
-chosen true x y z h = inl (refl, h)
-chosen false x y z h = inr (refl, h)
-
--- a value that is there under a test
-when_some : {X : Type 0} (b : Bool) (o : Option X) (x : X) → (if b then o else None) ≡ Some x → (b ≡ true) × (o ≡ Some x)
-when_some true o x h = (refl, h)
-when_some false o x h = absurd cc
-
-some_same : {X : Type 0} (x y : X) → Some x ≡ Some y → x ≡ y
-some_same x y h = cc
+use Rattle.std.proofs.lemmas.Option.{same_Some}
+use Rattle.plain_lemmas.proofs.Options.{when_some}
+use Rattle.plain_lemmas.proofs.Tests.{chosen}
+use Rattle.plain_lemmas.proofs.Lists.{AreBytes}
 
 short_small : (bytes : List ℕ) (at : ℕ) → AreBytes bytes → short_at bytes at < 2 ^ 16
 short_small bytes at b = omega (arith, b at, b (at + 1))
@@ -43,14 +30,14 @@ end_long kind payload at bytes h all =
 pub fits_read : (bytes : List ℕ) (frame : TurnFrame) → AreBytes bytes → turn_frame_of bytes ≡ Some frame → FitsFrame frame
 unfolding turn_frame_of
 fits_read bytes frame b h = elim (chosen (has_head 2 37 bytes) _ _ _ h) [
-  | inl a ↦ subst FitsFrame (some_same _ _ a.1) (b 3, turn_small bytes b, end_long 2 37 8 bytes a.0 refl)
+  | inl a ↦ subst FitsFrame (same_Some _ _ a.1) (b 3, turn_small bytes b, end_long 2 37 8 bytes a.0 refl)
   | inr n ↦ elim (chosen (has_head 3 42 bytes && (slice_index bytes 12 == 0)) _ _ _ n.1) [
     | inl a ↦
         let head = (and_parts _ _ a.0).0 in
-        subst FitsFrame (some_same _ _ a.1) (b 3, turn_small bytes b, cell_small bytes 8 b, tt, end_long 3 42 13 bytes head refl)
+        subst FitsFrame (same_Some _ _ a.1) (b 3, turn_small bytes b, cell_small bytes 8 b, tt, end_long 3 42 13 bytes head refl)
     | inr m ↦
         let a = when_some (has_head 3 46 bytes && (slice_index bytes 12 == 1)) _ _ m.1 in
         let head = (and_parts _ _ a.0).0 in
-        subst FitsFrame (some_same _ _ a.1) (b 3, turn_small bytes b, cell_small bytes 8 b, cell_small bytes 13 b, end_long 3 46 17 bytes head refl)
+        subst FitsFrame (same_Some _ _ a.1) (b 3, turn_small bytes b, cell_small bytes 8 b, cell_small bytes 13 b, end_long 3 46 17 bytes head refl)
   ]
 ]

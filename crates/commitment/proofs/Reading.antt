@@ -14,9 +14,12 @@ use Rattle.definitions.specs.declared.frames.TurnFrame.{TurnFrame}
 use Rattle.definitions.specs.declared.frames.TurnFrame.TheVariants.{Commit, Reveal}
 use Rattle.definitions.specs.Openings.{cell_bytes, move_bytes, FitsCell, FitsStrike}
 use Rattle.commitment.specs.Spelling.{frame_bytes, has_head, short_at, cell_at, turn_at, turn_frame_of, FitsFrame}
+use Rattle.std.proofs.lemmas.Option.{same_Some, none-some}
+use Rattle.plain_lemmas.proofs.Tests.{chosen}
+use Rattle.plain_lemmas.proofs.Lists.{AreBytes, two_bytes, four_bytes, front_same}
 
 -- the list without its first 4, 5 or 9 items, which its length says it has
-head_is : (kind payload : ℕ) (bytes : List ℕ) → length bytes ≡ payload + 3 → slice_index bytes 0 ≡ kind → slice_index bytes 1 ≡ 0 → slice_index bytes 2 ≡ payload →
+pub head_is : (kind payload : ℕ) (bytes : List ℕ) → length bytes ≡ payload + 3 → slice_index bytes 0 ≡ kind → slice_index bytes 1 ≡ 0 → slice_index bytes 2 ≡ payload →
     has_head kind payload bytes ≡ true
 head_is kind payload bytes l a b c = and_from _ _ (and_from _ _ (and_from _ _ (eq-eqb _ _ l) (eq-eqb _ _ a)) (eq-eqb _ _ b)) (eq-eqb _ _ c)
 
@@ -29,10 +32,10 @@ commit_read p t d f =
     let n : slice_range bs 8 40 ≡ d.bytes = take_all 32 d.bytes (omega (arith, f.2)) in
     rw h (rw (e, n) refl)
 
-other_kind : (kind payload : ℕ) (bytes : List ℕ) → (slice_index bytes 0 == kind) ≡ false → has_head kind payload bytes ≡ false
+pub other_kind : (kind payload : ℕ) (bytes : List ℕ) → (slice_index bytes 0 == kind) ≡ false → has_head kind payload bytes ≡ false
 other_kind kind payload bytes a = grind arith
 
-other_length : (kind payload : ℕ) (bytes : List ℕ) → (slice_index bytes 2 == payload) ≡ false → has_head kind payload bytes ≡ false
+pub other_length : (kind payload : ℕ) (bytes : List ℕ) → (slice_index bytes 2 == payload) ≡ false → has_head kind payload bytes ≡ false
 other_length kind payload bytes a = grind arith
 
 cell_read : (c : Cell) (d : Cell) → FitsCell c → d.x ≡ from_be_bytes w16 (to_be_bytes w16 c.x) → d.y ≡ from_be_bytes w16 (to_be_bytes w16 c.y) → d ≡ c
@@ -80,17 +83,6 @@ pub spelled_read : (f : TurnFrame) → FitsFrame f → turn_frame_of (frame_byte
 spelled_read (Commit p t d) f = commit_read p t d f
 spelled_read (Reveal p t m n) f = reveal_read p t m.to m.strike n f.0 f.1 f.2 f.3 f.4
 
--- a choice, by how its test went
-chosen : {X : Type 0} (b : Bool) (x y z : X) → (if b then x else y) ≡ z → ((b ≡ true) × (x ≡ z)) ⊎ ((b ≡ false) × (y ≡ z))
-chosen true x y z h = inl (refl, h)
-chosen false x y z h = inr (refl, h)
-
-some_same : {X : Type 0} (x y : X) → Some x ≡ Some y → x ≡ y
-some_same x y h = cc
-
-none_some : {X : Type 0} (x : X) → None ≡ Some x → ⊥
-none_some x h = cc
-
 -- n items from the i-th on
 firsts : ℕ → ℕ → List ℕ → List ℕ
 firsts zero i xs = []
@@ -106,12 +98,8 @@ firsts-rest (suc n) i xs h =
     let two : drop (suc i) xs ≡ drop (i + 1) xs = rw add-one refl in
     rw e (ap (λ ys. slice_index xs i ∷ ys) (ih ∙ sym two) ∙ sym one)
 
--- all items are bytes
-abbrev pub IsBytes : List ℕ → Type 0
-IsBytes bytes = (i : ℕ) → get_or bytes i 0 < 256
-
 -- what a passed head says
-heads : (kind payload : ℕ) (bytes : List ℕ) → has_head kind payload bytes ≡ true →
+pub heads : (kind payload : ℕ) (bytes : List ℕ) → has_head kind payload bytes ≡ true →
     (length bytes ≡ payload + 3) × (slice_index bytes 0 ≡ kind) × (slice_index bytes 1 ≡ 0) × (slice_index bytes 2 ≡ payload)
 heads kind payload bytes h =
     let a = and_parts _ _ h in
@@ -119,29 +107,19 @@ heads kind payload bytes h =
     let c = and_parts _ _ b.0 in
     (eqb-true _ _ c.0, eqb-true _ _ c.1, eqb-true _ _ b.1, eqb-true _ _ a.1)
 
-two_bytes : (a b : ℕ) → a < 256 → b < 256 → IsBytes (a ∷ b ∷ [])
-two_bytes a b f g zero = f
-two_bytes a b f g (suc zero) = g
-two_bytes a b f g (suc (suc i)) = omega arith
-
-four_bytes : (a b c d : ℕ) → a < 256 → b < 256 → c < 256 → d < 256 → IsBytes (a ∷ b ∷ c ∷ d ∷ [])
-four_bytes a b c d f g h k zero = f
-four_bytes a b c d f g h k (suc zero) = g
-four_bytes a b c d f g h k (suc (suc i)) = two_bytes c d h k i
-
-short_spelled : (bytes : List ℕ) (at : ℕ) → IsBytes bytes → to_be_bytes w16 (short_at bytes at) ≡ slice_index bytes at ∷ slice_index bytes (at + 1) ∷ []
+short_spelled : (bytes : List ℕ) (at : ℕ) → AreBytes bytes → to_be_bytes w16 (short_at bytes at) ≡ slice_index bytes at ∷ slice_index bytes (at + 1) ∷ []
 short_spelled bytes at b =
-    let few : IsBytes (slice_index bytes at ∷ slice_index bytes (at + 1) ∷ []) = two_bytes _ _ (b at) (b (at + 1)) in
+    let few : AreBytes (slice_index bytes at ∷ slice_index bytes (at + 1) ∷ []) = two_bytes _ _ (b at) (b (at + 1)) in
     be_bytes_2 (slice_index bytes at ∷ slice_index bytes (at + 1) ∷ []) (short_at bytes at) refl few refl
 
-turn_spelled : (bytes : List ℕ) → IsBytes bytes → to_be_bytes w32 (turn_at bytes) ≡ firsts 4 4 bytes
+turn_spelled : (bytes : List ℕ) → AreBytes bytes → to_be_bytes w32 (turn_at bytes) ≡ firsts 4 4 bytes
 unfolding firsts
 turn_spelled bytes b = be_bytes_4 (firsts 4 4 bytes) (turn_at bytes) refl (four_bytes _ _ _ _ (b 4) (b 5) (b 6) (b 7)) refl
 
 rest_is : (n m : ℕ) (bytes : List ℕ) → length bytes ≡ n + m → take m (drop n bytes) ≡ drop n bytes
 rest_is n m bytes l = take_all m (drop n bytes) (omega (arith, length-drop n bytes))
 
-commit_again : (bytes : List ℕ) → IsBytes bytes → has_head 2 37 bytes ≡ true →
+commit_again : (bytes : List ℕ) → AreBytes bytes → has_head 2 37 bytes ≡ true →
     frame_bytes (Commit (slice_index bytes 3) (turn_at bytes) (record { bytes = slice_range bytes 8 40 })) ≡ bytes
 unfolding frame_bytes firsts
 commit_again bytes b h =
@@ -161,7 +139,7 @@ parts-same : (k z l p f k' z' l' f' : ℕ) (t x y s r t' x' y' s' r' : List ℕ)
     parts k z l p t x y f s r ≡ parts k' z' l' p t' x' y' f' s' r'
 parts-same k z l p f k' z' l' f' t x y s r t' x' y' s' r' a b c d e g h i j = cc
 
-plain_again : (bytes : List ℕ) → IsBytes bytes → has_head 3 42 bytes ≡ true → slice_index bytes 12 ≡ 0 →
+plain_again : (bytes : List ℕ) → AreBytes bytes → has_head 3 42 bytes ≡ true → slice_index bytes 12 ≡ 0 →
     frame_bytes (Reveal (slice_index bytes 3) (turn_at bytes) (record { to = cell_at bytes 8; strike = None }) (record { bytes = slice_range bytes 13 45 })) ≡ bytes
 unfolding frame_bytes move_bytes cell_bytes firsts parts
 plain_again bytes b h f =
@@ -172,7 +150,7 @@ plain_again bytes b h f =
     = parts-same 3 0 42 (slice_index bytes 3) 0 _ _ _ _ _ _ _ [] _ _ _ _ [] _ (sym p.1) (sym p.2) (sym p.3) (sym f) (turn_spelled bytes b) (short_spelled bytes 8 b) (short_spelled bytes 10 b) refl (rest_is 13 32 bytes p.0) in
     same ∙ all
 
-strike_again : (bytes : List ℕ) → IsBytes bytes → has_head 3 46 bytes ≡ true → slice_index bytes 12 ≡ 1 →
+strike_again : (bytes : List ℕ) → AreBytes bytes → has_head 3 46 bytes ≡ true → slice_index bytes 12 ≡ 1 →
     frame_bytes (Reveal (slice_index bytes 3) (turn_at bytes) (record { to = cell_at bytes 8; strike = Some (cell_at bytes 13) }) (record { bytes = slice_range bytes 17 49 })) ≡ bytes
 unfolding frame_bytes move_bytes cell_bytes firsts parts
 strike_again bytes b h f =
@@ -189,15 +167,15 @@ strike_again bytes b h f =
     same ∙ all
 
 -- what is read was spelled so
-pub read_spelled : (bytes : List ℕ) (f : TurnFrame) → IsBytes bytes → turn_frame_of bytes ≡ Some f → frame_bytes f ≡ bytes
+pub read_spelled : (bytes : List ℕ) (f : TurnFrame) → AreBytes bytes → turn_frame_of bytes ≡ Some f → frame_bytes f ≡ bytes
 unfolding turn_frame_of
 read_spelled bytes f b h = elim (chosen (has_head 2 37 bytes) _ _ _ h) [
-  | inl a ↦ rw (sym (some_same _ _ a.1)) (commit_again bytes b a.0)
+  | inl a ↦ rw (sym (same_Some _ _ a.1)) (commit_again bytes b a.0)
   | inr n ↦ elim (chosen (has_head 3 42 bytes && (slice_index bytes 12 == 0)) _ _ _ n.1) [
-    | inl a ↦ let t = and_parts _ _ a.0 in rw (sym (some_same _ _ a.1)) (plain_again bytes b t.0 (eqb-true _ _ t.1))
+    | inl a ↦ let t = and_parts _ _ a.0 in rw (sym (same_Some _ _ a.1)) (plain_again bytes b t.0 (eqb-true _ _ t.1))
     | inr m ↦ elim (chosen (has_head 3 46 bytes && (slice_index bytes 12 == 1)) _ _ _ m.1) [
-      | inl a ↦ let t = and_parts _ _ a.0 in rw (sym (some_same _ _ a.1)) (strike_again bytes b t.0 (eqb-true _ _ t.1))
-      | inr o ↦ absurd (none_some _ o.1)
+      | inl a ↦ let t = and_parts _ _ a.0 in rw (sym (same_Some _ _ a.1)) (strike_again bytes b t.0 (eqb-true _ _ t.1))
+      | inr o ↦ absurd (none-some _ o.1)
     ]
   ]
 ]
@@ -209,7 +187,7 @@ found_of bytes (Some f) b e = read_spelled bytes f (λ i. omega (arith, b i)) (s
 
 -- where none is read, the bytes spell none
 pub none_of : (bytes : List ℕ) (r : Option TurnFrame) → r ≡ turn_frame_of bytes → IfNone r ((f : TurnFrame) → FitsFrame f → bytes ≡ frame_bytes f → ⊥)
-none_of bytes None e = λ f fits g. none_some f (e ∙ ap turn_frame_of g ∙ spelled_read f fits)
+none_of bytes None e = λ f fits g. none-some f (e ∙ ap turn_frame_of g ∙ spelled_read f fits)
 none_of bytes (Some f) e = tt
 
 length-reveal : (p t : ℕ) (to : Cell) (strike : Option Cell) (n : Nonce) → length n.bytes ≡ 32 →
@@ -219,20 +197,10 @@ unfolding frame_bytes move_bytes cell_bytes
 length-reveal p t to None n h = omega arith
 length-reveal p t to (Some c) n h = omega arith
 
-length-frame : (f : TurnFrame) → FitsFrame f → length (frame_bytes f) ≡ slice_index (frame_bytes f) 2 + 3
+pub length-frame : (f : TurnFrame) → FitsFrame f → length (frame_bytes f) ≡ slice_index (frame_bytes f) 2 + 3
 unfolding frame_bytes move_bytes cell_bytes
 length-frame (Commit p t d) h = omega (arith, h.2)
 length-frame (Reveal p t m n) h = length-reveal p t m.to m.strike n h.4
-
-front_same : (xs ys xs' ys' : List ℕ) → length xs ≡ length xs' → xs ++ ys ≡ xs' ++ ys' → (xs ≡ xs') × (ys ≡ ys')
-front_same [] ys [] ys' l e = (refl, e)
-front_same [] ys (x ∷ xs') ys' l e = absurd (omega arith)
-front_same (x ∷ xs) ys [] ys' l e = absurd (omega arith)
-front_same (x ∷ xs) ys (y ∷ xs') ys' l e =
-    let tails : xs ++ ys ≡ xs' ++ ys' = cc in
-    let heads : x ≡ y = cc in
-    let rest = front_same xs ys xs' ys' (omega arith) tails in
-    (let a = rest.0 in cc, rest.1)
 
 -- the third byte of a frame stays where more bytes follow
 third_byte : (f : TurnFrame) (x : List ℕ) → slice_index (frame_bytes f ++ x) 2 ≡ slice_index (frame_bytes f) 2
@@ -247,4 +215,4 @@ none_begins f g x y h k e =
     = sym (third_byte f x) ∙ ap (λ b. slice_index b 2) e ∙ third_byte g y in
     let long : length (frame_bytes f) ≡ length (frame_bytes g) = omega (arith, length-frame f h, length-frame g k) in
     let both = front_same _ _ _ _ long e in
-    (some_same f g (sym (spelled_read f h) ∙ ap turn_frame_of both.0 ∙ spelled_read g k), both.1)
+    (same_Some f g (sym (spelled_read f h) ∙ ap turn_frame_of both.0 ∙ spelled_read g k), both.1)

@@ -7,7 +7,7 @@ ghost use Rattle.definitions.specs.declared.frames.TurnFrame.{TurnFrame};
 
 use crate::openings::spell_move;
 use arrayvec::ArrayVec;
-use byte_fields::{put_slice, take_array, take_u16, take_u32};
+use byte_fields::{array_at, put_slice, take_u16, take_u32};
 use definitions::{Cell, Digest, Move, Nonce, TurnFrame};
 
 /// A frame's 40, 45 or 49 bytes.
@@ -84,16 +84,9 @@ fn turn_at(bytes: &[u8]) -> u32
     take_u32(bytes, 4).unwrap()
 }
 
-/// The 32 bytes from this one on.
-fn array_at(bytes: &[u8], at: usize) -> [u8; 32]
-    requires { at + 32 ≤ length bytes.now }
-    ensures { result ≡ slice_range bytes.now at (at + 32) }
-{
-    take_array(bytes, at).unwrap()
-}
-
-/// Whether the bytes are of this kind, with a payload as long as its length says.
-fn has_head(kind: u8, payload: u8, bytes: &[u8]) -> bool
+/// Whether the bytes are the spelling of a frame of this kind as far as its first three bytes tell: the kind, and a payload as
+/// long as its length says.
+pub fn has_head(kind: u8, payload: u8, bytes: &[u8]) -> bool
     ensures { result ≡ S.has_head kind payload bytes.now }
 {
     bytes.len() == usize::from(payload) + 3

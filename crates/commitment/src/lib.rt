@@ -11,5 +11,5 @@ pub mod laws;
 pub mod openings;
 
 pub use definitions::{Digest, Finding, Kind, Nonce, Opening, Spot, TurnFrame};
-pub use frames::{put_turn, whole_turn};
+pub use frames::{has_head, put_turn, whole_turn};
 pub use openings::{digest_of, opening_bytes, opens};

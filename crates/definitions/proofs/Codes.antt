@@ -7,17 +7,7 @@ use Rattle.definitions.specs.declared.world.Cell.{Cell}
 use Rattle.definitions.specs.declared.world.Move.{Move}
 use Rattle.definitions.specs.declared.openings.Opening.{Opening}
 use Rattle.definitions.specs.Openings.{cell_bytes, strike_bytes, move_bytes, opening, FitsCell, FitsStrike, FitsOpening}
-
--- two joined lists whose first parts are as long have the same parts
-front_same : {X : Type 0} (xs ys xs' ys' : List X) → length xs ≡ length xs' → xs ++ ys ≡ xs' ++ ys' → (xs ≡ xs') × (ys ≡ ys')
-front_same [] ys [] ys' l e = (refl, e)
-front_same [] ys (x ∷ xs') ys' l e = absurd (omega arith)
-front_same (x ∷ xs) ys [] ys' l e = absurd (omega arith)
-front_same (x ∷ xs) ys (y ∷ xs') ys' l e =
-    let tails : xs ++ ys ≡ xs' ++ ys' = cc in
-    let heads : x ≡ y = cc in
-    let rest = front_same xs ys xs' ys' (omega arith) tails in
-    (let a = rest.0 in cc, rest.1)
+use Rattle.plain_lemmas.proofs.Lists.{front_same}
 
 to_be_bytes_2-same : (m n : ℕ) → m < 2 ^ 16 → n < 2 ^ 16 → to_be_bytes w16 m ≡ to_be_bytes w16 n → m ≡ n
 to_be_bytes_2-same m n h k e = sym (from_be_bytes-to_be_bytes_2 m h) ∙ ap (from_be_bytes w16) e ∙ from_be_bytes-to_be_bytes_2 n k
@@ -25,7 +15,8 @@ to_be_bytes_2-same m n h k e = sym (from_be_bytes-to_be_bytes_2 m h) ∙ ap (fro
 to_be_bytes_4-same : (m n : ℕ) → m < 2 ^ 32 → n < 2 ^ 32 → to_be_bytes w32 m ≡ to_be_bytes w32 n → m ≡ n
 to_be_bytes_4-same m n h k e = sym (from_be_bytes-to_be_bytes_4 m h) ∙ ap (from_be_bytes w32) e ∙ from_be_bytes-to_be_bytes_4 n k
 
-cell_from : (a b : Cell) → a.x ≡ b.x → a.y ≡ b.y → a ≡ b
+-- a cell by its column and its row
+pub cell_from : (a b : Cell) → a.x ≡ b.x → a.y ≡ b.y → a ≡ b
 cell_from a b ex ey =
     let at_x : ℕ → Cell = λ n. record { x = n; y = a.y } in
     let at_y : ℕ → Cell = λ n. record { x = b.x; y = n } in

@@ -6,9 +6,11 @@ use Rattle.std.specs.Cmp.Lexicographic.{same_text}
 use Rattle.std.proofs.lemmas.Bool.{eqb-true, eq-eqb, and_from}
 use Rattle.std.proofs.lemmas.List.{take_at, drop_at, take-append-drop}
 use Rattle.byte_fields.specs.Numbers.{digits_len, number_of}
-use Rattle.byte_fields.proofs.Decimals.{when_some, some_when, number_of-some, number_of-decimal, decimal_digits}
-use Rattle.byte_fields.proofs.Placed.{digits_len-digits, map_some}
+use Rattle.byte_fields.proofs.Decimals.{number_of-some, number_of-decimal, decimal_digits}
+use Rattle.byte_fields.proofs.Placed.{digits_len-digits}
 use Rattle.grid_world.specs.Lines.{◌>>=◌, fields_of, line_of, behind, number_at, field_at, is_ended, one_of, two_of, three_of}
+use Rattle.plain_lemmas.proofs.Options.{map_some, when_some, some_when}
+use Rattle.plain_lemmas.proofs.Lists.{front_stands}
 
 bind_some : {A B : Type 0} (o : Option A) (f : A → Option B) (y : B) → (o >>= f) ≡ Some y → (x : A) × (o ≡ Some x) × (f x ≡ Some y)
 bind_some None f y e = absurd cc
@@ -19,11 +21,6 @@ bytes_eq-same [] = refl
 bytes_eq-same (x ∷ xs) = and_from (eqb x x) (bytes_eq xs xs) (eq-eqb x x refl) (bytes_eq-same xs)
 
 -- ---- what stands behind a front
-
-behind-some : (front text rest : List ℕ) → behind front text ≡ Some rest → text ≡ front ++ rest
-behind-some front text rest e =
-    let kept = some_when (bytes_eq (take (length front) text) front) (drop (length front) text) rest e in
-    sym (take-append-drop (length front) text) ∙ ap (λ (x : List ℕ). x ++ drop (length front) text) (same_text _ _ (sym kept.0)) ∙ ap (λ (x : List ℕ). front ++ x) kept.1
 
 behind-front : (front rest : List ℕ) → behind front (front ++ rest) ≡ Some rest
 behind-front front rest = rw (take_at front rest (length front) refl, bytes_eq-same front, drop_at front rest (length front) refl) refl
@@ -77,7 +74,7 @@ one_of-some name line n e =
     let kept = some_when (is_ended a.0.1) a.0.0 n a.2 in
     let field = field_at-some front.0 a.0 a.1 in
     subst (λ (m : ℕ). (line ≡ line_of name (m ∷ [])) × (m < 2 ^ 32)) {x = a.0.0} kept.1
-    (line_join name line front.0 (a.0.0 ∷ []) (behind-some name line front.0 front.1) (fields_join front.0 a.0 [] field (ended a.0.1 kept.0)), field.below)
+    (line_join name line front.0 (a.0.0 ∷ []) (front_stands name line front.0 front.1) (fields_join front.0 a.0 [] field (ended a.0.1 kept.0)), field.below)
 
 pub two_of-some : (name line : List ℕ) (x : ℕ × ℕ) → two_of name line ≡ Some x → (line ≡ line_of name (x.0 ∷ x.1 ∷ [])) × (x.0 < 2 ^ 32) × (x.1 < 2 ^ 32)
 unfolding two_of
@@ -89,7 +86,7 @@ two_of-some name line x e =
     let first = field_at-some front.0 a.0 a.1 in
     let second = field_at-some a.0.1 b.0 b.1 in
     subst (λ (y : ℕ × ℕ). (line ≡ line_of name (y.0 ∷ y.1 ∷ [])) × (y.0 < 2 ^ 32) × (y.1 < 2 ^ 32)) {x = (a.0.0, b.0.0)} kept.1
-    (line_join name line front.0 (a.0.0 ∷ b.0.0 ∷ []) (behind-some name line front.0 front.1) (fields_join front.0 a.0 (b.0.0 ∷ []) first (fields_join a.0.1 b.0 [] second (ended b.0.1 kept.0))), first.below, second.below)
+    (line_join name line front.0 (a.0.0 ∷ b.0.0 ∷ []) (front_stands name line front.0 front.1) (fields_join front.0 a.0 (b.0.0 ∷ []) first (fields_join a.0.1 b.0 [] second (ended b.0.1 kept.0))), first.below, second.below)
 
 pub three_of-some : (name line : List ℕ) (x : ℕ × ℕ × ℕ) → three_of name line ≡ Some x
     → (line ≡ line_of name (x.0 ∷ x.1 ∷ x.2 ∷ [])) × (x.0 < 2 ^ 32) × (x.1 < 2 ^ 32) × (x.2 < 2 ^ 32)
@@ -104,7 +101,7 @@ three_of-some name line x e =
     let second = field_at-some a.0.1 b.0 b.1 in
     let third = field_at-some b.0.1 c.0 c.1 in
     subst (λ (y : ℕ × ℕ × ℕ). (line ≡ line_of name (y.0 ∷ y.1 ∷ y.2 ∷ [])) × (y.0 < 2 ^ 32) × (y.1 < 2 ^ 32) × (y.2 < 2 ^ 32)) {x = (a.0.0, b.0.0, c.0.0)} kept.1 (
-      line_join name line front.0 (a.0.0 ∷ b.0.0 ∷ c.0.0 ∷ []) (behind-some name line front.0 front.1) (fields_join front.0 a.0 (b.0.0 ∷ c.0.0 ∷ []) first (fields_join a.0.1 b.0 (c.0.0 ∷ []) second (fields_join b.0.1 c.0 [] third (ended c.0.1 kept.0)))),
+      line_join name line front.0 (a.0.0 ∷ b.0.0 ∷ c.0.0 ∷ []) (front_stands name line front.0 front.1) (fields_join front.0 a.0 (b.0.0 ∷ c.0.0 ∷ []) first (fields_join a.0.1 b.0 (c.0.0 ∷ []) second (fields_join b.0.1 c.0 [] third (ended c.0.1 kept.0)))),
       first.below,
       second.below,
       third.below,

@@ -12,6 +12,7 @@ use Rattle.grid_world.specs.Text.{wall_line, end_line}
 use Rattle.grid_world.specs.Reading.{◌>>=◌, keeps, line_at, is_within, version_at, sides_at, steps_at, charges_at, turns_at, players_at, Head, head_at, cell_at, start_at, starts_at, is_after, wall_at, walls_at, ends_at}
 use Rattle.grid_world.proofs.Steps.{bind_ok, keeps_ok, ok_is, line_at_ok, wall_at_ok}
 use Rattle.grid_world.proofs.Forms.{one_of-some, two_of-some, three_of-some}
+use Rattle.plain_lemmas.proofs.Tests.{chosen}
 
 within : (low high n : ℕ) → is_within low high n ≡ true → (low ≤ n) × (n ≤ high)
 within low high n h =
@@ -230,10 +231,6 @@ pub record TakesWalls (grid : Ground) (starts : List Cell) (lines : List (List �
   pub after : follow before walls ≡ true
   pub inside : EachIs (λ c. IsTrue (is_inside grid c)) walls
   pub apart : EachIs (λ c. has_cell starts c ≡ false) walls
-
-chosen : {A : Type 0} (b : Bool) (x y z : A) → cond b x y ≡ z → ((b ≡ true) × (x ≡ z)) ⊎ ((b ≡ false) × (y ≡ z))
-chosen true x y z e = inl (refl, e)
-chosen false x y z e = inr (refl, e)
 
 none_behind : (n : ℕ) (lines : List (List ℕ)) (walls : List Cell) → ends_at n lines ≡ Ok walls → (lines ≡ []) × ([] ≡ walls)
 none_behind n [] walls e = (refl, ok_is [] walls e)

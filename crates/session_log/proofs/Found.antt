@@ -16,6 +16,7 @@ use Rattle.session_log.specs.Entries.{told_len, entry_of}
 use Rattle.session_log.specs.Finding.{text_at, digest_at, is_torn, is_unchained, owned_by, entry_at}
 use Rattle.session_log.specs.Laws.{AreBytes}
 use Rattle.session_log.proofs.Texts.{entry_read, entry_spelled, told_len-text, length-entry_text}
+use Rattle.plain_lemmas.proofs.Lists.{take_bytes}
 
 pub length-sha256 : (m : List ℕ) → length (sha256 m) ≡ 32
 unfolding sha256 digest_bytes
@@ -85,22 +86,6 @@ owned_so game me (Some f) n d e count digest q = go (is_well_formed game me f) r
     go true t h =
         let same : f ≡ e = cc in
         record { read = ap (λ (x : Entry). Some x) same; well = subst (λ (x : Entry). is_well_formed game me x ≡ true) same t; counted = cc; same = cc }
-
-take_bytes : (n : ℕ) (xs : List ℕ) → AreBytes xs → AreBytes (take n xs)
-take_bytes n xs b i = elim (cases_lt i n) [
-  | inl lt ↦ let e = get_or-take n xs i 0 lt in let h = b i in omega arith
-  | inr le ↦ let e = past (take n xs) i (omega (arith, few n xs)) in omega arith
-]
-  where
-    few : (n : ℕ) (xs : List ℕ) → length (take n xs) ≤ n
-    few zero xs = omega arith
-    few (suc n) [] = omega arith
-    few (suc n) (x ∷ xs) = let h = few n xs in omega arith
-
-    past : (ys : List ℕ) (i : ℕ) → length ys ≤ i → slice_index ys i ≡ 0
-    past [] i h = refl
-    past (y ∷ ys) zero h = absurd (omega arith)
-    past (y ∷ ys) (suc i) h = past ys i (omega arith)
 
 pub found_stands : (game : Game) (me : ℕ) (chain bytes : List ℕ) (e : Entry) (count : ℕ) (digest : List ℕ) → AreBytes bytes → entry_at game me chain bytes ≡ Whole e count digest →
     IsFound game me chain bytes e count digest

@@ -18,6 +18,7 @@ use Rattle.session_log.specs.Writing.{fresh, all_written}
 use Rattle.session_log.specs.Laws.{AreBytes, chain_behind, StandsThere, EndsSo}
 use Rattle.session_log.proofs.Found.{entry_found, IsFound, found_stands, length-sha256}
 use Rattle.session_log.proofs.Texts.{length-entry_text}
+use Rattle.plain_lemmas.proofs.Lists.{drop_bytes}
 
 -- ---- writers write logs
 
@@ -108,9 +109,6 @@ log_read game me (e ∷ entries) lt fits well =
     (read_rest game (me ∷ rest) me entries (length (me ∷ rest)) (1 + n) (chained chain (entry_text e)) (omega arith) next_rest (omega arith) fits.1 well.1)
 
 -- ---- how reading ends
-
-drop_bytes : (n : ℕ) (xs : List ℕ) → AreBytes xs → AreBytes (drop n xs)
-drop_bytes n xs b i = let e = get_or-drop n xs i 0 in let h = b (n + i) in omega arith
 
 -- the bytes from a place on are these entries and then more bytes, in which this stands
 record RestStands (game : Game) (me at : ℕ) (chain bytes : List ℕ) (entries : List Entry) (place : ℕ) (f : Found) : Type 0 where

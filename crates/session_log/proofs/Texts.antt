@@ -17,6 +17,9 @@ use Rattle.commitment.proofs.Reading.{spelled_read, read_spelled}
 use Rattle.session_log.specs.Spelling.{kind_of, body_of, entry_text, FitsEntry}
 use Rattle.session_log.specs.Entries.{choice_of, as_reveal, chose_of, made_of, got_of, entry_by, told_len, entry_of}
 use Rattle.session_log.specs.Laws.{AreBytes}
+use Rattle.plain_lemmas.proofs.Options.{map_some}
+use Rattle.plain_lemmas.proofs.Tests.{chosen}
+use Rattle.plain_lemmas.proofs.Lists.{two_bytes}
 
 -- ---- longer than any frame
 
@@ -122,16 +125,8 @@ length-entry_text e = omega arith
 
 -- ---- what is read was spelled so
 
-chosen : {X : Type 0} (b : Bool) (x y z : X) → (if b then x else y) ≡ z → ((b ≡ true) × (x ≡ z)) ⊎ ((b ≡ false) × (y ≡ z))
-chosen true x y z h = inl (refl, h)
-chosen false x y z h = inr (refl, h)
-
 none_some : {X : Type 0} (x : X) → None ≡ Some x → ⊥
 none_some x h = cc
-
-map_some : {A B : Type 0} (f : A → B) (o : Option A) (y : B) → option_map f o ≡ Some y → (x : A) × (o ≡ Some x) × (f x ≡ y)
-map_some f None y e = absurd cc
-map_some f (Some x) y e = (x, refl, cc)
 
 head_length : (kind payload : ℕ) (bytes : List ℕ) → has_head kind payload bytes ≡ true → length bytes ≡ payload + 3
 head_length kind payload bytes h = eqb-true _ _ (and_parts _ _ (and_parts _ _ (and_parts _ _ h).0).0).0
@@ -200,11 +195,6 @@ body_again k body e b h = elim (chosen (k == 1) _ _ _ h) [
     ]
   ]
 ]
-
-two_bytes : (a b : ℕ) → a < 256 → b < 256 → AreBytes (a ∷ b ∷ [])
-two_bytes a b f g zero = f
-two_bytes a b f g (suc zero) = g
-two_bytes a b f g (suc (suc i)) = omega arith
 
 joined_again : (a b k : ℕ) (body : List ℕ) (e : Entry) → AreBytes (a ∷ b ∷ k ∷ body) → length body ≡ from_be_bytes w16 (a ∷ b ∷ []) → entry_by k body ≡ Some e → entry_text e ≡ a ∷ b ∷ k ∷ body
 unfolding entry_text body_is

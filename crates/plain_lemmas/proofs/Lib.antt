@@ -1,0 +1,4 @@
+pub mod Options
+pub mod Tests
+pub mod Lists
+pub mod Bits

@@ -1,0 +1,23 @@
+-- Options: what is known of the parts once the whole is there.
+use Rattle.std.proofs.Common.{◌≡◌, Bool, true, false, refl}
+use Rattle.std.specs.Prelude.{Option, Some, None, if◌then◌else◌, option_map, option_and_then}
+
+-- the value that a map gave was there
+pub map_some : {A B : Type 0} (f : A → B) (o : Option A) (y : B) → option_map f o ≡ Some y → (x : A) × (o ≡ Some x) × (f x ≡ y)
+map_some f None y h = absurd cc
+map_some f (Some x) y h = (x, refl, cc)
+
+-- what came behind a value was there, and the value too
+pub then_some : {A B : Type 0} (f : A → Option B) (o : Option A) (y : B) → option_and_then f o ≡ Some y → (x : A) × (o ≡ Some x) × (f x ≡ Some y)
+then_some f None y h = absurd cc
+then_some f (Some x) y h = (x, refl, h)
+
+-- what is there under a test passed it
+pub when_some : {A : Type 0} (b : Bool) (o : Option A) (x : A) → (if b then o else None) ≡ Some x → (b ≡ true) × (o ≡ Some x)
+when_some true o x h = (refl, h)
+when_some false o x h = absurd cc
+
+-- a value that is there under a test
+pub some_when : {A : Type 0} (b : Bool) (x y : A) → (if b then Some x else None) ≡ Some y → (b ≡ true) × (x ≡ y)
+some_when true x y h = (refl, cc)
+some_when false x y h = absurd cc
