@@ -1,5 +1,5 @@
 -- Lists of cells: what they have.
-use Rattle.std.proofs.Common.{◌≡◌, ℕ, zero, suc, ◌+◌, List, [], ◌∷◌, ◌++◌, refl, Bool, true, ◌∙◌, ap, arith, inl, inr}
+use Rattle.std.proofs.Common.{◌≡◌, ℕ, zero, suc, ◌+◌, List, [], ◌∷◌, ◌++◌, refl, Bool, true, false, ◌∙◌, ap, arith, inl, inr}
 use Rattle.std.specs.Prelude.{filter, map, flat_map, ◌&&◌, ◌||◌, ◌==◌, nat_lt, nat_le}
 use Rattle.std.specs.List.{list_any, range_with_len}
 use Rattle.std.proofs.lemmas.Bool.{eqb-true, eq-eqb, and_parts, and_from, or_cases, or_left, or_right, false≢true}
@@ -16,6 +16,14 @@ cell_eq-true a b h =
 
 pub cell_eq-same : (a : Cell) → cell_eq a a ≡ true
 cell_eq-same a = and_from (a.x == a.x) (a.y == a.y) (eq-eqb a.x a.x refl) (eq-eqb a.y a.y refl)
+
+-- the one cell of a list
+pub one_has : (a c : Cell) → has_cell (a ∷ []) c ≡ true → c ≡ a
+one_has a c has =
+    elim (or_cases (cell_eq c a) false has) [
+      | inl here ↦ cell_eq-true c a here
+      | inr none ↦ absurd (false≢true none)
+    ]
 
 pub has-append : (xs ys : List Cell) (c : Cell) → has_cell (xs ++ ys) c ≡ (has_cell xs c || has_cell ys c)
 has-append [] ys c = refl

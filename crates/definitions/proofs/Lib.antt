@@ -1,4 +1,5 @@
 pub mod Cells
+pub mod Nearness
 pub mod Walks
 pub mod Codes
 pub mod Streams

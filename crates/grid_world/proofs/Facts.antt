@@ -51,7 +51,7 @@ seat_starts rules [] q d lt = absurd (omega arith)
 seat_starts rules (s ∷ starts) zero d lt = refl
 seat_starts rules (s ∷ starts) (suc q) d lt = seat_starts rules starts q d (omega arith)
 
-length_seats : (rules : world.Rules) (starts : List Cell) → length (map (seat_at rules) starts) ≡ length starts
+pub length_seats : (rules : world.Rules) (starts : List Cell) → length (map (seat_at rules) starts) ≡ length starts
 length_seats rules [] = refl
 length_seats rules (s ∷ starts) = ap suc (length_seats rules starts)
 

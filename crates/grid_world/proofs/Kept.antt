@@ -14,6 +14,7 @@ use Rattle.grid_world.specs.Grids.{IsGrid}
 use Rattle.grid_world.specs.Sessions.{IsSession, GoesByTheRules, seat_at, game_of}
 use Rattle.grid_world.specs.Reading.{Head, head_at, starts_at, walls_at}
 use Rattle.grid_world.proofs.Taken.{head_pieces, head_takes, player_pieces, starts_takes, walls_takes}
+use Rattle.grid_world.proofs.Facts.{length_seats}
 
 -- ---- lists of cells of which none is in the other
 
@@ -63,10 +64,6 @@ open_starts grid rules [] inside apart = tt
 open_starts grid rules (s ∷ starts) inside apart =
     (and_from (is_inside grid s) (not (is_wall grid s)) inside.0 (not_from_false (is_wall grid s) apart.0), open_starts grid rules starts inside.1 apart.1)
 
-count_seats : (rules : world.Rules) (starts : List Cell) → length (map (seat_at rules) starts) ≡ length starts
-count_seats rules [] = refl
-count_seats rules (s ∷ starts) = ap suc (count_seats rules starts)
-
 -- ---- the session
 
 -- the grid of a head, with walls
@@ -93,7 +90,7 @@ session_kept id lines head starts walls bytes read =
     let first = (head_takes lines (head, read.starts_from) read.head_is).kept in
     let second = starts_takes head.grid head.players 0 read.starts_from (starts, read.walls_from) read.starts_are in
     let last = walls_takes head.grid starts read.walls_from None (7 + head.players) walls read.walls_are in
-    let count : length (map (seat_at head.rules) starts) ≡ head.players = count_seats head.rules starts ∙ second.count in
+    let count : length (map (seat_at head.rules) starts) ≡ head.players = length_seats head.rules starts ∙ second.count in
     record {
       version = refl;
       id = bytes;
@@ -130,7 +127,7 @@ lines_kept id lines head starts walls read =
     let first = head_takes lines (head, read.starts_from) read.head_is in
     let second = starts_takes head.grid head.players 0 read.starts_from (starts, read.walls_from) read.starts_are in
     let last = walls_takes head.grid starts read.walls_from None (7 + head.players) walls read.walls_are in
-    let count = sym (count_seats head.rules starts ∙ second.count) in
+    let count = sym (length_seats head.rules starts ∙ second.count) in
     first.spelled
     ∙ ap (λ (ls : List (List ℕ)). head_pieces head ++ ls) (second.spelled ∙ ap (λ (ls : List (List ℕ)). player_pieces starts 0 ++ ls) last.spelled)
     ∙ ap (λ (ls : List (List ℕ)). ls ++ (player_pieces starts 0 ++ (map wall_line walls ++ (end_line ∷ [])))) (head_lines-game id head starts walls count)

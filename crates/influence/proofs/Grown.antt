@@ -13,21 +13,19 @@ use Rattle.grid_world.specs.Sessions.{IsSession}
 use Rattle.grid_world.proofs.Facts.{seat_speed, seat_reach}
 use Rattle.cell_set.proofs.CellLists.{filter_cells}
 use Rattle.cell_set.specs.Regions.{Region, IsSizeOf, AreOpen, ground_of}
+use Rattle.plain_lemmas.proofs.Tests.{same_tests}
 
 -- the cells after so many growths by a step
 unfoldable pub grown : Ground → ℕ → List Cell → List Cell
 grown grid zero cells = cells
 grown grid (suc k) cells = stepped grid (grown grid k cells)
 
-same_test : (a b : Bool) → (a ≡ true → b ≡ true) → (b ≡ true → a ≡ true) → a ≡ b
-same_test a b to from = grind arith
-
 -- a step leads to the same cells from a set and from its open cells
 stepped_begun : (grid : Ground) (cells : List Cell) → stepped grid cells ≡ stepped grid (walked grid 0 cells)
 unfolding stepped
 stepped_begun grid cells =
     filter_cells (λ c. list_any (λ b. is_step grid b c) cells) (λ c. list_any (λ b. is_step grid b c) (walked grid 0 cells)) grid.width grid.height
-    (λ c wide high. same_test _ _ (there c) (back c))
+    (λ c wide high. same_tests _ _ (there c) (back c))
   where
     there : (c : Cell) → list_any (λ b. is_step grid b c) cells ≡ true → list_any (λ b. is_step grid b c) (walked grid 0 cells) ≡ true
     there c h =

@@ -9,6 +9,7 @@ use Rattle.definitions.specs.World.{Ground, has_cell, is_inside, is_open, distan
 use Rattle.definitions.specs.Walk.{is_step, walked}
 use Rattle.definitions.proofs.Cells.{any-cell, any-from}
 use Rattle.definitions.proofs.Walks.{has-begun, has-stepped}
+use Rattle.plain_lemmas.proofs.Tests.{same_tests}
 
 -- b, one nearer to a
 abbrev pub nearer : ℕ → ℕ → ℕ
@@ -16,11 +17,6 @@ nearer a b = if nat_lt b a then b + 1 else if nat_lt a b then b - 1 else b
 
 abbrev pub nearer_cell : Cell → Cell → Cell
 nearer_cell a b = record { x = nearer a.x b.x; y = nearer a.y b.y }
-
-pub same_test : (a b : Bool) → (a ≡ true → b ≡ true) → (b ≡ true → a ≡ true) → a ≡ b
-same_test true b f g = sym (f refl)
-same_test false true f g = g refl
-same_test false false f g = refl
 
 nearer-one : (a b : ℕ) → gap (nearer a b) b ≤ 1
 nearer-one a b = grind (arith, nat_tests)
@@ -108,5 +104,5 @@ box_walked grid (suc n) k a cells w i all c =
     let ih = box_walked grid n k a cells w i all in
     let e : (k + n) + 1 ≡ k + suc n = omega arith in
     has-stepped grid (walked grid n cells) c ∙
-    same_test _ _ (step_there grid (k + n) a c (walked grid n cells) w ih) (step_back grid (k + n) a c (walked grid n cells) w i ih) ∙
+    same_tests _ _ (step_there grid (k + n) a c (walked grid n cells) w ih) (step_back grid (k + n) a c (walked grid n cells) w i ih) ∙
     ap (λ m. is_inside grid c && nat_le (distance a c) m) e

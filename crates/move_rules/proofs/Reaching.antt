@@ -5,29 +5,20 @@ use Rattle.std.proofs.lemmas.Bool.{and_parts, and_from, or_cases, or_left, or_ri
 use Rattle.definitions.specs.declared.world.Cell.{Cell}
 use Rattle.definitions.specs.World.{Ground, cell_eq, has_cell, gap, distance, is_open}
 use Rattle.definitions.specs.Walk.{is_step, walked}
-use Rattle.definitions.proofs.Cells.{cell_eq-true, cell_eq-same, any-cell, any-from}
+use Rattle.definitions.proofs.Cells.{cell_eq-same, one_has, any-cell, any-from}
+use Rattle.definitions.proofs.Codes.{cell_from}
+use Rattle.definitions.proofs.Nearness.{further}
 use Rattle.definitions.proofs.Walks.{has-begun, has-stepped, walked_open}
 use Rattle.move_rules.specs.Windows.{lit, near, near_place, cell_at, shows, ShowsOpen, ShowsWalk}
-use Rattle.move_rules.proofs.OpenGround.{same_test}
 use Rattle.move_rules.proofs.WindowBits.{bit_lit}
-
--- a step leads one further at most
-further : (a b c : Cell) (k : ℕ) → distance a b ≤ k → distance b c ≤ 1 → distance a c ≤ k + 1
-further a b c k first last = omega arith
-
-has_one : (a c : Cell) → has_cell (a ∷ []) c ≡ true → c ≡ a
-has_one a c h = cell_eq-true c a (first (cell_eq c a) h)
-  where
-    first : (t : Bool) → (t || false) ≡ true → t ≡ true
-    first true h = refl
-    first false h = h
+use Rattle.plain_lemmas.proofs.Tests.{same_tests, near_at, near_from}
 
 -- a walk of k steps leads no further than k
 pub walked_within : (grid : Ground) (k : ℕ) (a c : Cell) → has_cell (walked grid k (a ∷ [])) c ≡ true → distance a c ≤ k
 unfolding walked
 walked_within grid zero a c h =
     let both = and_parts (is_open grid c) (has_cell (a ∷ []) c) (sym (has-begun grid (a ∷ []) c) ∙ h) in
-    let same : c ≡ a = has_one a c both.1 in
+    let same : c ≡ a = one_has a c both.1 in
     let x : c.x ≡ a.x = ap (λ (b : Cell). b.x) same in
     let y : c.y ≡ a.y = ap (λ (b : Cell). b.y) same in
     omega arith
@@ -48,32 +39,6 @@ walked_no_further grid k a c far =
     go true f = let le = f refl in absurd (omega arith)
     go false f = refl
 
-near_at : (p : ℕ → Bool) (n : ℕ) → near p n ≡ true → (m : ℕ) × (gap m n ≤ 1) × (p m ≡ true)
-near_at p n h =
-    elim (or_cases (p (n - 1)) (p n || p (n + 1)) h) [
-      | inl before ↦ (n - 1, omega arith, before)
-      | inr rest ↦
-          elim (or_cases (p n) (p (n + 1)) rest) [
-            | inl here ↦ (n, omega arith, here)
-            | inr after ↦ (n + 1, omega arith, after)
-          ]
-    ]
-
-near_from : (p : ℕ → Bool) (n m : ℕ) → gap m n ≤ 1 → p m ≡ true → near p n ≡ true
-near_from p n m close h =
-    elim (cases_order m n) [
-      | inl same ↦ or_right (p (n - 1)) (p n || p (n + 1)) (or_left (p n) (p (n + 1)) (ap p (sym same) ∙ h))
-      | inr apart ↦
-          elim apart [
-            | inl less ↦
-                let is : n - 1 ≡ m = omega arith in
-                or_left (p (n - 1)) (p n || p (n + 1)) (ap p is ∙ h)
-            | inr more ↦
-                let is : n + 1 ≡ m = omega arith in
-                or_right (p (n - 1)) (p n || p (n + 1)) (or_right (p n) (p (n + 1)) (ap p is ∙ h))
-          ]
-    ]
-
 -- a place of the window that shows a cell
 shown : (a : Cell) (s : ℕ) (p : Cell → Bool) (i r : ℕ) → shows a s p i r ≡ true → (s ≤ a.x + i) × (s ≤ a.y + r) × (p (cell_at a s i r) ≡ true)
 unfolding shows
@@ -86,12 +51,6 @@ shown_from : (a : Cell) (s : ℕ) (p : Cell → Bool) (i r : ℕ) → s ≤ a.x 
 unfolding shows
 shown_from a s p i r x y h = and_from _ _ (le-leb s (a.x + i) x) (and_from _ _ (le-leb s (a.y + r) y) h)
 
-same_cell : (b c : Cell) → b.x ≡ c.x → b.y ≡ c.y → b ≡ c
-same_cell b c x y =
-    let at_x : ℕ → Cell = λ n. record { x = n; y = b.y } in
-    let at_y : ℕ → Cell = λ n. record { x = c.x; y = n } in
-    ap at_x x ∙ ap at_y y
-
 -- a cell within the radius has a place in the window
 pub shows_cell : (a c : Cell) (s : ℕ) (p : Cell → Bool) → distance a c ≤ s → shows a s p (c.x + s - a.x) (c.y + s - a.y) ≡ p c
 unfolding shows
@@ -100,7 +59,7 @@ shows_cell a c s p close =
     let y : s ≤ a.y + (c.y + s - a.y) = omega arith in
     let column : a.x + (c.x + s - a.x) - s ≡ c.x = omega arith in
     let row : a.y + (c.y + s - a.y) - s ≡ c.y = omega arith in
-    let same : cell_at a s (c.x + s - a.x) (c.y + s - a.y) ≡ c = same_cell (cell_at a s (c.x + s - a.x) (c.y + s - a.y)) c column row in
+    let same : cell_at a s (c.x + s - a.x) (c.y + s - a.y) ≡ c = cell_from (cell_at a s (c.x + s - a.x) (c.y + s - a.y)) c column row in
     rw (le-leb s (a.x + (c.x + s - a.x)) x, le-leb s (a.y + (c.y + s - a.y)) y) (ap p same)
 
 -- a set place beside an open one: a step leads to the open one
@@ -110,11 +69,11 @@ unfolding walked
 step_to grid a s k i r opens h =
     let here = shown a s (is_open grid) i r opens in
     let column = near_at (λ n. near (λ m. shows a s (has_cell (walked grid k (a ∷ []))) n m) r) i h in
-    let row = near_at (λ m. shows a s (has_cell (walked grid k (a ∷ []))) column.0 m) r column.2 in
-    let there = shown a s (has_cell (walked grid k (a ∷ []))) column.0 row.0 row.2 in
+    let row = near_at (λ m. shows a s (has_cell (walked grid k (a ∷ []))) column.0 m) r column.3 in
+    let there = shown a s (has_cell (walked grid k (a ∷ []))) column.0 row.0 row.3 in
     let b : Cell = cell_at a s column.0 row.0 in
     let c : Cell = cell_at a s i r in
-    let close : distance b c ≤ 1 = omega (arith, column.1, row.1, here.0, here.1, there.0, there.1) in
+    let close : distance b c ≤ 1 = omega (arith, column.1, column.2, row.1, row.2, here.0, here.1, there.0, there.1) in
     let step : is_step grid b c ≡ true = and_from _ _ (and_from _ _ (walked_open grid k (a ∷ []) b there.2) here.2) (le-leb (distance b c) 1 close) in
     shown_from a s (has_cell (walked grid (suc k) (a ∷ []))) i r here.0 here.1
     (has-stepped grid (walked grid k (a ∷ [])) c ∙ any-from (λ e. is_step grid e c) (walked grid k (a ∷ [])) b there.2 step)
@@ -135,13 +94,15 @@ step_from grid a s k i r less h =
     let n : ℕ = b.x + s - a.x in
     let m : ℕ = b.y + s - a.y in
     let set : shows a s (has_cell (walked grid k (a ∷ []))) n m ≡ true = shows_cell a b s (has_cell (walked grid k (a ∷ []))) (omega arith) ∙ found.1 in
-    let beside_row : gap m r ≤ 1 = omega (arith, here.0, here.1) in
-    let beside_column : gap n i ≤ 1 = omega (arith, here.0, here.1) in
+    let row_below : r ≤ m + 1 = omega (arith, here.0, here.1) in
+    let row_above : m ≤ r + 1 = omega (arith, here.0, here.1) in
+    let column_left : i ≤ n + 1 = omega (arith, here.0, here.1) in
+    let column_right : n ≤ i + 1 = omega (arith, here.0, here.1) in
     let low : r < 2 * s + 1 = omega (arith, here.0, here.1) in
     let left : i < 2 * s + 1 = omega (arith, here.0, here.1) in (
       and_from _ _ (lt-ltb r (2 * s + 1) low) (and_from _ _ (lt-ltb i (2 * s + 1) left) (shown_from a s (is_open grid) i r here.0 here.1 ends.1)),
-      near_from (λ n. near (λ m. shows a s (has_cell (walked grid k (a ∷ []))) n m) r) i n beside_column
-          (near_from (λ m. shows a s (has_cell (walked grid k (a ∷ []))) n m) r m beside_row set),
+      near_from (λ n. near (λ m. shows a s (has_cell (walked grid k (a ∷ []))) n m) r) i n column_left column_right
+          (near_from (λ m. shows a s (has_cell (walked grid k (a ∷ []))) n m) r m row_below row_above set),
     )
 
 -- one step more of a walk that is shorter than the radius
@@ -151,7 +112,7 @@ shows_next grid a s k opens rows new less open_is rows_is new_is = subst (λ (n 
   bits = λ i r.
       new_is i r ∙ ap (λ (t : Bool). t && near_place (lit rows) i r) (open_is.bits i r)
       ∙ ap (λ (t : Bool). (nat_lt r (2 * s + 1) && (nat_lt i (2 * s + 1) && shows a s (is_open grid) i r)) && t) (near_same (lit rows) (shows a s (has_cell (walked grid k (a ∷ [])))) i r rows_is.bits)
-      ∙ same_test _ _
+      ∙ same_tests _ _
       (λ t.
       let both = and_parts _ _ t in
       let inner = and_parts _ _ (and_parts _ _ both.0).1 in
@@ -175,7 +136,7 @@ shows_next grid a s k opens rows new less open_is rows_is new_is = subst (λ (n 
 -- no step at all: the middle alone
 pub shows_middle : (grid : Ground) (a : Cell) (s : ℕ) (rows : List ℕ) → is_open grid a ≡ true → ((i r : ℕ) → lit rows i r ≡ ((r == s) && (i == s))) → ShowsWalk grid a s 0 rows
 shows_middle grid a s rows opens is = record {
-  bits = λ i r. is i r ∙ same_test _ _ (to i r) (back i r);
+  bits = λ i r. is i r ∙ same_tests _ _ (to i r) (back i r);
 }
   where
     to : (i r : ℕ) → ((r == s) && (i == s)) ≡ true → shows a s (has_cell (walked grid 0 (a ∷ []))) i r ≡ true
@@ -184,7 +145,7 @@ shows_middle grid a s rows opens is = record {
         let row : r ≡ s = eqb-true r s both.0 in
         let column : i ≡ s = eqb-true i s both.1 in
         let c : Cell = cell_at a s i r in
-        let same : c ≡ a = same_cell c a (omega (arith, column)) (omega (arith, row)) in
+        let same : c ≡ a = cell_from c a (omega (arith, column)) (omega (arith, row)) in
         let has : has_cell (walked grid 0 (a ∷ [])) a ≡ true = has-begun grid (a ∷ []) a ∙ and_from _ _ opens (or_left (cell_eq a a) false (cell_eq-same a)) in
         shown_from a s (has_cell (walked grid 0 (a ∷ []))) i r (omega (arith, column)) (omega (arith, row)) (ap (has_cell (walked grid 0 (a ∷ []))) same ∙ has)
 

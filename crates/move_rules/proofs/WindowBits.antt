@@ -9,55 +9,30 @@ use Rattle.std.proofs.lemmas.List.{get_or-set_same, get_or-set_other, get_or_pas
 use Rattle.std.proofs.lemmas.Nat.{shr-shr, shr_split}
 use Rattle.std.proofs.lemmas.Nat.Bits.{shr_and_one, bit_at_and, bit_at_or, bit_at-lt, bit_at_cat_low, bit_at_cat_high, bit_at-zero, bit_at_above, bit_at_set_same, bit_at_set_other}
 use Rattle.move_rules.specs.Windows.{is_set, lit, near, near_place}
+use Rattle.plain_lemmas.proofs.Bits.{bit_at-low, bit_at-shl_high, bit_at-shl_low, one_above, one_in-and, one_in-or, one_in-zero}
 
 is_set-or : (a b i : ℕ) → is_set (bit_or a b) i ≡ (is_set a i || is_set b i)
 unfolding is_set
-is_set-or a b i =
-    let e = bit_at_or a b i in
-    let p = bit_at-lt a i in
-    let q = bit_at-lt b i in
-    grind (arith, nat_tests)
+is_set-or = one_in-or
 
 is_set-and : (a b i : ℕ) → is_set (bit_and a b) i ≡ (is_set a i && is_set b i)
 unfolding is_set
-is_set-and a b i =
-    let e = bit_at_and a b i in
-    let p = bit_at-lt a i in
-    let q = bit_at-lt b i in
-    grind (arith, nat_tests)
+is_set-and = one_in-and
 
 is_set-zero : (i : ℕ) → is_set 0 i ≡ false
 unfolding is_set
-is_set-zero i = let e = bit_at-zero i in grind (arith, nat_tests)
+is_set-zero = one_in-zero
 
 -- nothing stands above bit 31
 is_set-above : (word i : ℕ) → word < 4294967296 → 32 ≤ i → is_set word i ≡ false
 unfolding is_set
-is_set-above word i small high = ap (λ (b : ℕ). b == 1) (bit_at_above word 32 i small high)
-
--- the low 32 bits are those of the number
-bit_at-low : (n i : ℕ) → i < 32 → bit_at (n % 2 ^ 32) i ≡ bit_at n i
-bit_at-low n i low =
-    sym (bit_at_cat_low (n / 2 ^ 32) 32 (n % 2 ^ 32) i low) ∙ ap (λ (m : ℕ). bit_at m i) (shr_split n 32)
-
-bit_at-shl_low : (n k i : ℕ) → i < k → bit_at (n * 2 ^ k) i ≡ 0
-bit_at-shl_low n k i low =
-    let e = bit_at_cat_low n k 0 i low in
-    let z = bit_at-zero i in
-    let same : n * 2 ^ k + 0 ≡ n * 2 ^ k = omega arith in
-    ap (λ (m : ℕ). bit_at m i) (sym same) ∙ e ∙ z
-
-bit_at-shl_high : (n k i : ℕ) → k ≤ i → 0 < 2 ^ k → bit_at (n * 2 ^ k) i ≡ bit_at n (i - k)
-bit_at-shl_high n k i high some =
-    let e = bit_at_cat_high n k 0 i some high in
-    let same : n * 2 ^ k + 0 ≡ n * 2 ^ k = omega arith in
-    ap (λ (m : ℕ). bit_at m i) (sym same) ∙ e
+is_set-above = one_above 32
 
 -- a word moved up by one
 up_by_one : (word i : ℕ) → i < 32 → is_set (word * 2 % 4294967296) i ≡ (if i == 0 then false else is_set word (i - 1))
 unfolding is_set
 up_by_one word i low =
-    let e : bit_at (word * 2 % 4294967296) i ≡ bit_at (word * 2 ^ 1) i = bit_at-low (word * 2 ^ 1) i low in
+    let e : bit_at (word * 2 % 4294967296) i ≡ bit_at (word * 2 ^ 1) i = bit_at-low 32 (word * 2 ^ 1) i low in
     let first : i < 1 → bit_at (word * 2 ^ 1) i ≡ 0 = bit_at-shl_low word 1 i in
     let later : 1 ≤ i → bit_at (word * 2 ^ 1) i ≡ bit_at word (i - 1) = λ h. bit_at-shl_high word 1 i h (omega arith) in
     grind (arith, nat_tests)
