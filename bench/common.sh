@@ -27,10 +27,20 @@ build_plain() {
     rustc --edition 2021 -O -o "$plain" "$here/$1/plain.rs"
 }
 
-# the processor seconds of a command
-seconds() {
+# best RUNS COMMAND -- COMMAND ..: the least processor seconds of each command over so many runs of all in turn
+best() {
     python3 -c 'import resource, subprocess, sys
-subprocess.run(sys.argv[1:], check=True, stdout=subprocess.DEVNULL)
-used = resource.getrusage(resource.RUSAGE_CHILDREN)
-print(used.ru_utime + used.ru_stime)' "$@"
+def used():
+    all = resource.getrusage(resource.RUSAGE_CHILDREN)
+    return all.ru_utime + all.ru_stime
+commands = [[]]
+for word in sys.argv[2:]:
+    commands.append([]) if word == "--" else commands[-1].append(word)
+least = [float("inf")] * len(commands)
+for _ in range(int(sys.argv[1])):
+    for i, command in enumerate(commands):
+        before = used()
+        subprocess.run(command, check=True, stdout=subprocess.DEVNULL)
+        least[i] = min(least[i], used() - before)
+print(*least)' "$@"
 }

@@ -1,5 +1,5 @@
-// The same work in plain Rust, for `rustc -O`: a stream of frames, split by the same rules in pieces, and a sum over the frames.
-// A frame is read whole, as the proved reader does, though the sum needs only some of its fields.
+// The same design in plain Rust, for `rustc -O`: a stream of frames, split by the same rules in pieces, each of which is written to a
+// place that is given, and a sum over all bytes of the frames.
 #![allow(dead_code)]
 
 const FRAMES: u32 = 400_000;
@@ -31,9 +31,10 @@ enum What {
     Bad(u64),
 }
 
-enum Front {
+// what stands at the front of the bytes: a part of a frame, a whole one of this length, or a bad byte at a place
+enum End {
     Part,
-    Whole(Frame, usize),
+    Whole(usize),
     Bad(usize),
 }
 
@@ -63,24 +64,24 @@ fn has_payload(kind: u8, payload: u8) -> bool {
     }
 }
 
-fn front_of(bytes: &[u8]) -> Front {
+fn front_of(bytes: &[u8], out: &mut What) -> End {
     if !bytes.is_empty() && !(1..=4).contains(&bytes[0]) {
-        return Front::Bad(0);
+        return End::Bad(0);
     }
     if bytes.len() > 1 && bytes[1] != 0 {
-        return Front::Bad(1);
+        return End::Bad(1);
     }
     if bytes.len() > 2 && !has_payload(bytes[0], bytes[2]) {
-        return Front::Bad(2);
+        return End::Bad(2);
     }
     if bytes.len() > 12 && bytes[0] == 3 && bytes[12] != u8::from(bytes[2] == 46) {
-        return Front::Bad(12);
+        return End::Bad(12);
     }
     if bytes.len() < 3 || bytes.len() < usize::from(bytes[2]) + 3 {
-        return Front::Part;
+        return End::Part;
     }
     let count = usize::from(bytes[2]) + 3;
-    let frame = match bytes[0] {
+    *out = What::Whole(match bytes[0] {
         1 => Frame::Hello { id: array_at(bytes, 3), player: bytes[35], pass: array_at(bytes, 36), next: word_at(bytes, 52) },
         2 => Frame::Commit { player: bytes[3], turn: word_at(bytes, 4), digest: array_at(bytes, 8) },
         3 => {
@@ -93,8 +94,8 @@ fn front_of(bytes: &[u8]) -> Front {
             }
         }
         _ => Frame::Want { place: word_at(bytes, 3) },
-    };
-    Front::Whole(frame, count)
+    });
+    End::Whole(count)
 }
 
 struct Reader {
@@ -110,34 +111,35 @@ impl Reader {
             return (0, What::Bad(self.place));
         }
         let before = self.len;
-        let front = if before == 0 {
-            front_of(bytes)
+        let mut what = What::More;
+        let end = if before == 0 {
+            front_of(bytes, &mut what)
         } else {
             let count = bytes.len().min(64 - before);
             self.held[before..before + count].copy_from_slice(&bytes[..count]);
-            front_of(&self.held[..before + count])
+            front_of(&self.held[..before + count], &mut what)
         };
-        match front {
-            Front::Part => {
+        let used = match end {
+            End::Part => {
                 if before == 0 {
                     self.held[..bytes.len()].copy_from_slice(bytes);
                 }
                 self.len = before + bytes.len();
-                self.place += bytes.len() as u64;
-                (bytes.len(), What::More)
+                bytes.len()
             }
-            Front::Whole(frame, end) => {
+            End::Whole(end) => {
                 self.len = 0;
-                self.place += (end - before) as u64;
-                (end - before, What::Whole(frame))
+                end - before
             }
-            Front::Bad(at) => {
+            End::Bad(at) => {
                 self.len = 0;
                 self.bad = true;
-                self.place += (at - before) as u64;
-                (at - before, What::Bad(self.place))
+                what = What::Bad(self.place + (at - before) as u64);
+                at - before
             }
-        }
+        };
+        self.place += used as u64;
+        (used, what)
     }
 }
 
@@ -164,10 +166,27 @@ fn add_frame(out: &mut Vec<u8>, i: u32) {
     out.extend_from_slice(&[(i % 251) as u8; 32]);
 }
 
+fn bytes_weight(bytes: &[u8; 32]) -> u64 {
+    let mut sum = 0u8;
+    for byte in bytes {
+        sum = sum.wrapping_add(*byte);
+    }
+    u64::from(sum)
+}
+
+fn cell_weight(cell: Cell) -> u64 {
+    u64::from(cell.x) + u64::from(cell.y)
+}
+
+// a sum over all that the frame says; not inlined, so that the whole frame has to be made
+#[inline(never)]
 fn weight(frame: &Frame) -> u64 {
     match frame {
-        Frame::Commit { turn, digest, .. } => u64::from(*turn) + u64::from(digest[0]),
-        Frame::Reveal { turn, nonce, .. } => u64::from(*turn) + u64::from(nonce[0]),
+        Frame::Commit { player, turn, digest } => u64::from(*player) + u64::from(*turn) + bytes_weight(digest),
+        Frame::Reveal { player, turn, mv, nonce } => {
+            let strike = mv.strike.map_or(0, |cell| 1 + cell_weight(cell));
+            u64::from(*player) + u64::from(*turn) + cell_weight(mv.to) + strike + bytes_weight(nonce)
+        }
         _ => 0,
     }
 }

@@ -1,6 +1,6 @@
 -- Fitting: a frame that is read fits its fields.
-use Rattle.std.proofs.Common.{◌≡◌, ◌⊎◌, inl, inr, ℕ, ◌+◌, ◌-◌, ◌<◌, ◌^◌, Bool, true, false, List, length, take, drop, refl, ap, arith, subst, ◌∙◌}
-use Rattle.std.specs.Prelude.{Option, Some, None, slice_index, slice_range, ◌==◌, ◌&&◌, if◌then◌else◌}
+use Rattle.std.proofs.Common.{◌≡◌, inl, inr, ℕ, ◌+◌, ◌-◌, ◌<◌, ◌^◌, true, List, length, take, drop, refl, ap, arith, subst, ◌∙◌}
+use Rattle.std.specs.Prelude.{Some, slice_index, slice_range, ◌==◌, ◌&&◌}
 use Rattle.std.proofs.lemmas.Bool.{eqb-true, and_parts}
 use Rattle.std.proofs.lemmas.List.{length-take-le, length-drop}
 use Rattle.definitions.specs.declared.frames.TurnFrame.{TurnFrame}

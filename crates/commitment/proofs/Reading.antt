@@ -1,6 +1,6 @@
 -- What is spelled is read, and what is read was spelled so.
-use Rattle.std.proofs.Common.{◌≡◌, ◌≤◌, ◌⊎◌, inl, inr, add-zero, add-one, ℕ, zero, suc, ◌+◌, ◌<◌, ◌^◌, List, [], ◌∷◌, ◌++◌, length, take, drop, refl, sym, ◌∙◌, ap, arith, get_or, Fits, w8, true, false}
-use Rattle.std.specs.Prelude.{if◌then◌else◌, IfSome, IfNone, Option, Some, None, slice_range, slice_index, ◌==◌, ◌&&◌, Bool}
+use Rattle.std.proofs.Common.{◌≡◌, ◌≤◌, inl, inr, add-zero, add-one, ℕ, zero, suc, ◌+◌, ◌<◌, ◌^◌, List, [], ◌∷◌, ◌++◌, length, take, drop, refl, sym, ◌∙◌, ap, arith, get_or, Fits, w8, true, false}
+use Rattle.std.specs.Prelude.{IfSome, IfNone, Option, Some, None, slice_range, slice_index, ◌==◌, ◌&&◌}
 use Rattle.std.specs.Int.{w16, w32, to_be_bytes, from_be_bytes}
 use Rattle.std.proofs.lemmas.List.{take_all, length-drop}
 use Rattle.std.proofs.Math.Seq.{drop-cons}

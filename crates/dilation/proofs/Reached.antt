@@ -6,9 +6,8 @@ use Rattle.definitions.specs.World.{Ground, Game, no_seat, players_of, is_open}
 use Rattle.definitions.specs.Walk.{walked, reach_of}
 use Rattle.grid_world.specs.Sessions.{IsSession}
 use Rattle.grid_world.proofs.Facts.{seat_speed}
-use Rattle.cell_set.specs.Regions.{Region, IsSizeOf}
+use Rattle.cell_set.specs.Regions.{Region, IsSizeOf, with_cells}
 use Rattle.dilation.specs.Dilated.{Dilated, cell_of, starts_of, IsDilated}
-use Rattle.dilation.proofs.Still.{with_cells}
 use Rattle.dilation.proofs.Seats.{item_read, starts_length, starts_open}
 
 -- the walk of so many steps goes as far as the player in so many turns

@@ -7,7 +7,7 @@ use Rattle.definitions.specs.World.{Ground, cell_eq, has_cell, is_inside, is_wal
 use Rattle.definitions.specs.Walk.{stepped, walked}
 use Rattle.definitions.proofs.Cells.{cell_eq-true}
 use Rattle.definitions.proofs.Walks.{walked_open}
-use Rattle.cell_set.specs.Regions.{Region, IsSizeOf, AreOpen}
+use Rattle.cell_set.specs.Regions.{Region, IsSizeOf, AreOpen, with_cells}
 use Rattle.cell_set.proofs.CellLists.{filter_cells, one_cell}
 
 -- no step at all leads from an open cell to itself alone
@@ -37,10 +37,6 @@ walked_still grid k zero cells still = let e : 0 + k ≡ k = omega arith in ap (
 walked_still grid k (suc n) cells still =
     let e : suc n + k ≡ suc (n + k) = omega arith in
     ap (λ m. walked grid m cells) e ∙ ap (stepped grid) (walked_still grid k n cells still) ∙ still
-
--- a set of the same grid with these cells
-abbrev pub with_cells : Region → List Cell → Region
-with_cells r cells = record { width = r.width; height = r.height; cells = cells }
 
 -- a set that is a walk of k steps
 abbrev pub IsWalk : Ground → Region → Cell → ℕ → Region → Type 0

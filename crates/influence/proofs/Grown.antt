@@ -1,5 +1,5 @@
 -- Growth step by step: as many steps from a set lead where walks of that length do.
-use Rattle.std.proofs.Common.{◌≡◌, ℕ, zero, suc, ◌+◌, ◌*◌, ◌<◌, ◌≤◌, Bool, true, List, refl, sym, ap, ◌∙◌, arith}
+use Rattle.std.proofs.Common.{◌≡◌, ℕ, zero, suc, ◌+◌, ◌*◌, ◌<◌, ◌≤◌, true, List, refl, sym, ap, ◌∙◌, arith}
 use Rattle.std.specs.Prelude.{filter, ◌&&◌, nat_le}
 use Rattle.std.specs.List.{list_any}
 use Rattle.std.proofs.lemmas.Bool.{and_parts, and_from}
@@ -12,7 +12,7 @@ use Rattle.definitions.proofs.Walks.{has-begun, walked_open}
 use Rattle.grid_world.specs.Sessions.{IsSession}
 use Rattle.grid_world.proofs.Facts.{seat_speed, seat_reach}
 use Rattle.cell_set.proofs.CellLists.{filter_cells}
-use Rattle.cell_set.specs.Regions.{Region, IsSizeOf, AreOpen, ground_of}
+use Rattle.cell_set.specs.Regions.{Region, IsSizeOf, AreOpen, ground_of, with_cells}
 use Rattle.plain_lemmas.proofs.Tests.{same_tests}
 
 -- the cells after so many growths by a step
@@ -63,10 +63,6 @@ pub grown_open : (grid : Ground) (k : ℕ) (cells : List Cell) → AreOpen grid 
 unfolding grown
 grown_open grid zero cells open_cells = open_cells
 grown_open grid (suc k) cells open_cells = λ c has. walked_open grid (suc k) cells c (ap (λ cs. has_cell cs c) (sym (grown_walked grid k cells)) ∙ has)
-
--- a set of the same grid with these cells
-abbrev pub with_cells : Region → List Cell → Region
-with_cells r cells = record { width = r.width; height = r.height; cells = cells }
 
 pub size_kept : (grid grid' : Ground) (r out : Region) (cells : List Cell) → IsSizeOf grid r → grid' ≡ grid → out ≡ with_cells r cells → IsSizeOf grid' out
 size_kept grid grid' r out cells size same is = record {

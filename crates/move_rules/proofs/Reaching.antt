@@ -1,9 +1,9 @@
 -- Walks in a window: a walk of few steps stays near its start, and a step sets the bits of the open places beside those set.
-use Rattle.std.proofs.Common.{◌≡◌, ℕ, zero, suc, ◌+◌, ◌-◌, ◌*◌, ◌/◌, ◌^◌, ◌<◌, ◌≤◌, slice_index, bit_and, Bool, true, false, List, [], ◌∷◌, refl, sym, ap, subst, add-one, ◌∙◌, arith, inl, inr}
-use Rattle.std.specs.Prelude.{◌&&◌, ◌||◌, ◌==◌, nat_lt, nat_le}
-use Rattle.std.proofs.lemmas.Bool.{and_parts, and_from, or_cases, or_left, or_right, lt-ltb, leb-true, le-leb, eqb-true, eq-eqb, cases_order}
+use Rattle.std.proofs.Common.{◌≡◌, ℕ, zero, suc, ◌+◌, ◌-◌, ◌*◌, ◌/◌, ◌^◌, ◌<◌, ◌≤◌, slice_index, bit_and, Bool, true, false, List, [], ◌∷◌, refl, sym, ap, subst, add-one, ◌∙◌, arith}
+use Rattle.std.specs.Prelude.{◌&&◌, ◌==◌, nat_lt, nat_le}
+use Rattle.std.proofs.lemmas.Bool.{and_parts, and_from, or_left, lt-ltb, leb-true, le-leb, eqb-true, eq-eqb}
 use Rattle.definitions.specs.declared.world.Cell.{Cell}
-use Rattle.definitions.specs.World.{Ground, cell_eq, has_cell, gap, distance, is_open}
+use Rattle.definitions.specs.World.{Ground, cell_eq, has_cell, distance, is_open}
 use Rattle.definitions.specs.Walk.{is_step, walked}
 use Rattle.definitions.proofs.Cells.{cell_eq-same, one_has, any-cell, any-from}
 use Rattle.definitions.proofs.Codes.{cell_from}

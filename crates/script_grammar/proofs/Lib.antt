@@ -1,4 +1,1 @@
-pub mod Digits
-pub mod Frames
-pub mod Fields
 pub mod Lines

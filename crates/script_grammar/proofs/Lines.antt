@@ -1,10 +1,9 @@
 -- Lines: a line is read as what it says, and says what it is read as.
-use Rattle.std.proofs.Common.{◌≡◌, ◌⊎◌, inl, inr, ℕ, ◌<◌, ◌≤◌, Bool, true, false, List, [], ◌∷◌, ◌++◌, length, take, drop, refl, sym, ◌∙◌, ap, arith, subst, append_assoc}
+use Rattle.std.proofs.Common.{◌≡◌, ◌⊎◌, inl, inr, ℕ, ◌<◌, ◌≤◌, Bool, true, false, List, [], ◌∷◌, ◌++◌, length, refl, sym, ◌∙◌, ap, arith, subst, append_assoc}
 use Rattle.std.specs.Prelude.{Option, Some, None, ◌==◌, if◌then◌else◌, bytes_eq, codes}
 use Rattle.std.specs.Fmt.{decimal}
 use Rattle.std.specs.List.{list_all}
 use Rattle.std.proofs.lemmas.Bool.{and_left, and_right, eqb-true}
-use Rattle.std.proofs.lemmas.List.{take-append-drop}
 use Rattle.std.proofs.lemmas.List.Folds.{list_all-append}
 use Rattle.std.proofs.lemmas.Slice.Eq.{bytes_eq-Decides}
 use Rattle.hex.specs.Hex.{IsBytes, encode_lower}
@@ -16,12 +15,18 @@ use Rattle.definitions.specs.Openings.{FitsCell, FitsStrike}
 use Rattle.commitment.specs.Spelling.{frame_bytes, FitsFrame}
 use Rattle.script_grammar.specs.declared.grammar.DriveLine.{DriveLine}
 use Rattle.script_grammar.specs.declared.grammar.DriveLine.TheVariants.{Nothing, Choose, Got, Bytes, Log, Bad}
-use Rattle.script_grammar.specs.Numbers.{number_then}
-use Rattle.script_grammar.specs.Hexes.{is_lower_digit, nonce_of, frame_of, bytes_of}
-use Rattle.script_grammar.specs.Grammar.{◌>>=◌, cell_then, step_of, strike_of, got_of, piece_of, behind, or_else, or_bad, choose_of, frame_from, bytes_from, coming_of, word_line, line_of}
-use Rattle.script_grammar.specs.Spelling.{number_text, cell_text, strike_text, choose_text, got_text, bytes_text, FitsNonce, IsPassedOver, Says}
-use Rattle.script_grammar.proofs.Frames.{nonce_read, frame_read, bytes_read, nonce_spelled, frame_spelled, bytes_spelled, when_some, some_same}
-use Rattle.script_grammar.proofs.Fields.{number_read, cell_read, number_spelled, cell_spelled, bind_some}
+use Rattle.byte_fields.specs.Fronts.{◌>>=◌, behind}
+use Rattle.byte_fields.proofs.Reading.{bind_some}
+use Rattle.text_fields.specs.Numbers.{number_then}
+use Rattle.text_fields.specs.Cells.{cell_then}
+use Rattle.text_fields.specs.Hexes.{is_lower_digit, nonce_of, frame_of, bytes_of}
+use Rattle.text_fields.specs.Spelling.{number_text, cell_text, FitsNonce}
+use Rattle.text_fields.proofs.HexFields.{nonce_read, frame_read, bytes_read, nonce_spelled, frame_spelled, bytes_spelled}
+use Rattle.text_fields.proofs.Fields.{number_read, cell_read, number_spelled, cell_spelled}
+use Rattle.script_grammar.specs.Grammar.{step_of, strike_of, got_of, piece_of, or_else, or_bad, choose_of, frame_from, bytes_from, coming_of, word_line, line_of}
+use Rattle.script_grammar.specs.Spelling.{strike_text, choose_text, got_text, bytes_text, IsPassedOver, Says}
+use Rattle.std.proofs.lemmas.Option.{same_Some}
+use Rattle.plain_lemmas.proofs.Lists.{front_stands}
 
 -- ---- a line is read as what it says
 
@@ -83,19 +88,11 @@ abbrev SaysWhatIsRead : List ℕ → Option DriveLine → Type 0
 SaysWhatIsRead line o = (said : DriveLine) → o ≡ Some said → Says line said
 
 some_says : (line : List ℕ) (said : DriveLine) → Says line said → SaysWhatIsRead line (Some said)
-some_says line said says other h = subst (λ (d : DriveLine). Says line d) (some_same said other h) says
+some_says line said says other h = subst (λ (d : DriveLine). Says line d) (same_Some said other h) says
 
 or_says : (line : List ℕ) (a b : Option DriveLine) → SaysWhatIsRead line a → SaysWhatIsRead line b → SaysWhatIsRead line (or_else a b)
 or_says line None b f g = g
 or_says line (Some x) b f g = f
-
--- the front stands there, and the text behind it
-behind_stands : (front line text : List ℕ) → behind front line ≡ Some text → line ≡ front ++ text
-behind_stands front line text h =
-    let kept = when_some (bytes_eq (take (length front) line) front) _ text h in
-    let is = (bytes_eq-Decides (take (length front) line) front).0 kept.0 in
-    sym (take-append-drop (length front) line) ∙ ap (λ xs. xs ++ drop (length front) line) is ∙
-    ap (λ xs. front ++ xs) (some_same _ _ kept.1)
 
 step_says : (text : List ℕ) → SaysWhatIsRead (codes "choose " ++ text) (step_of text)
 unfolding step_of choose_text
@@ -147,7 +144,7 @@ front_says : (front line : List ℕ) (read : List ℕ → Option DriveLine) → 
     SaysWhatIsRead line (behind front line >>= read)
 front_says front line read each said h =
     let a = bind_some (behind front line) read said h in
-    subst (λ (l : List ℕ). Says l said) (sym (behind_stands front line a.0 a.1)) (each a.0 said a.2)
+    subst (λ (l : List ℕ). Says l said) (sym (front_stands front line a.0 a.1)) (each a.0 said a.2)
 
 coming_says : (line : List ℕ) → SaysWhatIsRead line (coming_of line)
 unfolding coming_of frame_from bytes_from

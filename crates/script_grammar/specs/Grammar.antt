@@ -1,23 +1,11 @@
 -- Grammar: what a line of a script says.
-use Rattle.std.specs.Prelude.{ℕ, ◌≤◌, Bool, true, false, List, [], ◌∷◌, length, take, drop, Option, Some, None, bytes_eq, ◌==◌, codes, if◌then◌else◌}
-use Rattle.definitions.specs.declared.world.Cell.{Cell}
-use Rattle.script_grammar.specs.Numbers.{number_then}
-use Rattle.script_grammar.specs.Hexes.{nonce_of, frame_of, bytes_of}
+use Rattle.std.specs.Prelude.{ℕ, ◌≤◌, Bool, true, false, List, [], ◌∷◌, length, Option, Some, None, bytes_eq, ◌==◌, codes, if◌then◌else◌}
+use Rattle.byte_fields.specs.Fronts.{◌>>=◌, behind}
+use Rattle.text_fields.specs.Numbers.{number_then}
+use Rattle.text_fields.specs.Cells.{cell_then}
+use Rattle.text_fields.specs.Hexes.{nonce_of, frame_of, bytes_of}
 use Rattle.script_grammar.specs.declared.grammar.DriveLine.{DriveLine}
 use Rattle.script_grammar.specs.declared.grammar.DriveLine.TheVariants.{Nothing, Choose, Got, Bytes, Log, Bad}
-
-infixl 10 ◌>>=◌
--- what the function gives of the value that is there
-abbrev pub ◌>>=◌ : {A B : Type 0} → Option A → (A → Option B) → Option B
-None >>= f = None
-(Some x) >>= f = f x
-
--- `X Y ` and what stands behind it
-unfoldable pub cell_then : List ℕ → Option (Cell × List ℕ)
-cell_then text = do
-  x ← number_then 65535 text
-  y ← number_then 65535 x.1
-  Some (record { x = x.0; y = y.0 }, y.1)
 
 -- `X Y NONCE`
 unfoldable pub step_of : List ℕ → Option DriveLine
@@ -47,10 +35,6 @@ piece_of text = do
   from ← number_then 15 text
   bytes ← bytes_of from.1
   Some (Bytes from.0 bytes)
-
--- what stands behind this front
-abbrev pub behind : List ℕ → List ℕ → Option (List ℕ)
-behind front text = if bytes_eq (take (length front) text) front then Some (drop (length front) text) else None
 
 -- the first of two readings that there is
 abbrev pub or_else : Option DriveLine → Option DriveLine → Option DriveLine

@@ -1,5 +1,4 @@
-pub mod Numbers
-pub mod Hexes
+pub use Rattle.text_fields.specs.Numbers as Numbers
 pub mod Grammar
 pub mod Spelling
 pub mod Laws

@@ -1,6 +1,5 @@
 -- Spelling: the text of each line of a script, from the parts that the line says.
 use Rattle.std.specs.Prelude.{ℕ, ◌≡◌, ◌≤◌, ◌<◌, ◌⊎◌, List, [], ◌++◌, Option, Some, None, length, codes}
-use Rattle.std.specs.Fmt.{decimal}
 use Rattle.hex.specs.Hex.{IsBytes, encode_lower}
 use Rattle.definitions.specs.declared.world.Cell.{Cell}
 use Rattle.definitions.specs.declared.world.Move.{Move}
@@ -8,16 +7,9 @@ use Rattle.definitions.specs.declared.openings.Nonce.{Nonce}
 use Rattle.definitions.specs.declared.frames.TurnFrame.{TurnFrame}
 use Rattle.definitions.specs.Openings.{FitsCell, FitsStrike}
 use Rattle.commitment.specs.Spelling.{frame_bytes, FitsFrame}
+use Rattle.text_fields.specs.Spelling.{number_text, cell_text, FitsNonce}
 use Rattle.script_grammar.specs.declared.grammar.DriveLine.{DriveLine}
 use Rattle.script_grammar.specs.declared.grammar.DriveLine.TheVariants.{Nothing, Choose, Got, Bytes, Log, Bad}
-
--- a number in its one form, and a space
-abbrev pub number_text : ℕ → List ℕ
-number_text n = decimal n ++ codes " "
-
--- `X Y `
-abbrev pub cell_text : Cell → List ℕ
-cell_text c = number_text c.x ++ number_text c.y
 
 -- `SX SY `, or nothing where the move does not strike
 abbrev pub strike_text : Option Cell → List ℕ
@@ -35,10 +27,6 @@ got_text q frame = codes "got " ++ (number_text q ++ encode_lower (frame_bytes f
 -- `bytes Q HEX`
 unfoldable pub bytes_text : ℕ → List ℕ → List ℕ
 bytes_text q bytes = codes "bytes " ++ (number_text q ++ encode_lower bytes)
-
--- 32 bytes
-abbrev pub FitsNonce : Nonce → Type 0
-FitsNonce nonce = (length nonce.bytes ≡ 32) × IsBytes nonce.bytes
 
 -- the line is empty, or begins with `#`
 abbrev pub IsPassedOver : List ℕ → Type 0

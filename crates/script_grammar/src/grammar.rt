@@ -1,12 +1,10 @@
 //! What a line of a script says.
 
-ghost use Rattle.std.specs.Prelude.{◌≡◌, ◌≤◌, length, option_map, IfSome};
+ghost use Rattle.std.specs.Prelude.{◌≡◌, ◌≤◌, length, IfSome};
 ghost use Rattle.script_grammar.specs.Grammar as G;
 
-use crate::hexes::{read_frame, read_nonce, read_piece};
-use crate::numbers::number_then;
-use crate::pieces::Piece;
-use definitions::{Cell, Move, Nonce, PlayerId, TurnFrame};
+use definitions::{Move, Nonce, PlayerId, TurnFrame};
+use text_fields::{Piece, cell_then, number_then, read_frame, read_nonce, read_piece};
 
 /// What a line of a script says.
 #[derive(Drop)]
@@ -23,20 +21,6 @@ pub enum DriveLine {
     Log,
     /// It is not in the grammar.
     Bad,
-}
-
-/// The two numbers of a cell, each before a space, and what stands behind them.
-#[tactic(auto, unfolding(crate::specs::Grammar::cell_then))]
-fn cell_then(text: &[u8]) -> Option<(Cell, &[u8])>
-    ensures { option_map (λ c. (c.0, c.1.now)) result ≡ G.cell_then text.now }
-{
-    let (x, rest) = number_then(65535, text)?;
-    let (y, rest) = number_then(65535, rest)?;
-    let cell = Cell {
-        x: x as u16,
-        y: y as u16,
-    };
-    Some((cell, rest))
 }
 
 /// A choice of a move that does not strike.

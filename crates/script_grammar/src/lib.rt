@@ -1,18 +1,13 @@
 //! What a line of a script says: a choice, a frame or bytes that come from a player, or that the log is to be printed.
 //!
-//! This crate promises that a line is read exactly as the definitions in `specs/Grammar.antt` have it: numbers in their one
-//! form, fields parted by one space, and hexadecimal text in lower-case digits; any other line is answered as one of no
-//! grammar. The laws of `laws` are that each line which is spelled from parts within their limits, as
+//! This crate promises that a line is read exactly as the definitions in `specs/Grammar.antt` have it, over the fields of
+//! `text_fields`; any other line is answered as one of no grammar. The laws of `laws` are that each line which is spelled from parts within their limits, as
 //! `specs/Spelling.antt` has it, is read as these parts, and that a line is read as nothing but what it spells. It takes no
 //! memory and touches nothing outside.
 #![tactic(auto)]
 
 pub mod grammar;
-mod hexes;
 pub mod laws;
-mod numbers;
-pub mod pieces;
 
 pub use grammar::{DriveLine, read_line};
-pub use numbers::read_number;
-pub use pieces::Piece;
+pub use text_fields::{Piece, read_number};

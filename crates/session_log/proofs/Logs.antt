@@ -2,7 +2,7 @@
 use Rattle.std.proofs.Common.{◌≡◌, ◌≤◌, ◌⊎◌, inl, inr, ℕ, zero, suc, ◌+◌, ◌<◌, Bool, true, false, cond, List, [], ◌∷◌, ◌++◌, length, drop, refl, sym, ◌∙◌, ap, arith, subst, length-append, append_assoc, add-zero}
 use Rattle.std.specs.Prelude.{Option, Some, None, nat_lt, nat_le}
 use Rattle.std.proofs.lemmas.Bool.{lt-ltb, ltb-true, ltb-false, cases_lt, le-leb, lt-leb}
-use Rattle.std.proofs.lemmas.List.{take-append-drop, drop-drop, drop_at, drop_all, length-drop, length-take-le, get_or-drop}
+use Rattle.std.proofs.lemmas.List.{take-append-drop, drop-drop, drop_at, drop_all, length-drop, length-take-le}
 use Rattle.definitions.specs.declared.logs.Entry.{Entry}
 use Rattle.definitions.specs.Lists.{EachIs}
 use Rattle.definitions.specs.Entries.{AreWellFormed}

@@ -1,8 +1,9 @@
 use Rattle.std.proofs.Common.{◌≡◌, ◌∷◌, [], ap, ◌∙◌, arith}
 use Rattle.std.specs.Prelude.{not}
-use Rattle.dilation.proofs.Still.{with_cells, walk_begins, walk_open, walk_size, walk_more, walk_ends}
+use Rattle.dilation.proofs.Still.{walk_begins, walk_open, walk_size, walk_more, walk_ends}
 use Rattle.definitions.specs.Walk.{walked}
 use Rattle.dilation.proofs.growth.walk_from.Goals as goal
+use Rattle.cell_set.specs.Regions.{with_cells}
 
 pub loop-step-init : goal.loop-step-init
 loop-step-init c = walk_begins c.args.grid.now c.args.set.now c.set_one.new.self c.args.cell c.requires.open c.set_one.ensures

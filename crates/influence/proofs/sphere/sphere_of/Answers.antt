@@ -1,7 +1,8 @@
 use Rattle.std.proofs.Common.{◌∙◌, ◌+◌, ap, sym, arith}
 use Rattle.definitions.specs.World as world
-use Rattle.influence.proofs.Grown.{grown_none, with_cells, size_kept, open_kept, step_more, sphere_is}
+use Rattle.influence.proofs.Grown.{grown_none, size_kept, open_kept, step_more, sphere_is}
 use Rattle.influence.proofs.sphere.sphere_of.Goals as goal
+use Rattle.cell_set.specs.Regions.{with_cells}
 
 pub loop-step-init : goal.loop-step-init
 loop-step-init c = c.copy_from.ensures ∙ ap (with_cells c.args.from.now) (sym (grown_none c.args.session.now.grid c.args.from.now.cells))

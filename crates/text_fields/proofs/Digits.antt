@@ -7,7 +7,7 @@ use Rattle.std.proofs.lemmas.Bool.{agree_below_at, and_parts, and_from, eqb-true
 use Rattle.hex.specs.Hex.{IsBytes, lower_digits, hex_digit_value, digit_or_error, value_at, pair_value, decode_pairs, decode_of, decode_sized, encode_with, encode_lower, ◌>>=◌}
 use Rattle.hex.specs.declared.error.FromHexError.{FromHexError}
 use Rattle.hex.proofs.HexLemmas.{decode_of-even, decode_of-ok, decode_sized-ok, decode_sized-twice}
-use Rattle.script_grammar.specs.Hexes.{is_lower_digit}
+use Rattle.text_fields.specs.Hexes.{is_lower_digit}
 
 -- ---- bytes have lower-case digits
 

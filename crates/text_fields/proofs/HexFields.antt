@@ -1,6 +1,6 @@
--- Frames: nonces, frames and bytes are read from their digits, and digits that are read are theirs.
-use Rattle.std.proofs.Common.{◌≡◌, inl, inr, ℕ, ◌<◌, Bool, true, false, List, length, refl, sym, ◌∙◌, ap, arith, subst}
-use Rattle.std.specs.Prelude.{Option, Some, None, ◌==◌, ◌&&◌, not, if◌then◌else◌, option_and_then}
+-- Fields of hexadecimal digits: nonces, frames and bytes are read from their digits, and digits that are read are theirs.
+use Rattle.std.proofs.Common.{◌≡◌, inl, inr, ℕ, ◌<◌, false, List, length, refl, sym, ◌∙◌, ap, arith, subst}
+use Rattle.std.specs.Prelude.{Some, ◌==◌, ◌&&◌, not}
 use Rattle.std.specs.Result.{result_ok}
 use Rattle.std.specs.List.{list_all}
 use Rattle.std.proofs.lemmas.Bool.{eqb-false, ne_eqb, and_parts, not-true, cases_eq}
@@ -8,13 +8,13 @@ use Rattle.hex.specs.Hex.{IsBytes, lower_digits, decode_of, decode_sized, encode
 use Rattle.hex.proofs.HexLemmas.{length-encode_with, decode_of-encode_lower, decode_sized-encode_lower, decode_sized-ok}
 use Rattle.definitions.specs.declared.openings.Nonce.{Nonce}
 use Rattle.definitions.specs.declared.frames.TurnFrame.{TurnFrame}
-use Rattle.byte_fields.proofs.Placed.{map_some}
 use Rattle.commitment.specs.Spelling.{frame_bytes, FitsFrame, turn_frame_of}
 use Rattle.commitment.proofs.Fitting.{fits_read}
 use Rattle.commitment.proofs.Reading.{spelled_read, read_spelled}
-use Rattle.script_grammar.specs.Hexes.{is_lower_digit, nonce_of, frame_of, bytes_of}
-use Rattle.script_grammar.specs.Spelling.{FitsNonce}
-use Rattle.script_grammar.proofs.Digits.{digits_lower, digits_spelled, sized_read, ok_some}
+use Rattle.text_fields.specs.Hexes.{is_lower_digit, nonce_of, frame_of, bytes_of}
+use Rattle.text_fields.specs.Spelling.{FitsNonce}
+use Rattle.text_fields.proofs.Digits.{digits_lower, digits_spelled, sized_read, ok_some}
+use Rattle.plain_lemmas.proofs.Options.{map_some, then_some, when_some}
 
 -- ---- what is spelled is read
 
@@ -31,19 +31,6 @@ bytes_read bytes some b =
     rw (other, digits_lower bytes b, decode_of-encode_lower bytes b) refl
 
 -- ---- what is read was spelled so
-
--- a value that is there under a test
-pub when_some : {X : Type 0} (b : Bool) (o : Option X) (x : X) → (if b then o else None) ≡ Some x → (b ≡ true) × (o ≡ Some x)
-when_some true o x h = (refl, h)
-when_some false o x h = absurd cc
-
-pub some_same : {X : Type 0} (x y : X) → Some x ≡ Some y → x ≡ y
-some_same x y h = cc
-
-then_some : {A B : Type 0} (f : A → Option B) (o : Option A) (y : B) → option_and_then f o ≡ Some y →
-    (x : A) × (o ≡ Some x) × (f x ≡ Some y)
-then_some f None y h = absurd cc
-then_some f (Some x) y h = (x, refl, h)
 
 pub nonce_spelled : (text : List ℕ) (nonce : Nonce) → nonce_of text ≡ Some nonce → FitsNonce nonce × (text ≡ encode_lower nonce.bytes)
 nonce_spelled text nonce h =

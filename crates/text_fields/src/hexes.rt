@@ -2,7 +2,7 @@
 
 ghost use Rattle.std.specs.Prelude.{◌≡◌, ◌≤◌, length, IfSome};
 ghost use Rattle.std.specs.List.{list_all};
-ghost use Rattle.script_grammar.specs.Hexes as H;
+ghost use Rattle.text_fields.specs.Hexes as H;
 
 use crate::pieces::Piece;
 use commitment::whole_turn;
@@ -23,8 +23,8 @@ fn is_lower(text: &[u8]) -> bool
     text.iter().all(|byte| is_lower_digit(*byte))
 }
 
-/// The nonce that 64 digits spell.
-pub(crate) fn read_nonce(text: &[u8]) -> Option<Nonce>
+/// The nonce that 64 lower-case digits spell. None comes exactly where the text is no such digits.
+pub fn read_nonce(text: &[u8]) -> Option<Nonce>
     ensures { result ≡ H.nonce_of text.now }
 {
     if !is_lower(text) {
@@ -37,8 +37,9 @@ pub(crate) fn read_nonce(text: &[u8]) -> Option<Nonce>
     }
 }
 
-/// The commitment or reveal whose whole spelling the digits are.
-pub(crate) fn read_frame(text: &[u8]) -> Option<TurnFrame>
+/// The commitment or reveal whose whole spelling the lower-case digits are. None comes exactly where the text is no such
+/// digits.
+pub fn read_frame(text: &[u8]) -> Option<TurnFrame>
     requires { length text.now ≤ 1024 }
     ensures { result ≡ H.frame_of text.now }
 {
@@ -53,8 +54,8 @@ pub(crate) fn read_frame(text: &[u8]) -> Option<TurnFrame>
     }
 }
 
-/// The bytes that the digits spell, one at least.
-pub(crate) fn read_piece(text: &[u8]) -> Option<Piece>
+/// The bytes that the lower-case digits spell, one at least. None comes exactly where the text is no such digits.
+pub fn read_piece(text: &[u8]) -> Option<Piece>
     requires { length text.now ≤ 1024 }
     ensures value { result ≡ H.bytes_of text.now }
     ensures few { IfSome result (λ p. length p ≤ 512) }

@@ -1,0 +1,5 @@
+pub mod Numbers
+pub mod Cells
+pub mod Hexes
+pub mod Spelling
+pub mod Laws
