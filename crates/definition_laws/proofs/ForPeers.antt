@@ -19,7 +19,8 @@ use Rattle.definitions.specs.World.{Game, players_of}
 use Rattle.definitions.specs.declared.findings.Kind.{Kind}
 use Rattle.definitions.specs.declared.findings.Finding.{Finding}
 use Rattle.definitions.specs.Openings.{commitment}
-use Rattle.definitions.specs.Places.{Slot, commit_place, reveal_place, slot_at}
+use Rattle.definitions.specs.declared.places.Slot.{Slot}
+use Rattle.definitions.specs.Places.{commit_place, reveal_place, slot_at}
 use Rattle.definitions.specs.Logs.{chosen, chosen_in, got_of, made, player_of, turn_of}
 use Rattle.definitions.specs.Held.{Known, held, held_count, known, known_to, next_known, next_place, places_in, resolved, resolved_count}
 use Rattle.definitions.specs.Findings.{findings, findings_in, finding_at, is_clean, kinds}

@@ -16,7 +16,8 @@ use Rattle.definitions.specs.Lists.{EachIs}
 use Rattle.definitions.specs.World.{Game, players_of}
 use Rattle.definitions.specs.Moves.{is_legal, start_track, track_after}
 use Rattle.definitions.specs.Openings.{commitment}
-use Rattle.definitions.specs.Places.{Slot, slot_at}
+use Rattle.definitions.specs.declared.places.Slot.{Slot}
+use Rattle.definitions.specs.Places.{slot_at}
 use Rattle.definitions.specs.Logs.{chosen, digest_eq, frames_of, got_of, made}
 use Rattle.definitions.specs.Held.{commit_of, digest_of, held, known, next_place, opening_of, resolved, resolved_count}
 use Rattle.definitions.specs.Honest.{IsHonest, chosen_for, lets_commit, lets_reveal, made_count, others}

@@ -3,7 +3,8 @@ use Rattle.std.specs.Prelude.{Option, find, min, ◌==◌, ◌↔◌}
 use Rattle.std.proofs.Common.{None, Some, ap, arith, inl, inr, subst, sym, true, ℕ, ◌+◌, ◌-◌, ◌<◌, ◌∙◌, ◌≡◌, ◌≤◌, ◌⊎◌}
 use Rattle.std.proofs.lemmas.Bool.{cases_lt, eqb-true}
 use Rattle.std.specs.List.{range_with_len}
-use Rattle.definitions.specs.Places.{Slot, commit_place, reveal_place, slot_at, slot_or}
+use Rattle.definitions.specs.declared.places.Slot.{Slot}
+use Rattle.definitions.specs.Places.{commit_place, reveal_place, slot_at, slot_or}
 use Rattle.definitions.specs.declared.frames.What.TheVariants.{Commit, Reveal}
 use Rattle.definitions.specs.World.{Game}
 use Rattle.definitions.proofs.Streams.{commit_place-apart, commit_place-below, commit_place-fits, commit_place-once, find-range, reveal_place-below, reveal_place-fits, reveal_place-once}

@@ -13,7 +13,8 @@ use Rattle.definitions.specs.declared.answers.Progress.TheVariants as P
 use Rattle.definitions.specs.declared.findings.Finding.{Finding}
 use Rattle.definitions.specs.Lists.{is_empty}
 use Rattle.definitions.specs.World.{Game}
-use Rattle.definitions.specs.Places.{Slot, commit_place, reveal_place, slot_at}
+use Rattle.definitions.specs.declared.places.Slot.{Slot}
+use Rattle.definitions.specs.Places.{commit_place, reveal_place, slot_at}
 use Rattle.definitions.specs.Held.{known}
 use Rattle.definitions.specs.Logs.{chosen}
 use Rattle.definitions.specs.Findings.{findings, is_clean}

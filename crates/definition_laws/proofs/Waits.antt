@@ -4,7 +4,8 @@ use Rattle.std.proofs.Common.{le_refl, Bool, List, None, Some, ap, arith, length
 use Rattle.std.proofs.lemmas.Bool.{and_from, and_parts, eq-eqb, eqb-true, false≢true, lt-ltb, ltb-true}
 use Rattle.std.proofs.lemmas.Option.{slice_get_past}
 use Rattle.definitions.specs.declared.openings.Opening.{Opening}
-use Rattle.definitions.specs.Places.{Slot, commit_place, reveal_place, slot_at}
+use Rattle.definitions.specs.declared.places.Slot.{Slot}
+use Rattle.definitions.specs.Places.{commit_place, reveal_place, slot_at}
 use Rattle.definitions.specs.Honest.{IsHonest, allowed, allows, allows_choice, allows_frame, chosen_for, chosen_track, commits_to, made_count, may_commit, may_reveal, reveals_of}
 use Rattle.definitions.specs.Needs.{is_unchosen, is_unchosen_frame, may_choose, needs}
 use Rattle.definitions.specs.declared.frames.What.TheVariants.{Commit, Reveal}

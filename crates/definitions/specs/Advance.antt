@@ -13,7 +13,8 @@ use Rattle.definitions.specs.declared.answers.Progress.TheVariants as P
 use Rattle.definitions.specs.Lists.{is_empty}
 use Rattle.definitions.specs.World.{Game}
 use Rattle.definitions.specs.Openings.{commitment}
-use Rattle.definitions.specs.Places.{Slot, slot_at}
+use Rattle.definitions.specs.declared.places.Slot.{Slot}
+use Rattle.definitions.specs.Places.{slot_at}
 use Rattle.definitions.specs.Findings.{findings}
 use Rattle.definitions.specs.Honest.{made_count, chosen_for, allowed}
 use Rattle.definitions.specs.Needs.{needs, may_choose}

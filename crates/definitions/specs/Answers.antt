@@ -8,6 +8,7 @@ use Rattle.definitions.specs.declared.logs.Entry.TheVariants.{Got}
 use Rattle.definitions.specs.declared.findings.Finding.{Finding}
 use Rattle.definitions.specs.declared.answers.GotAnswer.{GotAnswer}
 use Rattle.definitions.specs.declared.answers.GotAnswer.TheVariants.{Taken, Stashed, Same, Far, Foreign, Caught, Closed}
+use Rattle.definitions.specs.declared.limits.TheConstants.{WINDOW}
 use Rattle.definitions.specs.World.{Game, players_of}
 use Rattle.definitions.specs.Places.{commit_place, reveal_place}
 use Rattle.definitions.specs.Logs.{entry_eq, player_of}
@@ -21,7 +22,7 @@ place_of game (Reveal p t m n) = reveal_place game t
 
 -- the frame's place is past the window
 unfoldable pub is_far : Game → ℕ → List Entry → ℕ → TurnFrame → Bool
-is_far game me h q f = nat_lt (next_place game me h q + 8) (place_of game f) || nat_le (2 * game.turns) (place_of game f)
+is_far game me h q f = nat_lt (next_place game me h q + WINDOW) (place_of game f) || nat_le (2 * game.turns) (place_of game f)
 
 -- the log has got the frame from the player
 unfoldable pub is_same : List Entry → ℕ → TurnFrame → Bool

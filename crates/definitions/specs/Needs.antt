@@ -11,7 +11,8 @@ use Rattle.definitions.specs.declared.answers.Need.{Need}
 use Rattle.definitions.specs.Lists.{is_empty}
 use Rattle.definitions.specs.World.{Game}
 use Rattle.definitions.specs.Moves.{move_fault}
-use Rattle.definitions.specs.Places.{Slot, slot_at}
+use Rattle.definitions.specs.declared.places.Slot.{Slot}
+use Rattle.definitions.specs.Places.{slot_at}
 use Rattle.definitions.specs.Held.{resolved_count, next_place}
 use Rattle.definitions.specs.Findings.{is_clean}
 use Rattle.definitions.specs.Honest.{others, lets_reveal, lets_commit, made_count, chosen_for, chosen_track}

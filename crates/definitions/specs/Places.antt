@@ -1,8 +1,8 @@
 -- Places: the order in which a player's frames stand in its stream.
 use Rattle.std.specs.Prelude.{ℕ, ◌+◌, ◌-◌, ◌*◌, ◌==◌, min, if◌then◌else◌, nat_lt, Option, Some, None, find}
 use Rattle.std.specs.List.{range_with_len}
-use Rattle.definitions.specs.declared.frames.What.{What}
 use Rattle.definitions.specs.declared.frames.What.TheVariants.{Commit, Reveal}
+use Rattle.definitions.specs.declared.places.Slot.{Slot}
 use Rattle.definitions.specs.World.{Game}
 
 -- the place of the turn's commitment
@@ -12,11 +12,6 @@ commit_place game t = if nat_lt t game.turns then t + (t + 1 - game.ahead) else 
 -- the place of the turn's reveal
 unfoldable pub reveal_place : Game → ℕ → ℕ
 reveal_place game t = if nat_lt t game.turns then t + min (t + game.ahead) game.turns else 2 * t + 1
-
--- one of the two frames of a turn
-pub record Slot : Type 0 where
-  pub what : What
-  pub turn : ℕ
 
 -- the commitment of the turn, if there is one, and otherwise the reveal of the other, if there is one
 abbrev pub slot_or : Option ℕ → Option ℕ → Option Slot

@@ -2,6 +2,7 @@
 
 use crate::findings::Finding;
 use crate::frames::What;
+use crate::places::Place;
 use crate::world::{MoveFault, PlayerId, Turn};
 
 /// A frame of another player that a peer waits for.
@@ -11,8 +12,8 @@ pub struct Need {
     pub player: PlayerId,
     /// The turn of which a frame is missing.
     pub turn: Turn,
-    /// The place, counted from 0, that is next in the player's stream.
-    pub next: u32,
+    /// The place that is next in the player's stream.
+    pub next: Place,
     /// Which of the turn's frames is missing.
     pub what: What,
 }
@@ -58,19 +59,4 @@ pub enum GotAnswer {
     Caught(Finding),
     /// The log had a finding before. Nothing changed.
     Closed,
-}
-
-/// Why a session log can't be used.
-#[derive(Clone, Copy, Debug, PartialEq, Eq)]
-pub enum LogWhy {
-    /// It has more bytes than a log may have.
-    TooLong,
-    /// Its bytes end before an entry's end.
-    Torn,
-    /// An entry's chain digest isn't the one that belongs there.
-    BadChain,
-    /// An entry isn't in the grammar of logs.
-    BadEntry,
-    /// A peer with the entries before it couldn't have logged an entry.
-    NotReplayed,
 }

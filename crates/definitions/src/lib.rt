@@ -3,7 +3,8 @@
 //! 2001).
 //!
 //! The data is `Copy` with public fields and does nothing by itself: the crate promises no behaviour, touches nothing
-//! outside, and takes no memory. What its words mean is said in `specs/`, one subject a file: the grid world, walks,
+//! outside, and takes no memory. Each limit has one name, in `limits`, which contracts cite too. What the words of the
+//! data mean is said in `specs/`, one subject a file: the grid world, walks,
 //! spheres of influence, legal moves, openings and their commitments, places in a stream, logs, what a log knows of a
 //! player, who meets whom, what a peer may do and whom it waits for, findings, answers, and steps. Laws about them stand
 //! in the crate `definition_laws`.
@@ -12,13 +13,18 @@
 pub mod answers;
 pub mod findings;
 pub mod frames;
+pub mod limits;
 pub mod logs;
 pub mod openings;
+pub mod places;
+pub mod sessions;
 pub mod world;
 
-pub use answers::{GotAnswer, LogWhy, Need, OwnFault, Progress};
+pub use answers::{GotAnswer, Need, OwnFault, Progress};
 pub use findings::{Finding, Kind, Spot};
 pub use frames::{TurnFrame, What};
-pub use logs::Entry;
+pub use logs::{Entry, LogWhy};
 pub use openings::{Digest, Nonce, Opening};
-pub use world::{Cell, Move, MoveFault, PlayerId, SessionRule, Track, Turn};
+pub use places::{FramePlace, Place, Slot};
+pub use sessions::SessionRule;
+pub use world::{Cell, Move, MoveFault, PlayerId, Track, Turn};

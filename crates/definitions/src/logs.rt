@@ -1,4 +1,4 @@
-//! The log that a peer keeps.
+//! The log that a peer keeps, and why one can't be used.
 
 use crate::frames::TurnFrame;
 use crate::openings::Nonce;
@@ -13,4 +13,19 @@ pub enum Entry {
     Made(TurnFrame),
     /// The owner received the frame from this player.
     Got(PlayerId, TurnFrame),
+}
+
+/// Why a session log can't be used.
+#[derive(Clone, Copy, Debug, PartialEq, Eq)]
+pub enum LogWhy {
+    /// It has more bytes than a log may have.
+    TooLong,
+    /// Its bytes end before an entry's end.
+    Torn,
+    /// An entry's chain digest isn't the one that belongs there.
+    BadChain,
+    /// An entry isn't in the grammar of logs.
+    BadEntry,
+    /// A peer with the entries before it couldn't have logged an entry.
+    NotReplayed,
 }

@@ -1,7 +1,7 @@
 -- The first line of a text, and a line that is read by its form.
 use Rattle.std.proofs.Common.{◌≡◌, ℕ, ◌<◌, Bool, true, false, eqb, List, [], ◌∷◌, length, take, drop, Option, Some, None, Ok, Err, refl, sym, ◌∙◌, arith, inl, inr}
 use Rattle.std.proofs.lemmas.Bool.{cases_Bool, eqb-true}
-use Rattle.definitions.specs.declared.world.SessionRule.TheVariants.{S1}
+use Rattle.definitions.specs.declared.sessions.SessionRule.TheVariants.{S1}
 use Rattle.grid_world.specs.declared.fault.SessionFault.TheVariants.{At}
 use Rattle.grid_world.specs.Lines.{ended_lines_of, line_len, one_of, two_of, three_of}
 use Rattle.grid_world.specs.Reading.{line_at, formed}

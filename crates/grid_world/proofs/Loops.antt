@@ -3,7 +3,7 @@ use Rattle.std.proofs.Common.{◌≡◌, ℕ, suc, ◌-◌, ◌+◌, ◌≤◌, 
 use Rattle.std.specs.Prelude.{◌*◌, Option, Some, None, true, false, nat_lt, ◌==◌, ◌&&◌, codes}
 use Rattle.std.proofs.lemmas.Bool.{and_parts, or_cases, ltb-true, eqb-true}
 use Rattle.std.proofs.lemmas.List.{append-nil}
-use Rattle.definitions.specs.declared.world.SessionRule.TheVariants.{S1}
+use Rattle.definitions.specs.declared.sessions.SessionRule.TheVariants.{S1}
 use Rattle.definitions.specs.declared.world.Cell.{Cell}
 use Rattle.definitions.specs.World.{Ground}
 use Rattle.grid_world.specs.declared.fault.SessionFault.{SessionFault}

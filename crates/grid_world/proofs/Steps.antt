@@ -3,8 +3,8 @@ use Rattle.std.proofs.Common.{◌≡◌, ℕ, Bool, true, false, List, [], ◌�
 use Rattle.std.specs.Prelude.{codes, not, ◌&&◌}
 use Rattle.std.proofs.lemmas.Bool.{and_parts, not-true}
 use Rattle.definitions.specs.declared.world.Cell.{Cell}
-use Rattle.definitions.specs.declared.world.SessionRule.{SessionRule}
-use Rattle.definitions.specs.declared.world.SessionRule.TheVariants.{S8, S9}
+use Rattle.definitions.specs.declared.sessions.SessionRule.{SessionRule}
+use Rattle.definitions.specs.declared.sessions.SessionRule.TheVariants.{S8, S9}
 use Rattle.definitions.specs.World.{Ground, has_cell, is_inside}
 use Rattle.grid_world.specs.declared.fault.SessionFault.{SessionFault}
 use Rattle.grid_world.specs.Lines.{two_of}

@@ -4,7 +4,7 @@ use Rattle.std.specs.Prelude.{codes, ◌&&◌, nat_le, IsTrue}
 use Rattle.std.specs.Cmp.Lexicographic.{same_text}
 use Rattle.std.proofs.lemmas.Bool.{eqb-true, leb-true, and_parts, and_from}
 use Rattle.definitions.specs.declared.world.Cell.{Cell}
-use Rattle.definitions.specs.declared.world.SessionRule.TheVariants.{S2, S3, S4, S5, S6, S7, S8}
+use Rattle.definitions.specs.declared.sessions.SessionRule.TheVariants.{S2, S3, S4, S5, S6, S7, S8}
 use Rattle.definitions.specs.Lists.{EachIs}
 use Rattle.definitions.specs.World.{Ground, has_cell, is_inside, is_before_first, in_row_order}
 use Rattle.grid_world.specs.Lines.{line_of, is_bare, one_of, two_of, three_of}

@@ -4,8 +4,8 @@
 use Rattle.std.specs.Prelude.{◌≡◌, ℕ, zero, suc, ◌+◌, Bool, not, List, [], ◌∷◌, Option, Some, None, Result, Ok, Err, nat_le, ◌==◌, ◌&&◌, if◌then◌else◌, codes, true}
 use Rattle.sha2.specs.Sha256.{sha256}
 use Rattle.definitions.specs.declared.world.Cell.{Cell}
-use Rattle.definitions.specs.declared.world.SessionRule.{SessionRule}
-use Rattle.definitions.specs.declared.world.SessionRule.TheVariants.{S1, S2, S3, S4, S5, S6, S7, S8, S9}
+use Rattle.definitions.specs.declared.sessions.SessionRule.{SessionRule}
+use Rattle.definitions.specs.declared.sessions.SessionRule.TheVariants.{S1, S2, S3, S4, S5, S6, S7, S8, S9}
 use Rattle.definitions.specs.World as world
 use Rattle.definitions.specs.World.{Ground, Game, has_cell, is_inside, is_before}
 use Rattle.grid_world.specs.declared.fault.SessionFault.{SessionFault}

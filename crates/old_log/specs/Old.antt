@@ -1,8 +1,8 @@
 -- Old: what a log has before its first fault, and why a peer can't go on from it.
 use Rattle.std.specs.Prelude.{◌≡◌, ℕ, ◌+◌, Bool, false, not, ◌&&◌, ◌==◌, List, [], Option, Some, None, length, nat_lt, take, if◌then◌else◌}
 use Rattle.definitions.specs.declared.logs.Entry.{Entry}
-use Rattle.definitions.specs.declared.answers.LogWhy.{LogWhy}
-use Rattle.definitions.specs.declared.answers.LogWhy.TheVariants.{TooLong, NotReplayed}
+use Rattle.definitions.specs.declared.logs.LogWhy.{LogWhy}
+use Rattle.definitions.specs.declared.logs.LogWhy.TheVariants.{TooLong, NotReplayed}
 use Rattle.definitions.specs.Lists.{is_empty}
 use Rattle.definitions.specs.World.{Game}
 use Rattle.session_log.specs.declared.reader.Next.{Next}

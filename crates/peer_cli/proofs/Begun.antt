@@ -2,7 +2,7 @@
 use Rattle.std.proofs.Common.{Bool, List, None, Option, Some, [], false, refl, subst, true, ℕ, ◌++◌, ◌∷◌, ◌≡◌}
 use Rattle.std.specs.Prelude.{Ok, Result, if◌then◌else◌, nat_lt, length, ◌&&◌}
 use Rattle.definitions.specs.declared.logs.Entry.{Entry}
-use Rattle.definitions.specs.declared.answers.LogWhy.TheVariants.{NotReplayed, TooLong}
+use Rattle.definitions.specs.declared.logs.LogWhy.TheVariants.{NotReplayed, TooLong}
 use Rattle.definitions.specs.World.{Game}
 use Rattle.definitions.specs.Honest.{IsHonest, allowed, honest_from}
 use Rattle.definition_laws.proofs.ForPeers.{honest_empty}

@@ -1,6 +1,6 @@
 -- Causes: why the program ends as it does, status by status.
 use Rattle.std.specs.Prelude.{◌≡◌, ◌⊎◌, ℕ, false, ◌<◌, ◌≤◌, List, Option, Some, None, Ok, IsTrue, option_map}
-use Rattle.definitions.specs.declared.answers.LogWhy.{LogWhy}
+use Rattle.definitions.specs.declared.logs.LogWhy.{LogWhy}
 use Rattle.definitions.specs.World.{Game, players_of}
 use Rattle.text_io.specs.Inputs.{Input, lines_in}
 use Rattle.text_io.specs.declared.statuses.Status.{Status}

@@ -20,7 +20,8 @@ use Rattle.definitions.specs.Lists.{is_empty}
 use Rattle.definitions.specs.Moves.{move_fault, next_track}
 use Rattle.move_rules.specs.Verdicts.{judged, verdict}
 use Rattle.definitions.specs.World.{Game}
-use Rattle.definitions.specs.Places.{Slot, slot_at}
+use Rattle.definitions.specs.declared.places.Slot.{Slot}
+use Rattle.definitions.specs.Places.{slot_at}
 use Rattle.definitions.specs.Logs.{chosen}
 use Rattle.definitions.specs.Findings.{is_clean, findings}
 use Rattle.definitions.specs.Honest.{IsHonest, made_count, chosen_for, allowed, chosen_track}

@@ -1,9 +1,9 @@
 -- The number of a status, and the line by which it is told.
 use Rattle.std.specs.Prelude.{ℕ, List, [], ◌++◌, codes, decimal}
-use Rattle.definitions.specs.declared.world.SessionRule.{SessionRule}
-use Rattle.definitions.specs.declared.world.SessionRule.TheVariants.{S1, S2, S3, S4, S5, S6, S7, S8, S9}
-use Rattle.definitions.specs.declared.answers.LogWhy.{LogWhy}
-use Rattle.definitions.specs.declared.answers.LogWhy.TheVariants.{TooLong, Torn, BadChain, BadEntry, NotReplayed}
+use Rattle.definitions.specs.declared.sessions.SessionRule.{SessionRule}
+use Rattle.definitions.specs.declared.sessions.SessionRule.TheVariants.{S1, S2, S3, S4, S5, S6, S7, S8, S9}
+use Rattle.definitions.specs.declared.logs.LogWhy.{LogWhy}
+use Rattle.definitions.specs.declared.logs.LogWhy.TheVariants.{TooLong, Torn, BadChain, BadEntry, NotReplayed}
 use Rattle.text_io.specs.declared.statuses.TextName.{TextName}
 use Rattle.text_io.specs.declared.statuses.TextName.TheVariants.{Script, Roster, Moves, Evidence, Seed, Roots}
 use Rattle.text_io.specs.declared.statuses.Status.{Status}

@@ -5,7 +5,8 @@ use Rattle.definitions.specs.declared.frames.What.TheVariants as F
 use Rattle.definitions.specs.declared.logs.Entry.{Entry}
 use Rattle.definitions.specs.Lists.{item_or}
 use Rattle.definitions.specs.World.{Game, players_of}
-use Rattle.definitions.specs.Places.{Slot, slot_at}
+use Rattle.definitions.specs.declared.places.Slot.{Slot}
+use Rattle.definitions.specs.Places.{slot_at}
 use Rattle.definitions.specs.Held.{held, resolved_count, next_place}
 use Rattle.definitions.specs.Meets.{cell_before}
 use Rattle.definitions.specs.Honest.{made_count}
