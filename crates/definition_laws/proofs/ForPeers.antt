@@ -37,7 +37,7 @@ use Rattle.definition_laws.proofs.Permits.{honest_from_push}
 use Rattle.definition_laws.proofs.Advances.{advance_by_ends, advance_by_still, next_made_past}
 use Rattle.definition_laws.proofs.Innocent.{innocent, Conforms}
 use Rattle.definitions.specs.Lists.{EachIs, is_empty}
-use Rattle.definition_laws.proofs.Order.{slot_at_commit_is, slot_at_reveal_is}
+use Rattle.definitions.proofs.Slots.{slot_at_commit_is, slot_at_reveal_is}
 use Rattle.definition_laws.proofs.Alike.{commits_to_some, reveals_of_some}
 
 -- how many commitments and reveals of the owner are there, and that what it chose is one opening more at most

@@ -25,6 +25,7 @@ use Rattle.definitions.specs.Needs.{is_done, may_choose, need_of, needs, needs_a
 use Rattle.definitions.specs.Advance.{frame_at, frame_chosen}
 use Rattle.definitions.specs.Steps.{AreAuthentic, IsMadeIn, Logs, has_log, log_of}
 use Rattle.definitions.proofs.Streams.{commit_place-below, reveal_place-below}
+use Rattle.definitions.proofs.Slots.{slot_at_commit_is, slot_at_reveal_is}
 use Rattle.definition_laws.specs.Members.{Has}
 use Rattle.definition_laws.specs.Advancing.{ExactlyOne, IsDone}
 use Rattle.definition_laws.specs.Groups.{HasAllOf, IsStill, NoneLacks}
@@ -37,7 +38,7 @@ use Rattle.definition_laws.proofs.ForPeers.{made_item}
 use Rattle.definition_laws.proofs.Innocent.{Conforms, known_chosen}
 use Rattle.definition_laws.proofs.Members.{Has_each, Has_middle, slice_get_Has}
 use Rattle.definition_laws.proofs.Nexts.{held_below, held_is_first, known_orderly, no_commit_next, no_opening_next, resolved_below, some_at}
-use Rattle.definition_laws.proofs.Order.{reveal_turn, slot_at_commit_is, slot_at_reveal_is}
+use Rattle.definition_laws.proofs.Order.{reveal_turn}
 use Rattle.definition_laws.proofs.OwnLog.{chosen_for_at, own_honest}
 use Rattle.definition_laws.proofs.Standing.{made_count_most, past_end, stands_one_way}
 

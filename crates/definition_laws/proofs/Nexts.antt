@@ -15,12 +15,13 @@ use Rattle.definitions.specs.Moves.{AreLegal}
 use Rattle.definitions.specs.Places.{commit_place, reveal_place, slot_at}
 use Rattle.definitions.specs.Logs.{frames_of}
 use Rattle.definitions.specs.Held.{Known, commit_of, first_commit, held, known, next_known, next_place, opened, opening_of, resolved, with_commit, with_move}
+use Rattle.definitions.proofs.Slots.{slot_at_commit_is, slot_at_reveal_is}
 use Rattle.definition_laws.proofs.Grows.{known_grows}
 use Rattle.definition_laws.proofs.Headline.{known_to_sound}
 use Rattle.definition_laws.proofs.Knowing.{known_to_orderly, known_to_whole, next_commit, next_reveal}
 use Rattle.definition_laws.proofs.Listing.{slice_get_front}
 use Rattle.definition_laws.proofs.Tracks.{AreKnownLegal, known_to_legal}
-use Rattle.definition_laws.proofs.Order.{IsOrderly, commit_known, commit_turn, reveal_known, reveal_turn, slot_at_commit_is, slot_at_reveal_is}
+use Rattle.definition_laws.proofs.Order.{IsOrderly, commit_known, commit_turn, reveal_known, reveal_turn}
 
 some_below : {X : Type 0} (xs : List X) (t : ℕ) → is_some (slice_get xs t) ≡ true → t < length xs
 some_below [] t h = absurd (false≢true h)

@@ -1,13 +1,10 @@
 -- Order: how many commitments and reveals may stand at the beginning of a stream, and which frame is next.
-use Rattle.std.specs.Prelude.{Option, find, min, ◌==◌, ◌↔◌}
-use Rattle.std.proofs.Common.{None, Some, ap, arith, inl, inr, subst, sym, true, ℕ, ◌+◌, ◌-◌, ◌<◌, ◌∙◌, ◌≡◌, ◌≤◌, ◌⊎◌}
-use Rattle.std.proofs.lemmas.Bool.{cases_lt, eqb-true}
-use Rattle.std.specs.List.{range_with_len}
-use Rattle.definitions.specs.declared.places.Slot.{Slot}
-use Rattle.definitions.specs.Places.{commit_place, reveal_place, slot_at, slot_or}
-use Rattle.definitions.specs.declared.frames.What.TheVariants.{Commit, Reveal}
+use Rattle.std.specs.Prelude.{min, ◌↔◌}
+use Rattle.std.proofs.Common.{arith, inl, inr, subst, sym, ℕ, ◌+◌, ◌-◌, ◌<◌, ◌∙◌, ◌≡◌, ◌≤◌, ◌⊎◌}
+use Rattle.std.proofs.lemmas.Bool.{cases_lt}
+use Rattle.definitions.specs.Places.{commit_place, reveal_place}
 use Rattle.definitions.specs.World.{Game}
-use Rattle.definitions.proofs.Streams.{commit_place-apart, commit_place-below, commit_place-fits, commit_place-once, find-range, reveal_place-below, reveal_place-fits, reveal_place-once}
+use Rattle.definitions.proofs.Streams.{commit_place-apart, commit_place-below, commit_place-fits, commit_place-once, reveal_place-below, reveal_place-fits, reveal_place-once}
 
 -- how many commitments and reveals may stand at the beginning of a stream
 pub record IsOrderly (game : Game) (c r : ℕ) : Type 0 where
@@ -55,41 +52,6 @@ reveal_turn game c r t d o lt e = go (cases_lt c (min (r + game.ahead) game.turn
     go (inl h) k = absurd (commit_place-apart game c t d (omega arith) lt (commit_next game c r d o h ∙ e))
     go (inr h) (inl k) = (h, k, reveal_place-once game t r lt k (sym e ∙ sym (reveal_next game c r d o h k)))
     go (inr h) (inr k) = let fits = reveal_place-fits game t lt in absurd (omega arith)
-
--- what a place's slot says of it
-pub slot_at_commit_is : (game : Game) (n t : ℕ) → slot_at game n ≡ Some (record { what = Commit; turn = t }) → (t < game.turns) × (commit_place game t ≡ n)
-unfolding slot_at
-slot_at_commit_is game n t h =
-    go (find (λ t. commit_place game t == n) (range_with_len 0 game.turns)) (find (λ t. reveal_place game t == n) (range_with_len 0 game.turns))
-    (find-range (λ t. commit_place game t == n) 0 game.turns) h
-  where
-    go : (a b : Option ℕ) → ((u : ℕ) → a ≡ Some u → (0 ≤ u) × (u < 0 + game.turns) × ((commit_place game u == n) ≡ true)) →
-        slot_or a b ≡ Some (record { what = Commit; turn = t }) → (t < game.turns) × (commit_place game t ≡ n)
-    go (Some u) b f h =
-        let slots : (let s : Slot = record { what = Commit; turn = u } in s) ≡ record { what = Commit; turn = t } = cc in
-        let same = ap (λ (s : Slot). s.turn) slots in
-        let k = f t (ap (λ v. Some v) same) in (omega arith, eqb-true _ _ k.2)
-    go None (Some u) f h =
-        let slots : (let s : Slot = record { what = Reveal; turn = u } in s) ≡ record { what = Commit; turn = t } = cc in
-        let whats = ap (λ (s : Slot). s.what) slots in absurd (cc)
-    go None None f h = absurd (cc)
-
-pub slot_at_reveal_is : (game : Game) (n t : ℕ) → slot_at game n ≡ Some (record { what = Reveal; turn = t }) → (t < game.turns) × (reveal_place game t ≡ n)
-unfolding slot_at
-slot_at_reveal_is game n t h =
-    go (find (λ t. commit_place game t == n) (range_with_len 0 game.turns)) (find (λ t. reveal_place game t == n) (range_with_len 0 game.turns))
-    (find-range (λ t. reveal_place game t == n) 0 game.turns) h
-  where
-    go : (a b : Option ℕ) → ((u : ℕ) → b ≡ Some u → (0 ≤ u) × (u < 0 + game.turns) × ((reveal_place game u == n) ≡ true)) →
-        slot_or a b ≡ Some (record { what = Reveal; turn = t }) → (t < game.turns) × (reveal_place game t ≡ n)
-    go (Some u) b f h =
-        let slots : (let s : Slot = record { what = Commit; turn = u } in s) ≡ record { what = Reveal; turn = t } = cc in
-        let whats = ap (λ (s : Slot). s.what) slots in absurd (cc)
-    go None (Some u) f h =
-        let slots : (let s : Slot = record { what = Reveal; turn = u } in s) ≡ record { what = Reveal; turn = t } = cc in
-        let same = ap (λ (s : Slot). s.turn) slots in
-        let k = f t (ap (λ v. Some v) same) in (omega arith, eqb-true _ _ k.2)
-    go None None f h = absurd (cc)
 
 -- a commitment is known exactly where its place is below the next
 pub commit_known : (game : Game) (c r t : ℕ) → 1 ≤ game.ahead → IsOrderly game c r → t < game.turns → (t < c) ↔ (commit_place game t < c + r)

@@ -22,12 +22,13 @@ use Rattle.definitions.specs.Honest.{IsHonest, allowed, chosen_for, made_count}
 use Rattle.definitions.specs.Needs.{is_unchosen, may_choose, needs}
 use Rattle.definitions.specs.Advance.{advance, advance_by, advances_by, frame_of, next_made, progress, progress_of, standing, with_made}
 use Rattle.definitions.proofs.Streams.{frame_of_place, slot_at-commit, slot_at-past, slot_at-reveal}
+use Rattle.definitions.proofs.Slots.{slot_at_reveal_is}
 use Rattle.definition_laws.specs.Advancing.{ExactlyOne, IsDone}
 use Rattle.definition_laws.proofs.Advances.{advance_ends, advance_honest}
 use Rattle.definition_laws.proofs.Chosen.{made_count_push}
 use Rattle.definition_laws.proofs.ForPeers.{OwnCounts, advance_step, advance_still, chosen_for_item, next_made_only, own_counts}
 use Rattle.definition_laws.proofs.Listing.{none_past}
-use Rattle.definition_laws.proofs.Order.{reveal_turn, slot_at_reveal_is}
+use Rattle.definition_laws.proofs.Order.{reveal_turn}
 use Rattle.definition_laws.proofs.Silent.{clean_advance}
 use Rattle.definition_laws.proofs.Waits.{next_commit_allowed, next_reveal_allowed}
 

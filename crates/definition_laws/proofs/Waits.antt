@@ -22,9 +22,10 @@ use Rattle.definitions.specs.declared.openings.Nonce.{Nonce}
 use Rattle.definitions.specs.Advance.{frame_of}
 use Rattle.definitions.specs.World.{Game}
 use Rattle.definitions.proofs.Streams.{slot_at-commit}
+use Rattle.definitions.proofs.Slots.{slot_at_commit_is, slot_at_reveal_is}
 use Rattle.definition_laws.proofs.OwnStream.{IsOwn}
 use Rattle.definition_laws.proofs.Listing.{none_past, same_test}
-use Rattle.definition_laws.proofs.Order.{commit_turn, slot_at_commit_is, slot_at_reveal_is}
+use Rattle.definition_laws.proofs.Order.{commit_turn}
 use Rattle.definition_laws.proofs.Alike.{digest_eq_same, move_eq_same, nonce_eq_same}
 use Rattle.definition_laws.proofs.Chosen.{find_chosen}
 use Rattle.definition_laws.proofs.OwnLog.{chosen_for_at, own_honest}

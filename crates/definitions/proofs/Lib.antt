@@ -3,3 +3,4 @@ pub mod Nearness
 pub mod Walks
 pub mod Codes
 pub mod Streams
+pub mod Slots

@@ -7,6 +7,7 @@ pub mod Kept
 pub mod Again
 pub mod Found
 pub mod Printed
+pub mod Reveals
 pub mod Rows
 pub mod Steps
 pub mod Loops

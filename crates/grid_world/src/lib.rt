@@ -12,6 +12,7 @@ mod grid;
 mod head;
 mod lines;
 mod parts;
+mod places;
 mod printing;
 mod reading;
 mod rules;
