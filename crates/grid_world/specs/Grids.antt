@@ -1,13 +1,14 @@
 -- Grids: what holds of each, and its walls as rows of bits.
 use Rattle.std.specs.Prelude.{◌≡◌, ℕ, Bool, ◌+◌, ◌*◌, ◌/◌, ◌%◌, ◌<◌, ◌≤◌, ◌==◌, List, length, IsTrue, slice_index}
 use Rattle.std.specs.Int.{bit_at}
+use Rattle.definitions.specs.declared.limits.TheConstants.{WIDEST_SIDE}
 use Rattle.definitions.specs.Lists.{EachIs}
 use Rattle.definitions.specs.World.{Ground, is_inside, is_wall, in_row_order}
 
 -- a grid that a session may have
 pub record IsGrid (grid : Ground) : Type 0 where
-  pub width : (1 ≤ grid.width) × (grid.width ≤ 256)
-  pub height : (1 ≤ grid.height) × (grid.height ≤ 256)
+  pub width : (1 ≤ grid.width) × (grid.width ≤ WIDEST_SIDE)
+  pub height : (1 ≤ grid.height) × (grid.height ≤ WIDEST_SIDE)
   -- in row order, none twice
   pub walls : IsTrue (in_row_order grid.walls)
   pub inside : EachIs (λ c. IsTrue (is_inside grid c)) grid.walls

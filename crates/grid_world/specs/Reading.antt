@@ -6,6 +6,7 @@ use Rattle.sha2.specs.Sha256.{sha256}
 use Rattle.definitions.specs.declared.world.Cell.{Cell}
 use Rattle.definitions.specs.declared.sessions.SessionRule.{SessionRule}
 use Rattle.definitions.specs.declared.sessions.SessionRule.TheVariants.{S1, S2, S3, S4, S5, S6, S7, S8, S9}
+use Rattle.definitions.specs.declared.limits.TheConstants.{FARTHEST_REACH, FEWEST_PLAYERS, MOST_CHARGE, MOST_PLAYERS, MOST_SPEED, MOST_TURNS, WIDEST_BLAST, WIDEST_SIDE}
 use Rattle.definitions.specs.World as world
 use Rattle.definitions.specs.World.{Ground, Game, has_cell, is_inside, is_before}
 use Rattle.grid_world.specs.declared.fault.SessionFault.{SessionFault}
@@ -47,31 +48,31 @@ version_at lines = do
 unfoldable pub sides_at : List (List ℕ) → Result ((ℕ × ℕ) × List (List ℕ)) SessionFault
 sides_at lines = do
   sides ← line_at 2 (two_of (codes "grid")) lines
-  keeps 2 S3 (is_within 1 256 sides.0.0 && is_within 1 256 sides.0.1) sides
+  keeps 2 S3 (is_within 1 WIDEST_SIDE sides.0.0 && is_within 1 WIDEST_SIDE sides.0.1) sides
 
 -- line 3: speed, reach and blast
 unfoldable pub steps_at : List (List ℕ) → Result ((ℕ × ℕ × ℕ) × List (List ℕ)) SessionFault
 steps_at lines = do
   steps ← line_at 3 (three_of (codes "rules")) lines
-  keeps 3 S4 (is_within 1 8 steps.0.0 && (nat_le steps.0.1 8 && nat_le steps.0.2 2)) steps
+  keeps 3 S4 (is_within 1 MOST_SPEED steps.0.0 && (nat_le steps.0.1 FARTHEST_REACH && nat_le steps.0.2 WIDEST_BLAST)) steps
 
 -- line 4: the start charge, the cap and the cost
 unfoldable pub charges_at : List (List ℕ) → Result ((ℕ × ℕ × ℕ) × List (List ℕ)) SessionFault
 charges_at lines = do
   charges ← line_at 4 (three_of (codes "charge")) lines
-  keeps 4 S5 (nat_le charges.0.0 255 && (nat_le charges.0.1 255 && (nat_le charges.0.2 255 && nat_le charges.0.0 charges.0.1))) charges
+  keeps 4 S5 (nat_le charges.0.0 MOST_CHARGE && (nat_le charges.0.1 MOST_CHARGE && (nat_le charges.0.2 MOST_CHARGE && nat_le charges.0.0 charges.0.1))) charges
 
 -- line 5: how many turns are played
 unfoldable pub turns_at : List (List ℕ) → Result (ℕ × List (List ℕ)) SessionFault
 turns_at lines = do
   turns ← line_at 5 (one_of (codes "turns")) lines
-  keeps 5 S6 (is_within 1 4096 turns.0) turns
+  keeps 5 S6 (is_within 1 MOST_TURNS turns.0) turns
 
 -- line 6: how many players there are
 unfoldable pub players_at : List (List ℕ) → Result (ℕ × List (List ℕ)) SessionFault
 players_at lines = do
   players ← line_at 6 (one_of (codes "players")) lines
-  keeps 6 S7 (is_within 2 16 players.0) players
+  keeps 6 S7 (is_within FEWEST_PLAYERS MOST_PLAYERS players.0) players
 
 -- what the first six lines say: the grid, still without walls, the rules, the turns and how many players there are
 pub record Head : Type 0 where

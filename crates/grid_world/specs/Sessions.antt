@@ -2,6 +2,7 @@
 use Rattle.std.specs.Prelude.{◌≡◌, ℕ, ◌≤◌, List, map, length, IsTrue}
 use Rattle.definitions.specs.declared.world.Cell.{Cell}
 use Rattle.definitions.specs.Lists.{EachIs}
+use Rattle.definitions.specs.declared.limits.TheConstants.{FARTHEST_REACH, FEWEST_PLAYERS, MOST_CHARGE, MOST_PLAYERS, MOST_SPEED, MOST_TURNS, WIDEST_BLAST}
 use Rattle.definitions.specs.World as world
 use Rattle.definitions.specs.World.{Ground, Seat, Game, is_open, players_of}
 use Rattle.grid_world.specs.declared.rules.Rules.{Rules}
@@ -37,14 +38,14 @@ pub record IsSession (game : Game) : Type 0 where
   pub version : game.version ≡ 1
   pub id : length game.id ≡ 32
   pub grid : IsGrid game.grid
-  pub speed : (1 ≤ game.rules.speed) × (game.rules.speed ≤ 8)
-  pub reach : game.rules.reach ≤ 8
-  pub blast : game.rules.blast ≤ 2
+  pub speed : (1 ≤ game.rules.speed) × (game.rules.speed ≤ MOST_SPEED)
+  pub reach : game.rules.reach ≤ FARTHEST_REACH
+  pub blast : game.rules.blast ≤ WIDEST_BLAST
   pub start_charge : game.rules.start_charge ≤ game.rules.cap
-  pub cap : game.rules.cap ≤ 255
-  pub cost : game.rules.cost ≤ 255
-  pub turns : (1 ≤ game.turns) × (game.turns ≤ 4096)
+  pub cap : game.rules.cap ≤ MOST_CHARGE
+  pub cost : game.rules.cost ≤ MOST_CHARGE
+  pub turns : (1 ≤ game.turns) × (game.turns ≤ MOST_TURNS)
   pub ahead : game.ahead ≡ 1
-  pub players : (2 ≤ players_of game) × (players_of game ≤ 16)
+  pub players : (FEWEST_PLAYERS ≤ players_of game) × (players_of game ≤ MOST_PLAYERS)
   pub seats : EachIs (GoesByTheRules game.rules) game.seats
   pub starts : EachIs (λ s. IsTrue (is_open game.grid s.start)) game.seats

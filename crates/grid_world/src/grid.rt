@@ -83,7 +83,7 @@ impl Grid {
         })
     }
 
-    /// How many columns there are, from 1 to 256.
+    /// How many columns there are, from 1 to `WIDEST_SIDE`.
     pub fn width(&self) -> u16
         ensures value { result ≡ self.now.width }
         ensures grid { IsGrid self.now }
@@ -91,7 +91,7 @@ impl Grid {
         self.width
     }
 
-    /// How many rows there are, from 1 to 256.
+    /// How many rows there are, from 1 to `WIDEST_SIDE`.
     pub fn height(&self) -> u16
         ensures value { result ≡ self.now.height }
         ensures grid { IsGrid self.now }

@@ -13,6 +13,10 @@ use crate::fault::SessionFault;
 use crate::lines::{one_of, take_line, three_of, two_of};
 use crate::parts::{Head, Sides};
 use crate::rules::Rules;
+use definitions::limits::{
+    FARTHEST_REACH, FEWEST_PLAYERS, MOST_CHARGE, MOST_PLAYERS, MOST_SPEED, MOST_TURNS,
+    WIDEST_BLAST, WIDEST_SIDE,
+};
 use definitions::{Cell, SessionRule};
 
 /// The fault of a line that breaks the rule.
@@ -87,7 +91,7 @@ fn sides(text: &[u8]) -> Result<(Sides, &[u8]), SessionFault>
     ensures { Says (λ x. ((x.0.width, x.0.height), ended_lines_of x.1.now)) result (sides_at (ended_lines_of text.now)) }
 {
     let ((width, height), rest) = two_at(2, b"grid", text)?;
-    if !(is_within(1, 256, width) && is_within(1, 256, height)) {
+    if !(is_within(1, WIDEST_SIDE.into(), width) && is_within(1, WIDEST_SIDE.into(), height)) {
         return Err(fault(2, SessionRule::S3));
     }
     let sides = Sides {
@@ -103,7 +107,9 @@ fn steps(text: &[u8]) -> Result<((u8, u8, u8), &[u8]), SessionFault>
     ensures { Says (λ x. (x.0, ended_lines_of x.1.now)) result (steps_at (ended_lines_of text.now)) }
 {
     let ((speed, reach, blast), rest) = three_at(3, b"rules", text)?;
-    if !(is_within(1, 8, speed) && (reach <= 8 && blast <= 2)) {
+    if !(is_within(1, MOST_SPEED.into(), speed)
+        && (reach <= FARTHEST_REACH.into() && blast <= WIDEST_BLAST.into()))
+    {
         return Err(fault(3, SessionRule::S4));
     }
     Ok(((speed as u8, reach as u8, blast as u8), rest))
@@ -115,7 +121,8 @@ fn charges(text: &[u8]) -> Result<((u8, u8, u8), &[u8]), SessionFault>
     ensures { Says (λ x. (x.0, ended_lines_of x.1.now)) result (charges_at (ended_lines_of text.now)) }
 {
     let ((start, cap, cost), rest) = three_at(4, b"charge", text)?;
-    if !(start <= 255 && (cap <= 255 && (cost <= 255 && start <= cap))) {
+    let most = u32::from(MOST_CHARGE);
+    if !(start <= most && (cap <= most && (cost <= most && start <= cap))) {
         return Err(fault(4, SessionRule::S5));
     }
     Ok(((start as u8, cap as u8, cost as u8), rest))
@@ -127,7 +134,7 @@ fn turns(text: &[u8]) -> Result<(u32, &[u8]), SessionFault>
     ensures { Says (λ x. (x.0, ended_lines_of x.1.now)) result (turns_at (ended_lines_of text.now)) }
 {
     let (turns, rest) = one_at(5, b"turns", text)?;
-    if !is_within(1, 4096, turns) {
+    if !is_within(1, MOST_TURNS, turns) {
         return Err(fault(5, SessionRule::S6));
     }
     Ok((turns, rest))
@@ -139,7 +146,7 @@ fn players(text: &[u8]) -> Result<(u8, &[u8]), SessionFault>
     ensures { Says (λ x. (x.0, ended_lines_of x.1.now)) result (players_at (ended_lines_of text.now)) }
 {
     let (players, rest) = one_at(6, b"players", text)?;
-    if !is_within(2, 16, players) {
+    if !is_within(FEWEST_PLAYERS.into(), MOST_PLAYERS.into(), players) {
         return Err(fault(6, SessionRule::S7));
     }
     Ok((players as u8, rest))

@@ -4,7 +4,7 @@
 //! player starts. The crate reads that text and gives a [`Session`], which contracts see as a `Game` of the crate
 //! `definitions`. It promises that a text reads as exactly one session, that every text of a session is read unless
 //! memory runs out, and that a text which is none is refused with its first faulty line and that line's first broken
-//! rule. It takes memory from the allocator that it is given, and touches nothing else.
+//! rule. A session also tells the places of a player's frames in its stream, and which frame stands at a place. It takes memory from the allocator that it is given, and touches nothing else.
 #![tactic(auto)]
 
 mod fault;
@@ -18,7 +18,7 @@ mod reading;
 mod rules;
 mod session;
 
-pub use definitions::{Cell, PlayerId, SessionRule, Turn};
+pub use definitions::{Cell, FramePlace, Place, PlayerId, SessionRule, Slot, Turn};
 pub use fault::SessionFault;
 pub use grid::{Grid, distance};
 pub use printing::print_session;

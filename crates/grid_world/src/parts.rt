@@ -2,7 +2,7 @@
 
 use crate::rules::Rules;
 
-/// How wide and how high a grid is, each at most 256.
+/// How wide and how high a grid is, each at most `WIDEST_SIDE`.
 #[derive(Clone, Copy)]
 pub(crate) struct Sides {
     pub width: u16,

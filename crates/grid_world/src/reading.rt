@@ -15,6 +15,7 @@ use crate::head::{fault, head, three_at};
 use crate::lines::{is_last_line, take_line, two_of};
 use crate::parts::Sides;
 use crate::session::Session;
+use definitions::limits::WIDEST_SIDE;
 use definitions::{Cell, PlayerId, SessionRule};
 use sha2::{Digest, Sha256};
 use std::alloc::Global;
@@ -115,8 +116,8 @@ fn walls_of(
     first: u32,
     text: &[u8],
 ) -> Result<Vec<Cell>, SessionFault>
-    requires wide { sides.width ≤ 256 }
-    requires high { sides.height ≤ 256 }
+    requires wide { sides.width ≤ WIDEST_SIDE }
+    requires high { sides.height ≤ WIDEST_SIDE }
     requires early { first ≤ 23 }
     ensures { Gives (λ v. v.items) result (walls_at (bare sides) starts.now (ended_lines_of text.now) None first) }
 {

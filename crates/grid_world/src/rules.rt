@@ -3,11 +3,12 @@
 /// What the lines `rules` and `charge` of a session text say.
 #[derive(Clone, Copy, Debug, PartialEq, Eq)]
 pub struct Rules {
-    /// The most king steps that a player walks in a turn, from 1 to 8.
+    /// The most king steps that a player walks in a turn, from 1 to `MOST_SPEED`.
     pub speed: u8,
-    /// The greatest square distance from a player's target to the cell that it strikes, at most 8.
+    /// The greatest square distance from a player's target to the cell that it strikes, at most `FARTHEST_REACH`.
     pub reach: u8,
-    /// The greatest square distance from the cell struck at which a player is hit, at most 2.
+    /// The greatest square distance from the cell struck at which a player is hit, at most
+    /// `WIDEST_BLAST`.
     pub blast: u8,
     /// The charge that each player begins with, at most `cap`.
     pub start_charge: u8,

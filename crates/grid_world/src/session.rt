@@ -6,6 +6,7 @@ ghost use Rattle.grid_world.specs.Sessions.{IsSession, game_of, rules_of};
 
 use crate::grid::Grid;
 use crate::rules::Rules;
+use definitions::limits::{FEWEST_PLAYERS, MOST_PLAYERS, MOST_TURNS};
 use definitions::{Cell, PlayerId};
 use std::alloc::{AllocError, Global};
 use std::marker::Model;
@@ -87,7 +88,7 @@ impl Session {
     pub fn turns(&self) -> u32
         ensures value { result ≡ self.now.turns }
         ensures least { 1 ≤ result }
-        ensures most { result ≤ 4096 }
+        ensures most { result ≤ MOST_TURNS }
     {
         self.turns
     }
@@ -95,8 +96,8 @@ impl Session {
     /// How many players there are. Their numbers are those below.
     pub fn players(&self) -> u8
         ensures value { result ≡ players_of self.now }
-        ensures least { 2 ≤ result }
-        ensures most { result ≤ 16 }
+        ensures least { FEWEST_PLAYERS ≤ result }
+        ensures most { result ≤ MOST_PLAYERS }
     {
         self.starts.len() as u8
     }

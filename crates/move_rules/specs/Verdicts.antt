@@ -3,16 +3,8 @@ use Rattle.std.specs.Prelude.{ℕ, Option, Some, None, Result, Ok, Err}
 use Rattle.definitions.specs.declared.world.Move.{Move}
 use Rattle.definitions.specs.declared.world.Track.{Track}
 use Rattle.definitions.specs.declared.world.MoveFault.{MoveFault}
-use Rattle.definitions.specs.World.{Game, Ground}
+use Rattle.definitions.specs.World.{Game}
 use Rattle.definitions.specs.Moves.{move_fault, next_track}
-
--- a grid's width and height
-pub record Size : Type 0 where
-  pub width : ℕ
-  pub height : ℕ
-
-abbrev pub size_of : Ground → Size
-size_of grid = record { width = grid.width; height = grid.height }
 
 -- the track after the move, or the fault, if there is one
 abbrev pub judged : Game → Track → Move → Option MoveFault → Result Track MoveFault

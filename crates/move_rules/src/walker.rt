@@ -1,32 +1,20 @@
 //! Which moves are legal.
 
-ghost use Rattle.std.specs.Prelude.{◌≡◌, ◌<◌, ◌≤◌, IsTrue, IfOk, IsOk, IfNone, IfSome};
+ghost use Rattle.std.specs.Prelude.{◌≡◌, ◌<◌, ◌≤◌, IsTrue, IsOk, IfNone, IfSome};
 ghost use Rattle.definitions.specs.World.{players_of, is_open};
 ghost use Rattle.definitions.specs.Walk.{in_reach};
 ghost use Rattle.definitions.specs.Moves as M;
-ghost use Rattle.move_rules.specs.Verdicts.{size_of, verdict};
+ghost use Rattle.move_rules.specs.Verdicts.{verdict};
 
 use crate::tracks::next_track;
 use crate::window::leads;
 use definitions::{Cell, Move, MoveFault, PlayerId, Track};
 use grid_world::{Grid, Session, distance};
 use std::alloc::{AllocError, Global};
-use std::marker::Model;
 
-/// Judges moves on grids of one size.
+/// Judges moves. It keeps nothing from one move to the next, so that one walker serves every player and session.
 #[derive(Drop)]
-pub struct Walker {
-    width: u16,
-    height: u16,
-}
-
-impl Model for Walker {
-    ghost use Rattle.move_rules.specs.Verdicts.{Size};
-
-    ghost Value = { Size };
-
-    ghost view = { λ w. record { width = w.width; height = w.height } };
-}
+pub struct Walker {}
 
 /// Whether a player that stands at `from` reaches `to` within a turn.
 fn is_near(session: &Session, player: PlayerId, from: Cell, to: Cell) -> bool
@@ -83,15 +71,11 @@ fn move_fault(session: &Session, player: PlayerId, track: &Track, mv: &Move) -> 
 }
 
 impl Walker {
-    /// A walker for grids of this grid's size.
-    pub fn new(_alloc: Global, grid: &Grid) -> Result<Walker, AllocError>
-        ensures value { IfOk result (λ w. w ≡ size_of grid.now) }
-        ensures sure { IsOk result }
+    /// A walker for this grid. It takes no memory, and is always made.
+    pub fn new(_alloc: Global, _grid: &Grid) -> Result<Walker, AllocError>
+        ensures { IsOk result }
     {
-        Ok(Walker {
-            width: grid.width(),
-            height: grid.height(),
-        })
+        Ok(Walker {})
     }
 
     /// The player's track after the move, or the first of the faults that the move has from this track.
@@ -105,11 +89,9 @@ impl Walker {
         track: &Track,
         mv: &Move,
     ) -> Result<Track, MoveFault>
-        requires size { self.old ≡ size_of session.now.grid }
         requires player { player < players_of session.now }
         requires track { IsTrue (is_open session.now.grid track.now.at) }
-        ensures verdict { result ≡ verdict session.now player track.now mv.now }
-        ensures walker { self.new ≡ self.old }
+        ensures { result ≡ verdict session.now player track.now mv.now }
     {
         match move_fault(session, player, track, mv) {
             Some(fault) => Err(fault),

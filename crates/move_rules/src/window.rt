@@ -8,26 +8,30 @@ ghost use Rattle.definitions.specs.Walk.{walked};
 ghost use Rattle.move_rules.specs.Windows.{is_set, lit, near, near_place, shows, ShowsOpen, ShowsWalk};
 
 use definitions::Cell;
+use definitions::limits::{MOST_SPEED, WIDEST_SIDE};
 use grid_world::{Grid, distance};
 
-/// The rows of a window of radius 8 at most, from the top. The lowest bit of a row is its first column.
-type Rows = [u32; 17];
+/// How many rows and columns the widest window has: as many to each side of its middle as the fastest player walks in a turn.
+const ROWS: usize = 2 * MOST_SPEED as usize + 1;
+
+/// The rows of a window, from the top. The lowest bit of a row is its first column.
+type Rows = [u32; ROWS];
 
 /// Rows of which no bit is 1.
 fn no_rows() -> Rows
-    ensures len { length result ≡ 17 }
+    ensures len { length result ≡ ROWS }
     ensures bits { (i r : ℕ) → lit result i r ≡ false }
 {
-    [0; 17]
+    [0; ROWS]
 }
 
 /// Whether the cell at this place of the window is open. Places left of the grid or above it have no cell.
 #[tactic(auto, unfolding(crate::specs::Windows::shows))]
 fn is_open_at(grid: &Grid, middle: Cell, radius: u16, column: u16, row: u16) -> bool
-    requires x { middle.x ≤ 256 }
-    requires y { middle.y ≤ 256 }
-    requires column { column ≤ 16 }
-    requires row { row ≤ 16 }
+    requires x { middle.x ≤ WIDEST_SIDE }
+    requires y { middle.y ≤ WIDEST_SIDE }
+    requires column { column < ROWS }
+    requires row { row < ROWS }
     ensures { result ≡ shows middle radius (is_open grid.now) column row }
 {
     let x = middle.x + column;
@@ -54,10 +58,10 @@ fn with_bit(word: u32, column: u16, on: bool) -> u32
 
 /// The open cells of a row of the window.
 fn open_row(grid: &Grid, middle: Cell, radius: u16, row: u16) -> u32
-    requires x { middle.x ≤ 256 }
-    requires y { middle.y ≤ 256 }
-    requires radius { radius ≤ 8 }
-    requires row { row ≤ 16 }
+    requires x { middle.x ≤ WIDEST_SIDE }
+    requires y { middle.y ≤ WIDEST_SIDE }
+    requires radius { radius ≤ MOST_SPEED }
+    requires row { row < ROWS }
     ensures { (i : ℕ) → is_set result i ≡ (nat_lt i (2 * radius + 1) && shows middle radius (is_open grid.now) i row) }
 {
     let mut word = 0;
@@ -69,9 +73,9 @@ fn open_row(grid: &Grid, middle: Cell, radius: u16, row: u16) -> u32
 
 /// The open cells of the window.
 fn open_rows(grid: &Grid, middle: Cell, radius: u16) -> Rows
-    requires x { middle.x ≤ 256 }
-    requires y { middle.y ≤ 256 }
-    requires radius { radius ≤ 8 }
+    requires x { middle.x ≤ WIDEST_SIDE }
+    requires y { middle.y ≤ WIDEST_SIDE }
+    requires radius { radius ≤ MOST_SPEED }
     ensures { ShowsOpen grid.now middle radius result }
 {
     let mut rows = no_rows();
@@ -97,7 +101,7 @@ fn row_at(rows: &Rows, row: usize) -> u32
 
 /// The open places of a row that lie at a set one or beside it, corners too.
 fn next_row(open_rows: &Rows, rows: &Rows, row: usize) -> u32
-    requires { row < 17 }
+    requires { row < ROWS }
     ensures { (i : ℕ) → is_set result i ≡ (lit open_rows.now i row && near_place (lit rows.now) i row) }
 {
     let column = row_at(rows, row.saturating_sub(1)) | (row_at(rows, row) | row_at(rows, row + 1));
@@ -109,7 +113,7 @@ fn next_rows(open_rows: &Rows, rows: &Rows) -> Rows
     ensures { (i r : ℕ) → lit result i r ≡ (lit open_rows.now i r && near_place (lit rows.now) i r) }
 {
     let mut next = no_rows();
-    for row in 0..17 {
+    for row in 0..ROWS {
         next[row] = next_row(open_rows, rows, row);
     }
     next
@@ -117,7 +121,7 @@ fn next_rows(open_rows: &Rows, rows: &Rows) -> Rows
 
 /// The middle of the window alone.
 fn middle_rows(radius: u16) -> Rows
-    requires { radius ≤ 8 }
+    requires { radius ≤ MOST_SPEED }
     ensures { (i r : ℕ) → lit result i r ≡ ((r == radius) && (i == radius)) }
 {
     let mut rows = no_rows();
@@ -127,9 +131,9 @@ fn middle_rows(radius: u16) -> Rows
 
 /// The cells of the window to which as many steps lead from its middle as its radius has.
 fn walk_rows(grid: &Grid, middle: Cell, radius: u16) -> Rows
-    requires x { middle.x ≤ 256 }
-    requires y { middle.y ≤ 256 }
-    requires radius { radius ≤ 8 }
+    requires x { middle.x ≤ WIDEST_SIDE }
+    requires y { middle.y ≤ WIDEST_SIDE }
+    requires radius { radius ≤ MOST_SPEED }
     requires middle { IsTrue (is_open grid.now middle) }
     ensures { ShowsWalk grid.now middle radius radius result }
 {
@@ -143,9 +147,9 @@ fn walk_rows(grid: &Grid, middle: Cell, radius: u16) -> Rows
 
 /// Whether a walk of this many steps over open cells leads from `from` to `to`.
 pub(crate) fn leads(grid: &Grid, from: Cell, to: Cell, steps: u16) -> bool
-    requires x { from.x ≤ 256 }
-    requires y { from.y ≤ 256 }
-    requires steps { steps ≤ 8 }
+    requires x { from.x ≤ WIDEST_SIDE }
+    requires y { from.y ≤ WIDEST_SIDE }
+    requires steps { steps ≤ MOST_SPEED }
     requires from { IsTrue (is_open grid.now from) }
     ensures { result ≡ has_cell (walked grid.now steps (from ∷ [])) to }
 {
