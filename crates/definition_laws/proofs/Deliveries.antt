@@ -9,7 +9,7 @@ use Rattle.definitions.specs.declared.openings.Nonce.{Nonce}
 use Rattle.definitions.specs.declared.frames.TurnFrame.{TurnFrame}
 use Rattle.definitions.specs.declared.logs.Entry.{Entry}
 use Rattle.definitions.specs.declared.logs.Entry.TheVariants.{Chose, Got, Made}
-use Rattle.definitions.specs.Lists.{EachIs, is_empty}
+use Rattle.definitions.specs.Lists.{EachIs}
 use Rattle.definitions.specs.World.{Game}
 use Rattle.definitions.specs.Moves.{is_legal}
 use Rattle.definitions.specs.Logs.{chosen, frame_eq, got_in, got_of, made, made_in}
@@ -19,7 +19,7 @@ use Rattle.definitions.specs.Advance.{advance, advance_by, next_made, with_made}
 use Rattle.definitions.specs.Steps.{AreAuthentic, Choose, Deliver, Hostile, IsMadeIn, Logs, Step, Stop, after, after_choice, after_got, after_stop, has_log, has_no_made, is_taken_in, log_after_frame, log_of, made_at, run, with_log}
 use Rattle.definition_laws.specs.Members.{Has}
 use Rattle.definition_laws.proofs.Alike.{frame_eq_same, frame_eq_true}
-use Rattle.definition_laws.proofs.Listing.{append_nil, flat_map_append}
+use Rattle.definition_laws.proofs.Listing.{append_nil, flat_map_append, empty_nil}
 use Rattle.definition_laws.proofs.Members.{Has_append, Has_each, Has_front, each_Has, slice_get_Has}
 use Rattle.definition_laws.proofs.Stepping.{log_of_set}
 
@@ -122,10 +122,6 @@ follows_got logs game me q h f ours = go (is_taken_in game me h q f)
     go : (b : Bool) → Follows logs h (if b then advance game me (h ++ Got q f ∷ []) else h)
     go true = follows_on logs h (h ++ Got q f ∷ []) _ pushed (follows_advance logs game me (h ++ Got q f ∷ []))
     go false = follows_same logs h
-
-empty_nil : {X : Type 0} (xs : List X) → is_empty xs ≡ true → xs ≡ []
-empty_nil [] h = refl
-empty_nil (x ∷ xs) h = absurd (false≢true h)
 
 -- a log that is cut where no made entry goes
 follows_stop : (logs : Logs) (game : Game) (me keep : ℕ) (h : List Entry) → Follows logs h (after_stop game me h keep)

@@ -11,17 +11,12 @@ use Rattle.definitions.specs.Lists.{EachIs}
 use Rattle.definitions.specs.World.{Game}
 use Rattle.definitions.specs.Logs.{frames_of}
 use Rattle.definitions.specs.Held.{Known, first_commit, first_opening, held, known, known_to, next_known, opened, opening_of, resolved, with_commit, with_move}
-use Rattle.definition_laws.proofs.Listing.{slice_get_front, slice_get_push}
+use Rattle.definition_laws.proofs.Listing.{slice_get_front, slice_get_push, take_front}
 use Rattle.definition_laws.proofs.Nexts.{first_of_stands}
 
 -- each move is the first that opens the digest of its turn, legal after those before
 abbrev AreFirst : Game → ℕ → List TurnFrame → Known → Type 0
 AreFirst game q fs k = (t : ℕ) (m : Move) → slice_get k.moves t ≡ Some m → (d : Digest) × (slice_get k.digests t ≡ Some d) × (first_opening game q (take t k.moves) d fs t ≡ Some m)
-
-take_whole : {X : Type 0} (xs ys : List X) → take (length xs) (xs ++ ys) ≡ xs
-take_whole {X} [] [] = refl
-take_whole {X} [] (y ∷ ys) = refl
-take_whole {X} (x ∷ xs) ys = ap (λ (zs : List X). x ∷ zs) (take_whole xs ys)
 
 commit_first : (game : Game) (q : ℕ) (fs : List TurnFrame) (k : Known) (o : Option Digest) → AreFirst game q fs k → AreFirst game q fs (with_commit k o)
 commit_first game q fs k None w t m h = w t m h
@@ -45,7 +40,7 @@ move_first game q fs k (Some d) e w t m h = go (first_opening game q k.moves d f
             let front : take t (k.moves ++ n ∷ []) ≡ take t k.moves = take-append-le t k.moves (n ∷ []) (omega arith) in
             (r.0, r.1, ap (λ (ms : List Move). first_opening game q ms r.0 fs t) front ∙ r.2)
         at (inr b) =
-            let front : take t (k.moves ++ n ∷ []) ≡ k.moves = ap (λ (i : ℕ). take i (k.moves ++ n ∷ [])) b.0 ∙ take_whole k.moves (n ∷ []) in (
+            let front : take t (k.moves ++ n ∷ []) ≡ k.moves = ap (λ (i : ℕ). take i (k.moves ++ n ∷ [])) b.0 ∙ take_front k.moves (n ∷ []) in (
               d,
               ap (slice_get k.digests) b.0 ∙ e,
               ap (λ (ms : List Move). first_opening game q ms d fs t) front ∙ ap (first_opening game q k.moves d fs) b.0 ∙ f ∙ ap (λ (x : Move). Some x) b.1,

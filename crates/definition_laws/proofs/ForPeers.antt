@@ -361,7 +361,7 @@ clean_without_got game h none =
     (λ q. flat_map_none (λ t. filter_map (finding_at game (h ∷ []) q t) kinds) (range_with_len 0 game.turns)
     (λ t. filter_map_none (finding_at game (h ∷ []) q t) kinds (λ kind. no_finding_of game q t h kind (none q)))))
 
-known_of_none : (game : Game) (q n : ℕ) → known_to game q [] n ≡ record { digests = []; moves = [] }
+pub known_of_none : (game : Game) (q n : ℕ) → known_to game q [] n ≡ record { digests = []; moves = [] }
 unfolding known_to next_known
 known_of_none game q zero = refl
 known_of_none game q (suc n) =

@@ -58,7 +58,7 @@ choice_grows : (k l m : Known) (b : Bool) → IsBeginning k l → IsBeginning k 
 choice_grows k l m true p q = p
 choice_grows k l m false p q = q
 
-next_grows : (game : Game) (q : ℕ) (fs : List TurnFrame) (k : Known) → IsBeginning k (next_known game q fs k)
+pub next_grows : (game : Game) (q : ℕ) (fs : List TurnFrame) (k : Known) → IsBeginning k (next_known game q fs k)
 unfolding next_known
 next_grows game q fs k =
     choice_grows k _ _ (nat_lt (length k.digests) (min (length k.moves + game.ahead) game.turns)) (commit_grows k _)

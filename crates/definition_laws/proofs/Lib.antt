@@ -38,3 +38,7 @@ pub mod Innocent
 pub mod Authentic
 pub mod Rows
 pub mod ForPeers
+pub mod Alone
+pub mod FirstFinding
+pub mod Room
+pub mod Replied

@@ -5,7 +5,7 @@ use Rattle.std.proofs.lemmas.List.{map-append}
 use Rattle.std.specs.Prelude.{Option, cond, filter_map, find, flat_map, if◌then◌else◌, is_none, is_some, map, not, slice_get, take, ◌||◌}
 use Rattle.std.proofs.lemmas.Bool.{and_from, and_parts, false≢true, or_left, or_right}
 use Rattle.std.specs.List.{list_all}
-use Rattle.definitions.specs.Lists.{EachIs}
+use Rattle.definitions.specs.Lists.{EachIs, is_empty}
 
 pub EachIs_append : {X : Type 0} (P : X → Type 0) (xs ys : List X) → EachIs P xs → EachIs P ys → EachIs P (xs ++ ys)
 EachIs_append P [] ys h k = k
@@ -154,3 +154,19 @@ EachIs_filter_map {Y = Y} P g (x ∷ xs) h = go (g x) refl (EachIs_filter_map P 
 pub EachIs_flat_map : {X Y : Type 0} (P : Y → Type 0) (f : X → List Y) (xs : List X) → ((x : X) → EachIs P (f x)) → EachIs P (flat_map f xs)
 EachIs_flat_map P f [] h = tt
 EachIs_flat_map P f (x ∷ xs) h = EachIs_append P (f x) (flat_map f xs) (h x) (EachIs_flat_map P f xs h)
+
+-- an empty list, by its test
+pub empty_nil : {X : Type 0} (xs : List X) → is_empty xs ≡ true → xs ≡ []
+empty_nil [] h = refl
+empty_nil (x ∷ xs) h = absurd (false≢true h)
+
+-- the item that was added last
+pub slice_get_last : {X : Type 0} (xs : List X) (x : X) → slice_get (xs ++ x ∷ []) (length xs) ≡ Some x
+slice_get_last [] x = refl
+slice_get_last (y ∷ ys) x = slice_get_last ys x
+
+-- the front of a joined list
+pub take_front : {X : Type 0} (xs ys : List X) → take (length xs) (xs ++ ys) ≡ xs
+take_front {X} [] [] = refl
+take_front {X} [] (y ∷ ys) = refl
+take_front {X} (x ∷ xs) ys = ap (λ (zs : List X). x ∷ zs) (take_front xs ys)

@@ -40,11 +40,11 @@ kind_alike game q t g h BadOpening a b w = refl
 kind_alike game q t g h Collision a b w = refl
 kind_alike game q t g h Illegal a b w = rw (illegal_alike game q t g h a b w, illegal_alike game q t g h b a w) refl
 
-find_alike : {X : Type 0} (p p' : X → Bool) (xs : List X) → ((x : X) → p x ≡ p' x) → find p xs ≡ find p' xs
+pub find_alike : {X : Type 0} (p p' : X → Bool) (xs : List X) → ((x : X) → p x ≡ p' x) → find p xs ≡ find p' xs
 find_alike p p' [] h = refl
 find_alike p p' (x ∷ xs) h = rw (h x, find_alike p p' xs h) refl
 
-pair_alike : {X : Type 0} (test test' : X → X → Bool) (xs : List X) → ((x y : X) → test x y ≡ test' x y) → first_pair test xs ≡ first_pair test' xs
+pub pair_alike : {X : Type 0} (test test' : X → X → Bool) (xs : List X) → ((x y : X) → test x y ≡ test' x y) → first_pair test xs ≡ first_pair test' xs
 unfolding first_pair
 pair_alike test test' [] h = refl
 pair_alike test test' (x ∷ xs) h = rw (find_alike (test x) (test' x) xs (h x), pair_alike test test' xs h) refl

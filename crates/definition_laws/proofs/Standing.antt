@@ -27,14 +27,10 @@ use Rattle.definition_laws.specs.Advancing.{ExactlyOne, IsDone}
 use Rattle.definition_laws.proofs.Advances.{advance_ends, advance_honest}
 use Rattle.definition_laws.proofs.Chosen.{made_count_push}
 use Rattle.definition_laws.proofs.ForPeers.{OwnCounts, advance_step, advance_still, chosen_for_item, next_made_only, own_counts}
-use Rattle.definition_laws.proofs.Listing.{none_past}
+use Rattle.definition_laws.proofs.Listing.{none_past, empty_nil}
 use Rattle.definition_laws.proofs.Order.{reveal_turn}
 use Rattle.definition_laws.proofs.Silent.{clean_advance}
 use Rattle.definition_laws.proofs.Waits.{next_commit_allowed, next_reveal_allowed}
-
-empty_nil : {X : Type 0} (xs : List X) → is_empty xs ≡ true → xs ≡ []
-empty_nil [] h = refl
-empty_nil (x ∷ xs) h = absurd (false≢true h)
 
 -- no place of the session is without a frame
 pub past_end : (game : Game) (n : ℕ) → 1 ≤ game.ahead → slot_at game n ≡ None → 2 * game.turns ≤ n

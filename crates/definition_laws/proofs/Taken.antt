@@ -1,5 +1,5 @@
 -- Taken: a new frame of a place that the log has already is caught.
-use Rattle.std.proofs.Common.{Bool, List, Some, [], ap, arith, false, inl, inr, refl, sym, true, ℕ, ◌++◌, ◌<◌, ◌∙◌, ◌∷◌, ◌≡◌, ◌≤◌, ◌⊎◌, length, slice_get}
+use Rattle.std.proofs.Common.{Bool, List, Some, [], ap, arith, false, inl, inr, refl, sym, true, ℕ, ◌++◌, ◌<◌, ◌∙◌, ◌∷◌, ◌≡◌, ◌≤◌, ◌⊎◌, length}
 use Rattle.std.specs.Prelude.{not, ◌&&◌, ◌||◌, ◌==◌}
 use Rattle.std.specs.List.{list_any}
 use Rattle.std.proofs.lemmas.Bool.{ltb-true, and_from, and_parts, cases_Bool, cond-false, eq-eqb, eqb-true, false≢true, false_from_ne_true}
@@ -25,7 +25,7 @@ use Rattle.definition_laws.specs.Spots.{IsSighting, SpotBefore}
 use Rattle.definition_laws.proofs.Alike.{digest_eq_same, digest_eq_true, frame_eq_same, frame_eq_true}
 use Rattle.definition_laws.proofs.Least.{Has_findings, found_some, pair_none, seen_strict}
 use Rattle.definition_laws.proofs.Listed.{finding_at_kind}
-use Rattle.definition_laws.proofs.Listing.{slice_get_front}
+use Rattle.definition_laws.proofs.Listing.{slice_get_front, slice_get_last}
 use Rattle.definition_laws.proofs.Members.{Has_slice_get}
 use Rattle.definition_laws.proofs.Sighted.{SeenBefore, sighting_is_seen, sightings_sorted}
 use Rattle.definition_laws.proofs.WellFormed.{new_turn, not_true, well_got}
@@ -89,10 +89,6 @@ list_any_none_Has {X} p (y ∷ ys) x h m = go (p y) refl h m (list_any_none_Has 
 second_false : (a b : Bool) → a ≡ true → (a && b) ≡ false → b ≡ false
 second_false a b x y = grind (arith, x)
 
-last_at : {X : Type 0} (xs : List X) (x : X) → slice_get (xs ++ x ∷ []) (length xs) ≡ Some x
-last_at [] x = refl
-last_at (y ∷ ys) x = last_at ys x
-
 first_Has : {X : Type 0} (xs : List X) (x : X) → Has xs x → (y : X) × (ys : List X) × (xs ≡ y ∷ ys)
 first_Has [] x m = absurd m
 first_Has (y ∷ ys) x m = (y, ys, refl)
@@ -117,7 +113,7 @@ taken_is_found game me q h f g ahead all another new has place =
     let shown = two_frames game q (turn_of f) logs a b f g refl refl player one.0 one.1 apart in
     let found = shown_is_found game logs q (turn_of f) shown.0 a b
     (record { log = h ++ Got q f ∷ []; there = refl; got = slice_get_front h (Got q f ∷ []) at.0 (Got q g) at.1; turn = sym one.0 })
-    (record { log = h ++ Got q f ∷ []; there = refl; got = last_at h (Got q f); turn = refl })
+    (record { log = h ++ Got q f ∷ []; there = refl; got = slice_get_last h (Got q f); turn = refl })
     (inr (refl, slice_get_within h at.0 (Got q g) at.1)) shown.1 in
     let of = finding_at_kind game logs q (turn_of f) shown.0 found.0 found.1 in
     (found.0, Has_findings game logs q (turn_of f) shown.0 found.0 (ltb-true _ _ (and_parts _ _ tests.0).0) lt found.1, of.0, of.1)

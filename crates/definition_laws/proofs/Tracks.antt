@@ -7,7 +7,7 @@ use Rattle.definitions.specs.declared.openings.Digest.{Digest}
 use Rattle.definitions.specs.declared.world.Cell.{Cell}
 use Rattle.definitions.specs.Moves.{are_legal_from, is_legal, next_track, start_track, strike_fault, track_after, track_from}
 use Rattle.definitions.specs.declared.frames.TurnFrame.TheVariants.{Commit, Reveal}
-use Rattle.definitions.specs.Held.{Known, first_opening, known_to, next_known, opened, with_commit, with_move}
+use Rattle.definitions.specs.Held.{Known, first_opening, known_to, next_known, opened, with_commit, with_move, known}
 use Rattle.definitions.specs.World.{Game, Ground, has_cell, is_inside, is_open, is_wall, seat_of}
 use Rattle.definitions.specs.declared.frames.TurnFrame.{TurnFrame}
 use Rattle.definitions.specs.Walk.{in_reach, is_step, walked}
@@ -16,6 +16,8 @@ use Rattle.definitions.specs.declared.world.Move.{Move}
 use Rattle.definitions.specs.declared.world.MoveFault.{MoveFault}
 use Rattle.definitions.proofs.Walks.{Walk-from, has-begun, has-stepped, walked_open}
 use Rattle.definitions.proofs.Cells.{any-cell, any-from, cell_eq-same}
+use Rattle.definitions.specs.Logs.{frames_of}
+use Rattle.definitions.specs.declared.logs.Entry.{Entry}
 
 pub track_from_append : (game : Game) (tr : Track) (xs ys : List Move) → track_from game tr (xs ++ ys) ≡ track_from game (track_from game tr xs) ys
 track_from_append game tr [] ys = refl
@@ -114,3 +116,20 @@ pub known_to_legal : (game : Game) (q : ℕ) (fs : List TurnFrame) (n : ℕ) →
 unfolding known_to AreKnownLegal
 known_to_legal game q fs zero = refl
 known_to_legal game q fs (suc n) = next_known_legal game q fs _ (known_to_legal game q fs n)
+
+-- legal moves lead from an open cell to an open cell
+pub moves_open : (game : Game) (q : ℕ) (track : Track) (ms : List Move) → is_open game.grid track.at ≡ true → are_legal_from game q track ms ≡ true →
+    is_open game.grid (track_from game track ms).at ≡ true
+moves_open game q track [] o h = o
+moves_open game q track (m ∷ ms) o h =
+    let both = and_parts (is_legal game q track m) (are_legal_from game q (next_track game track m) ms) h in
+    moves_open game q (next_track game track m) ms (walked_open game.grid _ _ _ (legal_in_reach game q track m both.0)) both.1
+
+-- where a player stands after the moves that frames show of it is open, if its start is
+pub known_to_open : (game : Game) (q n : ℕ) (fs : List TurnFrame) → is_open game.grid (seat_of game q).start ≡ true → is_open game.grid (track_after game q (known_to game q fs n).moves).at ≡ true
+unfolding AreKnownLegal
+known_to_open game q n fs start = moves_open game q (start_track game q) (known_to game q fs n).moves start (known_to_legal game q fs n)
+
+pub known_open : (game : Game) (me q : ℕ) (h : List Entry) → is_open game.grid (seat_of game q).start ≡ true → is_open game.grid (track_after game q (known game me h q).moves).at ≡ true
+unfolding known
+known_open game me q h start = known_to_open game q (2 * game.turns) (frames_of me q h) start

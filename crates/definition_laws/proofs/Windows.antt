@@ -25,7 +25,7 @@ steps_to game q fs zero m = ap (known_to game q fs) (sym (zero-add m))
 steps_to game q fs (suc n) m = ap (next_known game q fs) (steps_to game q fs n m) ∙ ap (known_to game q fs) (sym (suc-add n m))
 
 -- what n steps show is shown by as many steps as places are there
-at_places : (game : Game) (q : ℕ) (fs : List TurnFrame) (n : ℕ) → known_to game q fs (places_in (known_to game q fs n)) ≡ known_to game q fs n
+pub at_places : (game : Game) (q : ℕ) (fs : List TurnFrame) (n : ℕ) → known_to game q fs (places_in (known_to game q fs n)) ≡ known_to game q fs n
 unfolding known_to
 at_places game q fs zero = refl
 at_places game q fs (suc n) = go (next_place_or game q fs (known_to game q fs n)) (places_or_stuck game q fs n) (at_places game q fs n)
@@ -39,14 +39,14 @@ at_places game q fs (suc n) = go (next_place_or game q fs (known_to game q fs n)
     go (inl more) (inl all) ih = let whole : places_in (next_known game q fs (known_to game q fs n)) ≡ suc n = omega arith in ap (known_to game q fs) whole
 
 -- what was known before is shown by the longer list too, at as many places
-before_known : (game : Game) (q : ℕ) (fs gs : List TurnFrame) →
+pub before_known : (game : Game) (q : ℕ) (fs gs : List TurnFrame) →
     known_to game q (fs ++ gs) (places_in (known_to game q fs (2 * game.turns))) ≡ known_to game q fs (2 * game.turns)
 before_known game q fs gs =
     let there = at_places game q fs (2 * game.turns) in
     sym (known_to_more game q fs gs (places_in (known_to game q fs (2 * game.turns))) (ap places_in there)) ∙ there
 
 -- a stream that is stuck after any number of places is whole
-stuck_whole : (game : Game) (q : ℕ) (fs : List TurnFrame) (m : ℕ) → next_known game q fs (known_to game q fs m) ≡ known_to game q fs m → known_to game q fs (2 * game.turns) ≡ known_to game q fs m
+pub stuck_whole : (game : Game) (q : ℕ) (fs : List TurnFrame) (m : ℕ) → next_known game q fs (known_to game q fs m) ≡ known_to game q fs m → known_to game q fs (2 * game.turns) ≡ known_to game q fs m
 stuck_whole game q fs m stuck = go (cases_lt m (2 * game.turns))
   where
     go : (m < 2 * game.turns) ⊎ (2 * game.turns ≤ m) → known_to game q fs (2 * game.turns) ≡ known_to game q fs m

@@ -14,3 +14,6 @@ pub mod Stepping
 pub mod Accusing
 pub mod Groups
 pub mod Rows
+pub mod First
+pub mod Fits
+pub mod Replies

@@ -17,6 +17,8 @@ ghost use Rattle.definition_laws.specs.Answering.{FarIsPastTheWindow, SameStands
 ghost use Rattle.definition_laws.specs.Groups.{WaitedForAreBehind, AllThatCameCounts, NoGroupWaitsForItself};
 ghost use Rattle.definition_laws.specs.Stepping.{StepsKeepHonest, RunsKeepHonest, SessionsBeginHonest, SessionsKeepHonest, SessionsKeepAuthentic};
 ghost use Rattle.definition_laws.specs.Accusing.{FindingsAreListed, FindingsAreTheLeastPairs, DifferentMovesAreFound, CollisionsAreTwoStrings, HonestPlayersAreNotNamed, AcceptedMovesAreChosen};
+ghost use Rattle.definition_laws.specs.Fits.{CleanLogsFit, LogsFit, RoomIsSmall};
+ghost use Rattle.definition_laws.specs.Replies.{StepsAreTheAnswer};
 ghost use Rattle.definition_laws.specs.Rows.{RefusesMovesByCause, BeginsWithAChoice, LogsChoiceCommitmentReveal, PlaysBlindUntilSpheresMeet, WaitsWhereSpheresMeet, GoesWhereSpheresAreApart, WallsKeepSpheresApart, RunnersAreWaitedForSooner, CommitsTwoAhead, EndsDone, TakesAFrameOnce, StashesWhatComesEarly, KeepsAWindowOfEight, GoesOnWhenTheOtherIsKnown, StrikesCostCharge, TakesCommitmentsAhead, CatchesTwoCommitments, CatchesBadOpenings, CatchesIllegalMoves, FindsTwoFaces};
 
 /// What the reaching test means.
@@ -125,6 +127,18 @@ pub fn answers()
     ensures new { NewFramesAreTakenOrStashed }
     ensures caught { TakenPlacesAreCaught }
     ensures joins { JoinsAsAnswered }
+{}
+
+/// What a refusal and the answer to a frame that was taken in say together.
+pub fn replies()
+    ensures { StepsAreTheAnswer }
+{}
+
+/// How many entries an honest log has at most.
+pub fn logs_fit()
+    ensures clean { CleanLogsFit }
+    ensures one_more { LogsFit }
+    ensures small { RoomIsSmall }
 {}
 
 /// What may happen to honest logs.

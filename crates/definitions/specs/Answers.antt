@@ -20,9 +20,13 @@ unfoldable pub place_of : Game → TurnFrame → ℕ
 place_of game (Commit p t d) = commit_place game t
 place_of game (Reveal p t m n) = reveal_place game t
 
--- the frame's place is past the window
+-- the frame's place is past the window that begins at the next place, or past the last turn
+abbrev pub is_beyond : Game → ℕ → TurnFrame → Bool
+is_beyond game next f = nat_lt (next + WINDOW) (place_of game f) || nat_le (2 * game.turns) (place_of game f)
+
+-- the frame's place is past the window of its player
 unfoldable pub is_far : Game → ℕ → List Entry → ℕ → TurnFrame → Bool
-is_far game me h q f = nat_lt (next_place game me h q + WINDOW) (place_of game f) || nat_le (2 * game.turns) (place_of game f)
+is_far game me h q f = is_beyond game (next_place game me h q) f
 
 -- the log has got the frame from the player
 unfoldable pub is_same : List Entry → ℕ → TurnFrame → Bool

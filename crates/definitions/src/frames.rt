@@ -1,5 +1,7 @@
 //! The frames of a player's stream: for each turn a commitment and a reveal.
 
+ghost use Rattle.std.specs.Prelude.{◌≡◌};
+
 use crate::openings::{Digest, Nonce};
 use crate::world::{Move, PlayerId, Turn};
 
@@ -19,6 +21,30 @@ pub enum TurnFrame {
         mv: Move,
         nonce: Nonce,
     },
+}
+
+impl TurnFrame {
+    ghost use Rattle.definitions.specs.Logs as L;
+
+    /// The player whose frame it is.
+    pub fn player(&self) -> PlayerId
+        ensures { result ≡ L.player_of self.now }
+    {
+        match *self {
+            TurnFrame::Commit { player, .. } => player,
+            TurnFrame::Reveal { player, .. } => player,
+        }
+    }
+
+    /// The turn of which it is.
+    pub fn turn(&self) -> Turn
+        ensures { result ≡ L.turn_of self.now }
+    {
+        match *self {
+            TurnFrame::Commit { turn, .. } => turn,
+            TurnFrame::Reveal { turn, .. } => turn,
+        }
+    }
 }
 
 /// Which of a turn's two frames.

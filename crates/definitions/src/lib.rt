@@ -2,8 +2,8 @@
 //! protocol, after Baughman and Levine, "Cheat-Proof Playout for Centralized and Distributed Online Games" (INFOCOM
 //! 2001).
 //!
-//! The data is `Copy` with public fields and does nothing by itself: the crate promises no behaviour, touches nothing
-//! outside, and takes no memory. Each limit has one name, in `limits`, which contracts cite too. What the words of the
+//! The data is `Copy` with public fields, and all that it does by itself is that a frame tells its player and its turn. The
+//! crate touches nothing outside, and takes no memory. Each limit has one name, in `limits`, which contracts cite too. What the words of the
 //! data mean is said in `specs/`, one subject a file: the grid world, walks,
 //! spheres of influence, legal moves, openings and their commitments, places in a stream, logs, what a log knows of a
 //! player, who meets whom, what a peer may do and whom it waits for, findings, answers, and steps. Laws about them stand

@@ -1,4 +1,4 @@
-//! The places of a player's frames in its stream.
+//! A player's frames in its stream: their places, and which frame stands at a place.
 
 ghost use Rattle.std.specs.Prelude.{◌≡◌, ◌<◌, ◌≤◌, ◌*◌};
 ghost use Rattle.definitions.specs.Places as P;
@@ -6,7 +6,8 @@ ghost use Rattle.definitions.specs.Answers as A;
 ghost use Rattle.grid_world.specs.Places as S;
 
 use crate::session::Session;
-use definitions::{FramePlace, Place, Slot, Turn, TurnFrame, What};
+use definitions::limits::WINDOW;
+use definitions::{FramePlace, Place, PlayerId, Slot, Turn, TurnFrame, What};
 
 /// The slot of a turn's commitment.
 fn commitment_of(turn: Turn) -> Option<Slot>
@@ -70,6 +71,22 @@ impl Session {
                 }
             }
         }
+    }
+
+    /// Whether the frame's place is past the window of the places from the next one on, or past the last turn.
+    pub fn is_beyond(&self, next: Place, frame: &TurnFrame) -> bool
+        ensures { result ≡ A.is_beyond self.now next frame.now }
+    {
+        let place = self.place_of(frame);
+        place > FramePlace::from(next) + FramePlace::from(WINDOW)
+            || place >= 2 * FramePlace::from(self.turns())
+    }
+
+    /// Whether the frame is one of the player's own, and the player another one of the session than `me`.
+    pub fn is_of_another(&self, me: PlayerId, player: PlayerId, frame: &TurnFrame) -> bool
+        ensures { result ≡ A.is_of_another self.now me player frame.now }
+    {
+        player < self.players() && player != me && frame.player() == player
     }
 
     /// Which frame stands at the place. None comes exactly where the place is past the last turn's reveal.

@@ -2,10 +2,6 @@ pub mod Scanned
 pub mod Placed
 pub mod Opened
 pub mod Shown
-pub mod Counted
 pub mod Spotted
 pub mod Judged
 pub mod Cased
-pub mod First
-pub mod Replied
-pub mod Received

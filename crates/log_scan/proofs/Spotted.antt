@@ -13,6 +13,7 @@ use Rattle.definitions.specs.declared.findings.Spot.{Spot}
 use Rattle.definitions.specs.declared.findings.Finding.{Finding}
 use Rattle.definitions.specs.Logs.{turn_of}
 use Rattle.definitions.specs.Findings.{Sighting, sighting_at, sightings_from, is_commit, first_pair, finding_of}
+use Rattle.definition_laws.proofs.Alone.{pair_found}
 use Rattle.log_scan.specs.Cases.{commit_entry, second_spot}
 use Rattle.log_scan.proofs.Scanned.{drop_past}
 
@@ -89,10 +90,6 @@ find_later test q t i e later =
     go : (s : Sighting) (b : Bool) → (b || false) ≡ false → option_map (λ b. b.spot) (cond b (Some s) (find test later)) ≡ spot_found test later
     go s true h = absurd (false≢true (sym h))
     go s false h = refl
-
--- the finding of the first pair that passes
-abbrev pub pair_found : ℕ → ℕ → Kind → (Sighting → Sighting → Bool) → List Sighting → Option Finding
-pair_found q t k test ss = option_map (finding_of q t k) (first_pair test ss)
 
 pair_here : (test : Sighting → Sighting → Bool) (q t i : ℕ) (k : Kind) (e : Entry) (later : List Sighting) (spot : Spot) → second_spot test (sighting_at q t 0 i e) later ≡ Some spot →
     pair_found q t k test (sighting_at q t 0 i e ++ later) ≡ Some (record { player = q; turn = t; kind = k; first = record { log = 0; entry = i }; second = spot })

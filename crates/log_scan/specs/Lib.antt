@@ -1,6 +1,3 @@
 pub mod Frames
 pub mod Streams
-pub mod Fits
 pub mod Cases
-pub mod First
-pub mod Replies

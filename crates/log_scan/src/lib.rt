@@ -8,7 +8,6 @@
 mod cases;
 mod findings;
 mod frames;
-pub mod laws;
 mod places;
 mod replies;
 mod sights;

@@ -3,7 +3,6 @@
 ghost use Rattle.std.specs.Prelude.{◌≡◌, ◌<◌, ◌↔◌, IsTrue};
 ghost use Rattle.definitions.specs.World.{players_of, is_open};
 ghost use Rattle.definitions.specs.Openings.{commitment};
-ghost use Rattle.move_rules.specs.Verdicts.{size_of};
 ghost use Rattle.reveal_check.specs.Judgements.{judgement};
 
 use commitment::opens;
@@ -33,12 +32,10 @@ pub fn check(
     digest: &Digest,
     opening: &Opening,
 ) -> Verdict
-    requires size { walker.old ≡ size_of session.now.grid }
     requires player { opening.now.player < players_of session.now }
     requires track { IsTrue (is_open session.now.grid track.now.at) }
     ensures verdict { result ≡ judgement session.now track.now digest.now opening.now }
     ensures bad_opening { (result ≡ Verdict.BadOpening) ↔ (digest.now ≡ commitment session.now.id opening.now → ⊥) }
-    ensures walker { walker.new ≡ walker.old }
 {
     if !opens(session.id(), opening, digest) {
         return Verdict::BadOpening;

@@ -1,10 +1,10 @@
 -- Fits: how many entries an honest log has at most.
 use Rattle.std.specs.Prelude.{ℕ, ◌+◌, ◌-◌, ◌*◌, ◌<◌, ◌≤◌, List, length, IsTrue}
 use Rattle.definitions.specs.declared.logs.Entry.{Entry}
+use Rattle.definitions.specs.declared.limits.TheConstants.{MOST_ENTRIES, MOST_PLAYERS, MOST_TURNS}
 use Rattle.definitions.specs.World.{Game, players_of}
 use Rattle.definitions.specs.Findings.{is_clean}
 use Rattle.definitions.specs.Honest.{IsHonest}
-use Rattle.grid_world.specs.Sessions.{IsSession}
 
 -- for each turn its choice and the owner's two frames, and two frames of each other player
 abbrev pub room_of : Game → ℕ
@@ -18,6 +18,6 @@ CleanLogsFit = (game : Game) (me : ℕ) (h : List Entry) → 1 ≤ game.ahead �
 abbrev pub LogsFit : Type 0
 LogsFit = (game : Game) (me : ℕ) (h : List Entry) → 1 ≤ game.ahead → me < players_of game → IsHonest game me h → length h ≤ room_of game + 1
 
--- and in a session of version 1 that is no more than this many
+-- and in the longest session with the most players that is no more than a known number
 abbrev pub RoomIsSmall : Type 0
-RoomIsSmall = (game : Game) → IsSession game → room_of game ≤ 135168
+RoomIsSmall = (game : Game) → game.turns ≤ MOST_TURNS → players_of game ≤ MOST_PLAYERS → room_of game ≤ MOST_ENTRIES

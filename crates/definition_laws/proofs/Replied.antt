@@ -1,7 +1,7 @@
 -- Replied: a refusal and the answer to a frame that was taken in are together the answer to a frame.
 use Rattle.std.proofs.Common.{◌≡◌, ℕ, ◌+◌, ◌-◌, List, [], ◌∷◌, ◌++◌, length, length-append, take, refl, Bool, true, false, sym, ◌∙◌, ap, arith, Option, Some, None}
 use Rattle.std.specs.Prelude.{◌==◌, ◌&&◌, ◌↔◌, not, slice_get, if◌then◌else◌}
-use Rattle.std.proofs.lemmas.Bool.{and_from, and_parts, false≢true}
+use Rattle.std.proofs.lemmas.Bool.{false≢true}
 use Rattle.definitions.specs.declared.frames.TurnFrame.{TurnFrame}
 use Rattle.definitions.specs.declared.logs.Entry.{Entry}
 use Rattle.definitions.specs.declared.logs.Entry.TheVariants.{Got}
@@ -11,11 +11,14 @@ use Rattle.definitions.specs.declared.answers.GotAnswer.TheVariants.{Taken, Stas
 use Rattle.definitions.specs.World.{Game}
 use Rattle.definitions.specs.Held.{next_place}
 use Rattle.definitions.specs.Findings.{findings, is_clean}
-use Rattle.definitions.specs.Answers.{got_answer, is_far, is_new, is_of_another, is_same, new_answer, place_of}
-use Rattle.definitions.specs.Honest.{allowed, allows}
+use Rattle.definitions.specs.Answers.{got_answer, is_far, is_of_another, is_same, new_answer, place_of}
 use Rattle.definitions.specs.Steps.{is_taken_in}
-use Rattle.log_scan.specs.First.{finding_of_log}
-use Rattle.log_scan.specs.Replies.{AreReplies, IsTaken, before_last, refusal}
+use Rattle.definitions.specs.Honest.{IsHonest}
+use Rattle.definition_laws.proofs.ForPeers.{honest_push}
+use Rattle.definition_laws.proofs.Listing.{take_front}
+use Rattle.definition_laws.proofs.Stepping.{taken_allowed}
+use Rattle.definition_laws.specs.First.{finding_of_log}
+use Rattle.definition_laws.specs.Replies.{AreReplies, IsTaken, before_last, refusal}
 
 -- the answer to a frame by the four tests, and the answer to a new one
 by_tests : (c a r s : Bool) (new : GotAnswer) → GotAnswer
@@ -97,18 +100,6 @@ taken_in : (game : Game) (me q : ℕ) (h : List Entry) (f : TurnFrame) → (is_t
 unfolding refused_by
 taken_in game me q h f = by_joins (is_clean game h) (is_of_another game me q f) (is_far game me h q f) (is_same h q f)
 
--- a frame that is taken in may stand in the log
-allowed_got : (game : Game) (me q : ℕ) (h : List Entry) (f : TurnFrame) → is_taken_in game me h q f ≡ true → allowed game me h (Got q f) ≡ true
-unfolding allows
-allowed_got game me q h f e =
-    let both = and_parts (is_clean game h && is_of_another game me q f) (is_new game me h q f) e in
-    let first = and_parts (is_clean game h) (is_of_another game me q f) both.0 in
-    and_from (is_clean game h) (is_of_another game me q f && is_new game me h q f) first.0 (and_from (is_of_another game me q f) (is_new game me h q f) first.1 both.1)
-
-take_front : {X : Type 0} (xs ys : List X) → take (length xs) (xs ++ ys) ≡ xs
-take_front [] ys = refl
-take_front (x ∷ xs) ys = ap (λ zs. x ∷ zs) (take_front xs ys)
-
 -- what stood before the entry that was added last
 pub before_pushed : (h : List Entry) (e : Entry) → before_last (h ++ e ∷ []) ≡ h
 before_pushed h e =
@@ -120,10 +111,14 @@ pub replies : (game : Game) (me q : ℕ) (h : List Entry) (f : TurnFrame) → Ar
 replies game me q h f = record {
   refused = λ a some. answer_refused game me q h f a some;
   joins = taken_in game me q h f;
-  allowed = λ none. allowed_got game me q h f ((taken_in game me q h f).1 none);
+  allowed = λ none. taken_allowed game me q h f ((taken_in game me q h f).1 none);
   taken = λ none. record {
     stands = ap (λ (x : List Entry). x ++ Got q f ∷ []) (sym (before_pushed h (Got q f)));
     new = ap (λ (x : List Entry). refusal game me x q f) (before_pushed h (Got q f)) ∙ none;
   };
   before = before_pushed h (Got q f);
 }
+
+-- the log with a frame that is taken in is honest
+pub log_stays_honest : (game : Game) (me q : ℕ) (h : List Entry) (f : TurnFrame) → IsHonest game me h → refusal game me h q f ≡ None → IsHonest game me (h ++ Got q f ∷ [])
+log_stays_honest game me q h f i none = honest_push game me h (Got q f) i ((replies game me q h f).allowed none)

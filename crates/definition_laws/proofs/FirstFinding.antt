@@ -1,4 +1,4 @@
--- First: a log that got a frame last and was clean before has findings of that frame's player alone.
+-- FirstFinding: a log that got a frame last and was clean before has findings of that frame's player alone.
 use Rattle.std.proofs.Common.{◌≡◌, ℕ, zero, suc, ◌+◌, ◌<◌, ◌≤◌, List, [], ◌∷◌, ◌++◌, refl, Bool, true, sym, ◌∙◌, ap, subst, arith, inl, inr, Option, Some, None}
 use Rattle.std.specs.Prelude.{◌==◌, ◌&&◌, filter_map, flat_map, min, is_none, is_some, slice_get, if◌then◌else◌}
 use Rattle.std.specs.List.{range_with_len}
@@ -16,9 +16,9 @@ use Rattle.definitions.specs.Findings.{Sighting, finding_at, findings, findings_
 use Rattle.definition_laws.specs.Members.{Has}
 use Rattle.definition_laws.proofs.Listing.{append_nil, flat_map_append}
 use Rattle.definition_laws.proofs.Least.{Has_findings}
-use Rattle.log_scan.specs.First.{IsGotBehind, finding_of_log, finding_of_turn}
-use Rattle.log_scan.proofs.Counted.{clean_none}
-use Rattle.log_scan.proofs.Judged.{finding_same, finding_unseen}
+use Rattle.definition_laws.specs.First.{IsGotBehind, finding_of_log, finding_of_turn}
+use Rattle.definition_laws.proofs.Room.{clean_none}
+use Rattle.definition_laws.proofs.Alone.{finding_same, finding_unseen}
 
 -- the first item of joined and of mapped lists
 head_append : {X : Type 0} (xs ys : List X) → slice_get (xs ++ ys) 0 ≡ option_or (slice_get xs 0) (slice_get ys 0)

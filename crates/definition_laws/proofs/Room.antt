@@ -1,4 +1,4 @@
--- Counted: the received frames of a clean honest log have places that all differ, so there are few of them.
+-- Room: the received frames of a clean honest log have places that all differ, so there are few of them.
 use Rattle.std.proofs.Common.{◌≡◌, ℕ, ◌+◌, ◌-◌, ◌*◌, ◌/◌, ◌≤◌, ◌<◌, List, [], ◌∷◌, ◌++◌, length, length-append, append_assoc, refl, true, false, sym, ◌∙◌, ap, subst, arith, inl, inr, ◌⊎◌}
 use Rattle.std.specs.Prelude.{◌==◌, not, flat_map, nat_lt, if◌then◌else◌}
 use Rattle.std.specs.List.{list_any, IsDistinct, AllByRecursion}
@@ -11,24 +11,22 @@ use Rattle.definitions.specs.declared.frames.TurnFrame.TheVariants.{Commit, Reve
 use Rattle.definitions.specs.declared.logs.Entry.{Entry}
 use Rattle.definitions.specs.declared.logs.Entry.TheVariants.{Chose, Made, Got}
 use Rattle.definitions.specs.declared.findings.Finding.{Finding}
-use Rattle.definitions.specs.Lists.{is_empty}
+use Rattle.definitions.specs.declared.limits.TheConstants.{MOST_ENTRIES, MOST_PLAYERS, MOST_TURNS}
 use Rattle.definitions.specs.World.{Game, players_of}
-use Rattle.definitions.specs.Logs.{made, chosen, frames_of, turn_of}
-use Rattle.definitions.specs.Held.{known}
+use Rattle.definitions.specs.Logs.{made, chosen, turn_of}
 use Rattle.definitions.specs.Findings.{findings, is_clean}
 use Rattle.definitions.specs.Answers.{is_of_another, place_of}
 use Rattle.definitions.specs.Entries.{AreWellFormed}
 use Rattle.definitions.specs.Honest.{IsHonest, allowed, allows, honest_from, made_count}
 use Rattle.definitions.proofs.Streams.{commit_place-fits, reveal_place-fits}
 use Rattle.definition_laws.specs.Members.{Has}
-use Rattle.definition_laws.proofs.ForPeers.{honest_push, honest_last, honest_empty, own_counts, own_next}
-use Rattle.definition_laws.proofs.Listing.{append_nil, flat_map_append}
+use Rattle.definition_laws.proofs.ForPeers.{honest_push, honest_last, honest_empty, own_counts}
+use Rattle.definition_laws.proofs.Listing.{append_nil, empty_nil, flat_map_append}
 use Rattle.definition_laws.proofs.Members.{flat_map_Has}
-use Rattle.definition_laws.proofs.Knowing.{places_in_le}
+use Rattle.definition_laws.proofs.Standing.{made_count_most}
 use Rattle.definition_laws.proofs.Taken.{taken_is_found}
 use Rattle.definition_laws.proofs.WellFormed.{honest_well_formed, well_got}
-use Rattle.grid_world.specs.Sessions.{IsSession}
-use Rattle.log_scan.specs.Fits.{room_of}
+use Rattle.definition_laws.specs.Fits.{room_of}
 
 -- the number of a player among the others
 rank : ℕ → ℕ → ℕ
@@ -82,7 +80,8 @@ row_same r s w p o h k e =
     let rows : r * w ≡ s * w = ap (λ n. n * w) same in
     (same, omega arith)
 
-other_player : (game : Game) (me q : ℕ) (f : TurnFrame) → is_of_another game me q f ≡ true → (q < players_of game) × (q ≡ me → ⊥)
+-- a frame of another player is one of a player of the session, and not the owner
+pub other_player : (game : Game) (me q : ℕ) (f : TurnFrame) → is_of_another game me q f ≡ true → (q < players_of game) × (q ≡ me → ⊥)
 other_player game me q f h =
     let tests = and_parts _ _ (and_parts _ _ h).0 in
     (ltb-true _ _ tests.0, λ e. false≢true (ap not (sym (eq-eqb q me e)) ∙ tests.1))
@@ -130,13 +129,9 @@ distinct_push [] y d none = (tt, tt)
 distinct_push (x ∷ xs) y d none =
     (all_push (λ z. (x == z) ≡ false) xs y d.0 (ne_eqb x y (λ e. none (inl e))), distinct_push xs y d.1 (λ m. none (inr m)))
 
-empty_is : {X : Type 0} (xs : List X) → is_empty xs ≡ true → xs ≡ []
-empty_is [] h = refl
-empty_is (x ∷ xs) h = absurd (false≢true h)
-
 pub clean_none : (game : Game) (h : List Entry) → is_clean game h ≡ true → findings game (h ∷ []) ≡ []
 unfolding is_clean
-clean_none game h e = empty_is (findings game (h ∷ [])) e
+clean_none game h e = empty_nil (findings game (h ∷ [])) e
 
 codes_push : (game : Game) (me : ℕ) (h : List Entry) (e : Entry) → codes game me (h ++ e ∷ []) ≡ codes game me h ++ (code_in game me e ++ [])
 unfolding codes
@@ -197,14 +192,6 @@ codes_few game me h ahead my i clean =
     length-le_from_distinct_below (codes game me h) ((players_of game - 1) * (2 * game.turns)) (codes_from game me [] h ahead (honest_empty game me) i clean (codes_none game me))
     (λ c m. code_below game me h c ahead my (honest_well_formed game me h ahead i) (any_Has (codes game me h) c m))
 
--- the owner's made frames are no more than its stream has places
-made_few : (game : Game) (me : ℕ) (h : List Entry) → 1 ≤ game.ahead → IsHonest game me h → made_count h ≤ 2 * game.turns
-unfolding known
-made_few game me h ahead i =
-    let few = places_in_le game me (frames_of me me h) (2 * game.turns) in
-    let same = own_next game me h ahead i in
-    omega arith
-
 -- each entry is a choice, a made frame or a received one
 length_parts : (game : Game) (me : ℕ) (h : List Entry) → length h ≡ length (chosen me h) + made_count h + length (codes game me h)
 unfolding chosen made codes
@@ -217,7 +204,7 @@ pub clean_logs_fit : (game : Game) (me : ℕ) (h : List Entry) → 1 ≤ game.ah
 clean_logs_fit game me h ahead my i clean =
     let parts = length_parts game me h in
     let few = (own_counts game me h ahead i).few in
-    let places = made_few game me h ahead i in
+    let places = made_count_most game me h ahead i in
     let got = codes_few game me h ahead my i clean in
     let turned : (players_of game - 1) * (2 * game.turns) ≡ 2 * game.turns * (players_of game - 1) = omega arith in
     omega arith
@@ -243,10 +230,9 @@ logs_fit game me h ahead my i = go (last_of h)
         let more = length-append r.0 (r.1 ∷ []) in
         omega arith
 
--- of 4096 turns and 16 players at most
-pub room_small : (game : Game) → IsSession game → room_of game ≤ 135168
-room_small game is =
-    let turns = is.turns in
-    let players = is.players in
-    let rows : 2 * game.turns * (players_of game - 1) ≤ 8192 * 15 = mul-le-mul {n₁ = 2 * game.turns} {m₁ = players_of game - 1} {n₂ = 8192} {m₂ = 15} (omega arith) (omega arith) in
+-- a session has so many turns and players at most
+pub room_small : (game : Game) → game.turns ≤ MOST_TURNS → players_of game ≤ MOST_PLAYERS → room_of game ≤ MOST_ENTRIES
+room_small game turns players =
+    let rows : 2 * game.turns * (players_of game - 1) ≤ 2 * MOST_TURNS * (MOST_PLAYERS - 1) =
+    mul-le-mul {n₁ = 2 * game.turns} {m₁ = players_of game - 1} {n₂ = 2 * MOST_TURNS} {m₂ = MOST_PLAYERS - 1} (omega arith) (omega arith) in
     omega arith
