@@ -1,0 +1,5 @@
+pub mod Placed
+pub mod Spotted
+pub mod Judged
+pub mod Cased
+pub mod Turned

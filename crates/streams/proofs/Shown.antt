@@ -1,0 +1,277 @@
+-- Shown: what is known of a stream one place further, where players commit one turn ahead.
+use Rattle.std.proofs.Common.{◌≡◌, ℕ, zero, suc, ◌+◌, ◌-◌, ◌*◌, ◌≤◌, ◌<◌, List, [], ◌∷◌, ◌++◌, length, length-append, refl, true, sym, ◌∙◌, ap, subst, arith, inl, inr, ◌⊎◌, Option, Some, None}
+use Rattle.std.specs.Prelude.{option_map, is_none, min, slice_get}
+use Rattle.std.proofs.lemmas.Bool.{and_parts, cases_lt}
+use Rattle.std.proofs.lemmas.Option.{slice_get_within}
+use Rattle.definitions.specs.declared.world.Move.{Move}
+use Rattle.definitions.specs.declared.world.Track.{Track}
+use Rattle.definitions.specs.declared.openings.Digest.{Digest}
+use Rattle.definitions.specs.declared.frames.TurnFrame.{TurnFrame}
+use Rattle.definitions.specs.World.{Game, players_of, is_open}
+use Rattle.definitions.specs.Moves.{is_legal, next_track, start_track, track_from, track_after, are_legal_from}
+use Rattle.definitions.specs.declared.logs.Entry.{Entry}
+use Rattle.definitions.specs.Logs.{frames_of}
+use Rattle.definitions.specs.Lists.{first_of}
+use Rattle.definitions.specs.Held.{Known, known, known_to, next_known, first_commit, opened, places_in, with_commit, with_move}
+use Rattle.definitions.proofs.Walks.{walked_open}
+use Rattle.definition_laws.proofs.Listing.{none_past}
+use Rattle.definition_laws.proofs.Knowing.{known_to_orderly, known_to_stuck, next_place_or, places_or_stuck, next_commit, next_reveal, next_end}
+use Rattle.definition_laws.proofs.Tracks.{AreKnownLegal, known_to_legal, legal_in_reach, track_from_append}
+use Rattle.grid_world.specs.Sessions.{IsSession}
+use Rattle.grid_world.proofs.Facts.{seat_open}
+use Rattle.streams.specs.declared.stream.Stream.{Stream}
+use Rattle.streams.specs.Frames.{opening_at}
+use Rattle.streams.specs.Streams.{stream_of, places_of, IsReadFrom, IsStream}
+use Rattle.streams.proofs.Opened.{first_opening_at}
+
+-- legal moves lead from an open cell to an open cell
+moves_open : (game : Game) (q : ℕ) (track : Track) (ms : List Move) → is_open game.grid track.at ≡ true → are_legal_from game q track ms ≡ true →
+    is_open game.grid (track_from game track ms).at ≡ true
+moves_open game q track [] o h = o
+moves_open game q track (m ∷ ms) o h =
+    let both = and_parts (is_legal game q track m) (are_legal_from game q (next_track game track m) ms) h in
+    moves_open game q (next_track game track m) ms (walked_open game.grid _ _ _ (legal_in_reach game q track m both.0)) both.1
+
+-- where a player stands after the moves that are known of it is open
+pub known_open : (game : Game) (q n : ℕ) (fs : List TurnFrame) → IsSession game → q < players_of game → is_open game.grid (track_after game q (known_to game q fs n).moves).at ≡ true
+unfolding AreKnownLegal
+known_open game q n fs is lt = moves_open game q (start_track game q) (known_to game q fs n).moves (seat_open game q is lt) (known_to_legal game q fs n)
+
+-- what holds of every stream
+pub stream_facts : (game : Game) (q n : ℕ) (fs : List TurnFrame) → IsSession game → q < players_of game → IsStream game (stream_of game q (known_to game q fs n))
+stream_facts game q n fs is lt =
+    let o = known_to_orderly game q fs n in
+    let within = o.within in
+    let turns = o.turns in
+    let one = is.ahead in
+    let most = is.turns in
+    record {
+      before = before o.least;
+      after = omega arith;
+      within = omega arith;
+      few = omega arith;
+      opens = known_open game q n fs is lt;
+    }
+  where
+    before : (length (known_to game q fs n).moves ≡ 0) ⊎ (min (length (known_to game q fs n).moves + game.ahead) (game.turns + 1) ≤ length (known_to game q fs n).digests + 1) →
+        length (known_to game q fs n).moves ≤ length (known_to game q fs n).digests
+    before (inl e) = omega arith
+    before (inr e) = let one = is.ahead in let turns = (known_to_orderly game q fs n).turns in omega arith
+
+-- no digest is due: the next place is that of a commitment, if any
+pub next_without : (game : Game) (q : ℕ) (fs : List TurnFrame) (k : Known) → IsStream game (stream_of game q k) → game.ahead ≡ 1 → slice_get k.digests (length k.moves) ≡ None →
+    length k.digests < game.turns → next_known game q fs k ≡ with_commit k (first_commit fs (length k.digests))
+next_without game q fs k s one none lt =
+    let past = none_past k.digests (length k.moves) (ap is_none none) in
+    let before = s.before in
+    next_commit game q fs k (omega arith)
+
+pub next_after_all : (game : Game) (q : ℕ) (fs : List TurnFrame) (k : Known) → IsStream game (stream_of game q k) → game.ahead ≡ 1 → slice_get k.digests (length k.moves) ≡ None →
+    length k.digests ≡ game.turns → next_known game q fs k ≡ k
+next_after_all game q fs k s one none all =
+    let past = none_past k.digests (length k.moves) (ap is_none none) in
+    let before = s.before in
+    next_end game q fs k (omega arith) (omega arith)
+
+-- a digest is due: the next place is that of the reveal which opens it
+pub next_due : (game : Game) (q : ℕ) (fs : List TurnFrame) (k : Known) (d : Digest) → IsStream game (stream_of game q k) → game.ahead ≡ 1 → slice_get k.digests (length k.moves) ≡ Some d →
+    next_known game q fs k ≡ with_move k (first_of (opening_at game q (track_after game q k.moves) d (length k.moves)) fs)
+next_due game q fs k d s one due =
+    let lt = slice_get_within k.digests (length k.moves) d due in
+    let within = s.within in
+    next_reveal game q fs k (omega arith) (omega arith)
+    ∙ ap (λ (o : Option Digest). with_move k (opened game q k.moves fs (length k.moves) o)) due
+    ∙ ap (with_move k) (sym (first_opening_at game q k.moves d fs (length k.moves)))
+
+stream_from : (s r : Stream) → s.commits ≡ r.commits → s.resolved ≡ r.resolved → s.track ≡ r.track → s.due ≡ r.due → s ≡ r
+stream_from s r a b c d =
+    let at_commits : ℕ → Stream = λ x. record { commits = x; resolved = s.resolved; track = s.track; due = s.due } in
+    let at_resolved : ℕ → Stream = λ x. record { commits = r.commits; resolved = x; track = s.track; due = s.due } in
+    let at_track : Track → Stream = λ x. record { commits = r.commits; resolved = r.resolved; track = x; due = s.due } in
+    let at_due : Option Digest → Stream = λ x. record { commits = r.commits; resolved = r.resolved; track = r.track; due = x } in
+    ap at_commits a ∙ ap at_resolved b ∙ ap at_track c ∙ ap at_due d
+
+slice_last : {X : Type 0} (xs : List X) (x : X) → slice_get (xs ++ x ∷ []) (length xs) ≡ Some x
+slice_last [] x = refl
+slice_last (y ∷ xs) x = slice_last xs x
+
+-- the stream with one commitment more, and with one move more
+stream_committed : (game : Game) (q : ℕ) (k : Known) (d : Digest) → IsStream game (stream_of game q k) → slice_get k.digests (length k.moves) ≡ None →
+    stream_of game q (with_commit k (Some d)) ≡ record { commits = length k.digests + 1; resolved = length k.moves; track = track_after game q k.moves; due = Some d }
+stream_committed game q k d s none =
+    let past = none_past k.digests (length k.moves) (ap is_none none) in
+    let before = s.before in
+    let same : length k.moves ≡ length k.digests = omega arith in
+    stream_from _ _ (length-append k.digests (d ∷ [])) refl refl (ap (slice_get (k.digests ++ d ∷ [])) same ∙ slice_last k.digests d)
+
+stream_revealed : (game : Game) (q : ℕ) (k : Known) (m : Move) (d : Digest) → IsStream game (stream_of game q k) → slice_get k.digests (length k.moves) ≡ Some d →
+    stream_of game q (with_move k (Some m)) ≡ record { commits = length k.digests; resolved = length k.moves + 1; track = next_track game (track_after game q k.moves) m; due = None }
+stream_revealed game q k m d s due =
+    let after = s.after in
+    let l : length (k.moves ++ m ∷ []) ≡ length k.moves + 1 = length-append k.moves (m ∷ []) in
+    stream_from _ _ refl l (track_from_append game (start_track game q) k.moves (m ∷ [])) (ap (slice_get k.digests) l ∙ past k.digests (length k.moves + 1) (omega arith))
+  where
+    past : (xs : List Digest) (i : ℕ) → length xs ≤ i → slice_get xs i ≡ None
+    past [] i h = refl
+    past (x ∷ xs) zero h = absurd (omega arith)
+    past (x ∷ xs) (suc i) h = past xs i (omega arith)
+
+-- what holds of a stream that the frames show
+pub shown_facts : (game : Game) (q : ℕ) (fs : List TurnFrame) (s : Stream) → IsSession game → q < players_of game → IsReadFrom game q fs s → IsStream game s
+shown_facts game q fs s is lt shown = subst (λ (r : Stream). IsStream game r) (sym shown) (stream_facts game q (places_of s) fs is lt)
+
+-- what the frames show of the places of this stream
+abbrev known_by : Game → ℕ → List TurnFrame → Stream → Known
+known_by game q fs s = known_to game q fs (places_of s)
+
+known_facts : (game : Game) (q : ℕ) (fs : List TurnFrame) (s : Stream) → IsSession game → q < players_of game → IsStream game (stream_of game q (known_by game q fs s))
+known_facts game q fs s is lt = stream_facts game q (places_of s) fs is lt
+
+shown_due : (game : Game) (q : ℕ) (fs : List TurnFrame) (s : Stream) (o : Option Digest) → IsReadFrom game q fs s → s.due ≡ o →
+    slice_get (known_by game q fs s).digests (length (known_by game q fs s).moves) ≡ o
+shown_due game q fs s o shown e = sym (ap (λ (r : Stream). r.due) shown) ∙ e
+
+shown_commits : (game : Game) (q : ℕ) (fs : List TurnFrame) (s : Stream) → IsReadFrom game q fs s → s.commits ≡ length (known_by game q fs s).digests
+shown_commits game q fs s shown = ap (λ (r : Stream). r.commits) shown
+
+shown_resolved : (game : Game) (q : ℕ) (fs : List TurnFrame) (s : Stream) → IsReadFrom game q fs s → s.resolved ≡ length (known_by game q fs s).moves
+shown_resolved game q fs s shown = ap (λ (r : Stream). r.resolved) shown
+
+shown_track : (game : Game) (q : ℕ) (fs : List TurnFrame) (s : Stream) → IsReadFrom game q fs s → s.track ≡ track_after game q (known_by game q fs s).moves
+shown_track game q fs s shown = ap (λ (r : Stream). r.track) shown
+
+shown_next : (game : Game) (q : ℕ) (fs : List TurnFrame) (s r : Stream) (l : Known) → next_known game q fs (known_by game q fs s) ≡ l → places_of r ≡ places_of s + 1 →
+    r ≡ stream_of game q l → IsReadFrom game q fs r
+unfolding known_to
+shown_next game q fs s r l next place is =
+    let later : suc (places_of s) ≡ places_of r = omega arith in
+    is ∙ ap (stream_of game q) (sym next) ∙ ap (λ n. stream_of game q (known_to game q fs n)) later
+
+-- nothing is due and all is committed
+pub still_end : (game : Game) (q : ℕ) (fs : List TurnFrame) (s : Stream) → IsSession game → q < players_of game → IsReadFrom game q fs s → s.due ≡ None → s.commits ≡ game.turns →
+    next_known game q fs (known_by game q fs s) ≡ known_by game q fs s
+still_end game q fs s is lt shown none all =
+    next_after_all game q fs (known_by game q fs s) (known_facts game q fs s is lt) is.ahead (shown_due game q fs s None shown none)
+    (sym (shown_commits game q fs s shown) ∙ all)
+
+next_commitment : (game : Game) (q : ℕ) (fs : List TurnFrame) (s : Stream) (o : Option Digest) → IsSession game → q < players_of game → IsReadFrom game q fs s → s.due ≡ None →
+    (s.commits ≡ game.turns → ⊥) → o ≡ first_commit fs s.commits → next_known game q fs (known_by game q fs s) ≡ with_commit (known_by game q fs s) o
+next_commitment game q fs s o is lt shown none some found =
+    let facts = shown_facts game q fs s is lt shown in
+    let within = facts.within in
+    let commits = shown_commits game q fs s shown in
+    next_without game q fs (known_by game q fs s) (known_facts game q fs s is lt) is.ahead (shown_due game q fs s None shown none) (below commits within)
+    ∙ ap (with_commit (known_by game q fs s)) (ap (first_commit fs) (sym commits) ∙ sym found)
+  where
+    below : s.commits ≡ length (known_by game q fs s).digests → s.commits ≤ game.turns → length (known_by game q fs s).digests < game.turns
+    below e h = elim (cases_lt s.commits game.turns) [
+      | inl a ↦ omega arith
+      | inr b ↦ let same : s.commits ≡ game.turns = omega arith in absurd (some same)
+    ]
+
+-- nothing is due, and the next commitment is not there
+pub still_commit : (game : Game) (q : ℕ) (fs : List TurnFrame) (s : Stream) → IsSession game → q < players_of game → IsReadFrom game q fs s → s.due ≡ None →
+    (s.commits ≡ game.turns → ⊥) → None ≡ first_commit fs s.commits → next_known game q fs (known_by game q fs s) ≡ known_by game q fs s
+still_commit game q fs s is lt shown none some found = next_commitment game q fs s None is lt shown none some found
+
+-- nothing is due, and the next commitment is there
+pub there_commit : (game : Game) (q : ℕ) (fs : List TurnFrame) (s : Stream) (d : Digest) → IsSession game → q < players_of game → IsReadFrom game q fs s → s.due ≡ None →
+    (s.commits ≡ game.turns → ⊥) → Some d ≡ first_commit fs s.commits →
+    IsReadFrom game q fs (record { commits = s.commits + 1; resolved = s.resolved; track = s.track; due = Some d })
+there_commit game q fs s d is lt shown none some found =
+    shown_next game q fs s _ (with_commit (known_by game q fs s) (Some d)) (next_commitment game q fs s (Some d) is lt shown none some found) (omega arith)
+    (stream_from _ _ (ap (λ n. n + 1) (shown_commits game q fs s shown)) (shown_resolved game q fs s shown) (shown_track game q fs s shown) refl
+    ∙ sym (stream_committed game q (known_by game q fs s) d (known_facts game q fs s is lt) (shown_due game q fs s None shown none)))
+
+next_opening : (game : Game) (q : ℕ) (fs : List TurnFrame) (s : Stream) (d : Digest) → IsSession game → q < players_of game → IsReadFrom game q fs s → s.due ≡ Some d →
+    next_known game q fs (known_by game q fs s) ≡ with_move (known_by game q fs s) (first_of (opening_at game q s.track d s.resolved) fs)
+next_opening game q fs s d is lt shown due =
+    next_due game q fs (known_by game q fs s) d (known_facts game q fs s is lt) is.ahead (shown_due game q fs s (Some d) shown due)
+    ∙ ap (λ (t : Track). with_move (known_by game q fs s) (first_of (opening_at game q t d (length (known_by game q fs s).moves)) fs)) (sym (shown_track game q fs s shown))
+    ∙ ap (λ n. with_move (known_by game q fs s) (first_of (opening_at game q s.track d n) fs)) (sym (shown_resolved game q fs s shown))
+
+map_none : {X Y : Type 0} (g : X → Y) (o : Option X) → None ≡ option_map g o → o ≡ None
+map_none g None h = refl
+map_none g (Some x) h = absurd (cc)
+
+map_some : {X Y : Type 0} (g : X → Y) (o : Option X) (y : Y) → Some y ≡ option_map g o → (x : X) × (o ≡ Some x) × (y ≡ g x)
+map_some g None y h = absurd (cc)
+map_some g (Some x) y h = (x, refl, cc)
+
+-- a reveal is due and not there
+pub still_due : (game : Game) (q : ℕ) (fs : List TurnFrame) (s : Stream) (d : Digest) → IsSession game → q < players_of game → IsReadFrom game q fs s → s.due ≡ Some d →
+    None ≡ option_map (next_track game s.track) (first_of (opening_at game q s.track d s.resolved) fs) → next_known game q fs (known_by game q fs s) ≡ known_by game q fs s
+still_due game q fs s d is lt shown due found = next_opening game q fs s d is lt shown due ∙ ap (with_move (known_by game q fs s)) (map_none _ _ found)
+
+-- a reveal is due and there
+pub there_due : (game : Game) (q : ℕ) (fs : List TurnFrame) (s : Stream) (d : Digest) (t : Track) → IsSession game → q < players_of game → IsReadFrom game q fs s → s.due ≡ Some d →
+    Some t ≡ option_map (next_track game s.track) (first_of (opening_at game q s.track d s.resolved) fs) →
+    IsReadFrom game q fs (record { commits = s.commits; resolved = s.resolved + 1; track = t; due = None })
+there_due game q fs s d t is lt shown due found =
+    let m = map_some (next_track game s.track) (first_of (opening_at game q s.track d s.resolved) fs) t found in
+    shown_next game q fs s _ (with_move (known_by game q fs s) (Some m.0))
+    (next_opening game q fs s d is lt shown due ∙ ap (with_move (known_by game q fs s)) m.1) (omega arith)
+    (stream_from _ _ (shown_commits game q fs s shown) (ap (λ n. n + 1) (shown_resolved game q fs s shown))
+    (m.2 ∙ ap (λ (u : Track). next_track game u m.0) (shown_track game q fs s shown)) refl
+    ∙ sym (stream_revealed game q (known_by game q fs s) m.0 d (known_facts game q fs s is lt) (shown_due game q fs s (Some d) shown due)))
+
+-- of no place nothing is known
+pub stream_none : (game : Game) (q : ℕ) (fs : List TurnFrame) (t : Track) → t ≡ start_track game q →
+    record { commits = 0; resolved = 0; track = t; due = None } ≡ stream_of game q (known_to game q fs 0)
+unfolding known_to
+stream_none game q fs t e = stream_from _ _ refl refl e refl
+
+-- what is known of some places is what is known of as many as are there
+known_to_there : (game : Game) (q : ℕ) (fs : List TurnFrame) (n : ℕ) → known_to game q fs n ≡ known_to game q fs (places_in (known_to game q fs n))
+unfolding known_to
+known_to_there game q fs zero = refl
+known_to_there game q fs (suc n) = go (places_or_stuck game q fs n) (next_place_or game q fs (known_to game q fs n)) (known_to_there game q fs n)
+  where
+    go : (places_in (known_to game q fs n) ≡ n) ⊎ (next_known game q fs (known_to game q fs n) ≡ known_to game q fs n) →
+        (places_in (next_known game q fs (known_to game q fs n)) ≡ places_in (known_to game q fs n) + 1) ⊎ (next_known game q fs (known_to game q fs n) ≡ known_to game q fs n) →
+        known_to game q fs n ≡ known_to game q fs (places_in (known_to game q fs n)) →
+        next_known game q fs (known_to game q fs n) ≡ known_to game q fs (places_in (next_known game q fs (known_to game q fs n)))
+    go (inl all) (inl more) ih = let place : suc n ≡ places_in (next_known game q fs (known_to game q fs n)) = omega arith in ap (known_to game q fs) place
+    go a (inr still) ih = still ∙ ih ∙ ap (λ (k : Known). known_to game q fs (places_in k)) (sym still)
+    go (inr still) b ih = still ∙ ih ∙ ap (λ (k : Known). known_to game q fs (places_in k)) (sym still)
+
+-- a stream of what is known of some places is read from the frames
+pub read_from : (game : Game) (q n : ℕ) (fs : List TurnFrame) (s : Stream) → s ≡ stream_of game q (known_to game q fs n) → IsReadFrom game q fs s
+read_from game q n fs s e =
+    e ∙ ap (stream_of game q) (known_to_there game q fs n) ∙ ap (λ (r : Stream). stream_of game q (known_to game q fs (places_of r))) (sym e)
+
+-- with one place more than are known
+pub read_next : (game : Game) (q n : ℕ) (fs : List TurnFrame) (s r : Stream) → s ≡ stream_of game q (known_to game q fs n) →
+    r ≡ stream_of game q (next_known game q fs (known_to game q fs (places_of s))) → r ≡ stream_of game q (known_to game q fs (n + 1))
+unfolding known_to
+read_next game q n fs s r e f =
+    let same : known_to game q fs (places_of s) ≡ known_to game q fs n = ap (λ (x : Stream). known_to game q fs (places_of x)) e ∙ sym (known_to_there game q fs n) in
+    let later : suc n ≡ n + 1 = omega arith in
+    f ∙ ap (λ (k : Known). stream_of game q (next_known game q fs k)) same ∙ ap (λ m. stream_of game q (known_to game q fs m)) later
+
+-- the stream with one place more is what the definition says of it
+pub read_step : (game : Game) (q : ℕ) (fs : List TurnFrame) (s r : Stream) → IsReadFrom game q fs r → places_of r ≡ places_of s + 1 →
+    r ≡ stream_of game q (next_known game q fs (known_to game q fs (places_of s)))
+unfolding known_to
+read_step game q fs s r is place = let later : places_of r ≡ suc (places_of s) = omega arith in is ∙ ap (λ n. stream_of game q (known_to game q fs n)) later
+
+-- a stream is not longer than all turns
+pub shown_short : (game : Game) (q : ℕ) (fs : List TurnFrame) (s : Stream) → IsSession game → q < players_of game → IsReadFrom game q fs s → places_of s ≤ 2 * game.turns
+shown_short game q fs s is lt shown =
+    let facts = shown_facts game q fs s is lt shown in
+    let before = facts.before in
+    let within = facts.within in
+    omega arith
+
+-- a stream whose next place is not there is all that is known
+pub shown_whole : (game : Game) (me q : ℕ) (h : List Entry) (s : Stream) → IsSession game → q < players_of game → IsReadFrom game q (frames_of me q h) s →
+    next_known game q (frames_of me q h) (known_by game q (frames_of me q h) s) ≡ known_by game q (frames_of me q h) s → s ≡ stream_of game q (known game me h q)
+unfolding known
+shown_whole game me q h s is lt shown still =
+    let short = shown_short game q (frames_of me q h) s is lt shown in
+    let all : 2 * game.turns - places_of s + places_of s ≡ 2 * game.turns = omega arith in
+    shown ∙ ap (stream_of game q) (sym (known_to_stuck game q (frames_of me q h) (places_of s) (2 * game.turns - places_of s) still))
+    ∙ ap (λ n. stream_of game q (known_to game q (frames_of me q h) n)) all
+
+pub falls : (n a b : ℕ) → b ≡ a + 1 → b ≤ n → n - b < n - a
+falls n a b e h = omega arith
