@@ -1,6 +1,6 @@
 -- Answered: which answer a frame gets, by the slot of its place.
-use Rattle.std.proofs.Common.{◌≡◌, ℕ, ◌+◌, ◌*◌, ◌<◌, List, [], ◌∷◌, ◌++◌, length, set, refl, Bool, true, false, sym, ◌∙◌, ap, inl, inr, Option, Some, None}
-use Rattle.std.specs.Prelude.{◌==◌, ◌||◌, nat_le, nat_lt, option_to_list}
+use Rattle.std.proofs.Common.{◌≡◌, ℕ, ◌*◌, ◌<◌, List, [], ◌∷◌, ◌++◌, length, set, refl, Bool, true, false, sym, ◌∙◌, ap, inl, inr, Option, Some, None}
+use Rattle.std.specs.Prelude.{◌==◌, ◌||◌, option_to_list}
 use Rattle.std.specs.List.{list_any}
 use Rattle.std.proofs.lemmas.Bool.{cases_Bool, cond-false, cond-true, false_from_ne_true, false≢true}
 use Rattle.definitions.specs.declared.world.Track.{Track}
@@ -19,9 +19,8 @@ use Rattle.peer_window.specs.declared.received.Clash.{Clash}
 use Rattle.peer_window.specs.declared.received.Offer.{Offer}
 use Rattle.peer_window.specs.declared.received.Offer.TheVariants.{Same, Far}
 use Rattle.peer_window.specs.Clashes.{first_clash}
-use Rattle.peer_window.specs.Slots.{AreSlots, frames_in, in_order, place_of, shown, slot}
+use Rattle.peer_window.specs.Slots.{AreSlots, frames_in, in_order, place_of, slot}
 use Rattle.peer_window.specs.Windows.{IsHeld, IsWindow, Seen, answer, frames_after, is_far, is_same, new_answer, seen_of, with_frame}
-use Rattle.peer_window.proofs.Lookups.{count_places}
 use Rattle.peer_window.proofs.Ordered.{AllBefore, each_in_order, in_order_set, slot_each}
 
 -- the place of a frame, where players commit one turn ahead
@@ -56,15 +55,6 @@ answer_same game w r e f = sym (cond-false (is_far game w r.frame) _ _ e ∙ con
 
 pub answer_new : (game : Game) (w : Seen) (r : Received) (a : Offer) → is_far game w r.frame ≡ false → is_same w r.frame ≡ false → a ≡ new_answer (first_clash game w.player (with_frame w r)) (A.place_of game r.frame == places_in w.known) → a ≡ answer game w r
 answer_new game w r a e f g = g ∙ sym (cond-false (is_far game w r.frame) _ _ e ∙ cond-false (is_same w r.frame) _ _ f)
-
--- the test of a far frame, by the slots
-pub far_test : (game : Game) (q n place len : ℕ) (ss : List (Option Received)) (rival : Option Received) (closed : Bool) (track : Track) (f : TurnFrame) (far : Bool) → game.ahead ≡ 1 → AreSlots q ss n → length ss ≡ 2 * game.turns →
-    len ≡ length ss → place ≡ place_of f → far ≡ (nat_lt (n + 8) place || nat_le len place) → is_far game (seen_of q ss rival closed n track) f ≡ far
-far_test game q n place len ss rival closed track f far one slots places len_is at e =
-    sym (e
-    ∙ ap (λ (i : ℕ). nat_lt (i + 8) place || nat_le len place) (count_places q n ss (shown ss n) refl slots)
-    ∙ ap (λ (i : ℕ). nat_lt (places_in (shown ss n) + 8) place || nat_le i place) (len_is ∙ places)
-    ∙ ap (λ (i : ℕ). nat_lt (places_in (shown ss n) + 8) i || nat_le (2 * game.turns) i) (at ∙ sym (place_plain game f one)))
 
 any_none : (p : Received → Bool) (rs : List Received) → EachIs (λ r. p r ≡ false) rs → list_any p rs ≡ false
 any_none p [] h = refl

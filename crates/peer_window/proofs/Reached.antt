@@ -13,10 +13,10 @@ use Rattle.definitions.specs.World.{Game, is_open, players_of}
 use Rattle.definitions.specs.Moves.{is_legal, move_fault, next_track, start_track, track_after}
 use Rattle.definitions.specs.Logs.{digest_eq, player_of}
 use Rattle.definitions.specs.Held.{Known, digest_of, known_to, next_known, commit_of, opening_of, with_commit, with_move}
-use Rattle.definition_laws.proofs.Tracks.{track_from_append}
 use Rattle.grid_world.specs.Sessions.{IsSession}
 use Rattle.move_rules.specs.Verdicts.{judged}
-use Rattle.log_scan.proofs.Shown.{known_open}
+use Rattle.grid_world.proofs.Facts.{seat_open}
+use Rattle.definition_laws.proofs.Tracks.{known_to_open, track_from_append}
 use Rattle.reveal_check.specs.declared.judging.Verdict.TheVariants as V
 use Rattle.reveal_check.specs.Judgements.{by_rules}
 use Rattle.peer_window.specs.declared.received.Received.{Received}
@@ -38,7 +38,7 @@ own_player q n p players ss r w e lt = let own = (w.own p r e).1 in omega arith
 pub reach_open : (game : Game) (q : ℕ) (ss : List (Option Received)) (at : Reach) → IsSession game → q < players_of game → IsReach game q ss at → is_open game.grid at.track.at ≡ true
 reach_open game q ss at is lt w =
     ap (λ (t : Track). is_open game.grid t.at) (w.track ∙ ap (λ (k : Known). track_after game q k.moves) (sym w.known))
-    ∙ known_open game q at.next (frames_in (in_order ss)) is lt
+    ∙ known_to_open game q at.next (frames_in (in_order ss)) (seat_open game q is lt)
 
 -- a step on over a reveal: it opens the digest, and is legal
 record Goes (game : Game) (track : Track) (m : Move) (after : Track) (b : Bool) (o : Option MoveFault) : Type 0 where

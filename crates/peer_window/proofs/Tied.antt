@@ -21,8 +21,8 @@ use Rattle.definitions.specs.Answers as A
 use Rattle.definitions.specs.Answers.{got_answer, is_of_another}
 use Rattle.definition_laws.proofs.Alike.{frame_eq_same, frame_eq_true}
 use Rattle.definition_laws.proofs.Listing.{append_nil}
-use Rattle.log_scan.specs.First as F
-use Rattle.log_scan.proofs.First.{first_is}
+use Rattle.definition_laws.specs.First as F
+use Rattle.definition_laws.proofs.FirstFinding.{first_is}
 use Rattle.peer_window.specs.declared.received.Received.{Received}
 use Rattle.peer_window.specs.declared.received.Clash.{Clash}
 use Rattle.peer_window.specs.declared.received.Offer.{Offer}

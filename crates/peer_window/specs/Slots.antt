@@ -4,6 +4,7 @@ use Rattle.definitions.specs.declared.world.Move.{Move}
 use Rattle.definitions.specs.declared.openings.Digest.{Digest}
 use Rattle.definitions.specs.declared.frames.TurnFrame.{TurnFrame}
 use Rattle.definitions.specs.declared.frames.TurnFrame.TheVariants.{Commit, Reveal}
+use Rattle.definitions.specs.declared.limits.TheConstants.{MOST_TURNS}
 use Rattle.definitions.specs.Logs.{player_of}
 use Rattle.definitions.specs.Held.{Known}
 use Rattle.peer_window.specs.declared.received.Received.{Received}
@@ -77,4 +78,4 @@ pub record AreSlots (player : ℕ) (ss : List (Option Received)) (next : ℕ) : 
   pub own : (p : ℕ) (r : Received) → slot ss p ≡ Some r → (place_of r.frame ≡ p) × (player_of r.frame ≡ player)
   pub there : (p : ℕ) → p < next → is_some (slot ss p) ≡ true
   pub within : next ≤ length ss
-  pub few : length ss ≤ 8192
+  pub few : length ss ≤ 2 * MOST_TURNS

@@ -1,5 +1,5 @@
 -- Windows: a window as contracts see it, and what becomes of a frame that is offered.
-use Rattle.std.specs.Prelude.{◌≡◌, ℕ, ◌+◌, ◌*◌, ◌<◌, Bool, true, false, ◌||◌, List, [], ◌∷◌, ◌++◌, length, option_to_list, Option, Some, None, nat_lt, nat_le, ◌==◌, if◌then◌else◌}
+use Rattle.std.specs.Prelude.{◌≡◌, ℕ, ◌*◌, ◌<◌, Bool, true, false, List, [], ◌∷◌, ◌++◌, length, option_to_list, Option, Some, None, ◌==◌, if◌then◌else◌}
 use Rattle.std.specs.List.{list_any}
 use Rattle.definitions.specs.declared.world.Track.{Track}
 use Rattle.definitions.specs.declared.frames.TurnFrame.{TurnFrame}
@@ -7,7 +7,7 @@ use Rattle.definitions.specs.World.{Game, players_of}
 use Rattle.definitions.specs.Moves.{track_after}
 use Rattle.definitions.specs.Logs.{frame_eq}
 use Rattle.definitions.specs.Held.{Known, known_to, places_in}
-use Rattle.definitions.specs.Answers.{place_of}
+use Rattle.definitions.specs.Answers.{is_beyond, place_of}
 use Rattle.peer_window.specs.declared.received.Received.{Received}
 use Rattle.peer_window.specs.declared.received.Clash.{Clash}
 use Rattle.peer_window.specs.declared.received.Offer.{Offer}
@@ -59,7 +59,7 @@ seen_of player ss rival closed next track = record {
 
 -- the frame's place is past the window, or past the last turn
 abbrev pub is_far : Game → Seen → TurnFrame → Bool
-is_far game w f = nat_lt (places_in w.known + 8) (place_of game f) || nat_le (2 * game.turns) (place_of game f)
+is_far game w f = is_beyond game (places_in w.known) f
 
 -- an equal frame came before
 abbrev pub is_same : Seen → TurnFrame → Bool

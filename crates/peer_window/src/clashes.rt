@@ -1,45 +1,12 @@
 //! What a frame shows together with the frames of its turn.
 
 ghost use Rattle.std.specs.Prelude.{◌≡◌};
-ghost use Rattle.definitions.specs.Held as H;
 ghost use Rattle.peer_window.specs.Clashes as C;
 
-use crate::places::turn_of;
 use crate::received::{Clash, Received};
-use commitment::digest_of;
-use definitions::{Digest, Kind, Opening, TurnFrame};
+use definitions::{Kind, TurnFrame};
 use grid_world::Session;
-
-/// The digest that the frame carries, or that of the opening that it shows.
-#[tactic(auto, unfolding(definitions::specs::Held::digest_of))]
-pub(crate) fn frame_digest(session: &Session, frame: &TurnFrame) -> Digest
-    ensures { result ≡ H.digest_of session.now frame.now }
-{
-    match *frame {
-        TurnFrame::Commit { digest, .. } => digest,
-        TurnFrame::Reveal {
-            player,
-            turn,
-            mv,
-            nonce,
-        } => digest_of(
-            session.id(),
-            &Opening {
-                player,
-                turn,
-                mv,
-                nonce,
-            },
-        ),
-    }
-}
-
-/// Whether the two frames have one digest.
-pub(crate) fn same_digest(session: &Session, first: &Received, second: &Received) -> bool
-    ensures { result ≡ C.same_digest session.now first.now second.now }
-{
-    frame_digest(session, &first.frame) == frame_digest(session, &second.frame)
-}
+use reveal_check::same_digest;
 
 /// The lower of an entry's number and of that of another frame, if there is one.
 fn lower_entry(one: &Received, other: &Option<Received>) -> u32
@@ -63,11 +30,11 @@ pub(crate) fn rival_clash(
 ) -> Clash
     ensures { result ≡ C.rival_clash session.now held.now other.now rival.now }
 {
-    let turn = turn_of(&rival.frame);
+    let turn = rival.frame.turn();
     let (kind, first) = match rival.frame {
         TurnFrame::Commit { .. } => (Kind::TwoCommits, held.entry),
         TurnFrame::Reveal { .. } => {
-            if same_digest(session, held, rival) {
+            if same_digest(session, &held.frame, &rival.frame) {
                 (Kind::Collision, held.entry)
             } else {
                 (Kind::BadOpening, lower_entry(held, other))
@@ -93,11 +60,11 @@ pub(crate) fn opening_clash(
     match other {
         None => None,
         Some(other) => {
-            if same_digest(session, other, frame) {
+            if same_digest(session, &other.frame, &frame.frame) {
                 None
             } else {
                 Some(Clash {
-                    turn: turn_of(&frame.frame),
+                    turn: frame.frame.turn(),
                     kind: Kind::BadOpening,
                     first: other.entry,
                     second: frame.entry,
@@ -112,7 +79,7 @@ pub(crate) fn illegal_clash(commitment: &Received, reveal: &Received) -> Clash
     ensures { result ≡ C.illegal_clash commitment.now reveal.now }
 {
     Clash {
-        turn: turn_of(&reveal.frame),
+        turn: reveal.frame.turn(),
         kind: Kind::Illegal,
         first: commitment.entry.min(reveal.entry),
         second: commitment.entry.max(reveal.entry),

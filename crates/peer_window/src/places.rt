@@ -2,7 +2,6 @@
 //! and its reveal the place behind it.
 
 ghost use Rattle.std.specs.Prelude.{◌≡◌, ◌*◌, ◌+◌};
-ghost use Rattle.definitions.specs.Logs as L;
 ghost use Rattle.peer_window.specs.Slots as S;
 
 use crate::received::Received;
@@ -39,16 +38,6 @@ pub(crate) fn other_place(frame: &TurnFrame) -> u64
     match *frame {
         TurnFrame::Commit { turn, .. } => reveal_place(turn),
         TurnFrame::Reveal { turn, .. } => commit_place(turn),
-    }
-}
-
-/// The turn of a frame.
-pub(crate) fn turn_of(frame: &TurnFrame) -> Turn
-    ensures { result ≡ L.turn_of frame.now }
-{
-    match *frame {
-        TurnFrame::Commit { turn, .. } => turn,
-        TurnFrame::Reveal { turn, .. } => turn,
     }
 }
 

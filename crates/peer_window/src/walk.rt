@@ -3,17 +3,16 @@
 ghost use Rattle.std.specs.Prelude.{◌≡◌, ◌<◌, ◌≤◌, ◌*◌, length, IsTrue};
 ghost use Rattle.definitions.specs.World.{players_of, is_open};
 ghost use Rattle.definitions.specs.Logs.{player_of};
-ghost use Rattle.move_rules.specs.Verdicts.{size_of};
 ghost use Rattle.peer_window.specs.Slots.{AreSlots};
 ghost use Rattle.peer_window.specs.Steps as W;
 
-use crate::clashes::{frame_digest, illegal_clash};
+use crate::clashes::illegal_clash;
 use crate::places::slot;
 use crate::received::{Clash, Received};
 use definitions::{Opening, PlayerId, Track, TurnFrame};
 use grid_world::Session;
 use move_rules::Walker;
-use reveal_check::{Verdict, check};
+use reveal_check::{Verdict, check, frame_digest};
 
 /// How many places of the stream are there, and the track after them.
 #[derive(Clone, Copy, Debug, PartialEq, Eq)]
@@ -49,11 +48,9 @@ fn reveal_step(
     reveal: &Received,
     opening: &Opening,
 ) -> Step
-    requires size { walker.old ≡ size_of session.now.grid }
     requires player { opening.now.player < players_of session.now }
     requires track { IsTrue (is_open session.now.grid track.now.at) }
     ensures step { result ≡ W.reveal_step session.now track.now before.now reveal.now opening.now }
-    ensures walker { walker.new ≡ walker.old }
 {
     let Some(commitment) = before else {
         return Step::Halt;
@@ -74,11 +71,9 @@ fn frame_step(
     before: &Option<Received>,
     received: &Received,
 ) -> Step
-    requires size { walker.old ≡ size_of session.now.grid }
     requires player { player_of received.now.frame < players_of session.now }
     requires track { IsTrue (is_open session.now.grid track.now.at) }
     ensures step { result ≡ W.frame_step session.now track.now before.now received.now received.now.frame }
-    ensures walker { walker.new ≡ walker.old }
 {
     match received.frame {
         TurnFrame::Commit { .. } => Step::On(*track),
@@ -107,12 +102,10 @@ fn next_step(
     slots: &[Option<Received>],
     reach: &Reach,
 ) -> Step
-    requires size { walker.old ≡ size_of session.now.grid }
     requires player { player < players_of session.now }
     requires slots { AreSlots player slots.now reach.now.next }
     requires track { IsTrue (is_open session.now.grid reach.now.track.at) }
     ensures step { result ≡ W.step_from session.now slots.now reach.now }
-    ensures walker { walker.new ≡ walker.old }
 {
     match slot(slots, u64::from(reach.next)) {
         None => Step::Halt,
@@ -131,7 +124,6 @@ pub(crate) fn walk(
     slots: &[Option<Received>],
     from: &Reach,
 ) -> Walked
-    requires size { walker.old ≡ size_of session.now.grid }
     requires player { player < players_of session.now }
     requires length { length slots.now ≡ 2 * session.now.turns }
     requires slots { AreSlots player slots.now from.now.next }
@@ -139,7 +131,6 @@ pub(crate) fn walk(
     ensures walked { W.IsWalked session.now player slots.now result }
     ensures slots { AreSlots player slots.now result.reach.next }
     ensures further { from.now.next ≤ result.reach.next }
-    ensures walker { walker.new ≡ walker.old }
 {
     session.facts();
     let mut reach = *from;

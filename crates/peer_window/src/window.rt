@@ -6,7 +6,6 @@ ghost use Rattle.definitions.specs.World.{players_of};
 ghost use Rattle.definitions.specs.Lists.{EachIs};
 ghost use Rattle.definitions.specs.Logs.{frame_eq, player_of};
 ghost use Rattle.definitions.specs.Held.{places_in};
-ghost use Rattle.move_rules.specs.Verdicts.{size_of};
 ghost use Rattle.peer_window.specs.Slots.{AreSlots, in_order, slot, place_of};
 ghost use Rattle.peer_window.specs.Clashes.{first_clash};
 ghost use Rattle.peer_window.specs.Windows.{IsWindow, IsHeld, answer, frames_after, new_answer};
@@ -21,9 +20,6 @@ use grid_world::Session;
 use move_rules::{Walker, start_track};
 use std::alloc::{AllocError, Global};
 use std::marker::Model;
-
-/// How many places past the next one a frame may have.
-const AHEAD: u64 = 8;
 
 /// The frames of one other player of a session that came, and what they show.
 #[derive(Drop)]
@@ -61,13 +57,6 @@ fn empty_slots(alloc: Global, places: usize) -> Result<Vec<Option<Received>>, Al
     ensures { IfOk result (λ v. v.items ≡ replicate places None) }
 {
     vec![in alloc; None; places]
-}
-
-/// Whether the place is past the window, or past the last turn.
-fn is_far(slots: &[Option<Received>], next: u32, place: u64) -> bool
-    ensures { result ≡ (nat_lt (next + 8) place || nat_le (length slots.now) place) }
-{
-    place > u64::from(next) + AHEAD || place >= slots.len() as u64
 }
 
 /// The answer to a new frame, by the first clash that it makes, if it makes one.
@@ -115,7 +104,6 @@ fn hold(
     from: &Reach,
     received: &Received,
 ) -> Held
-    requires size { walker.old ≡ size_of session.now.grid }
     requires held { IsHeld session.now player slots.old from.now.next from.now.track }
     requires own { player_of received.now.frame ≡ player }
     requires place { place_of received.now.frame < length slots.old }
@@ -125,7 +113,6 @@ fn hold(
     ensures slots { slots.new ≡ slice_set slots.old (place_of received.now.frame) (Some received.now) }
     ensures held { IsHeld session.now player slots.new result.reach.next result.reach.track }
     ensures offer { result.offer ≡ new_answer (first_clash session.now player (in_order slots.new)) (place_of received.now.frame == from.now.next) }
-    ensures walker { walker.new ≡ walker.old }
 {
     session.facts();
     let place = place_of(&received.frame);
@@ -183,7 +170,6 @@ impl Window {
     ) -> Offer
         requires window { IsWindow session.now self.old }
         requires open_still { self.old.closed ≡ false }
-        requires size { walker.old ≡ size_of session.now.grid }
         requires player { player_of frame.now ≡ self.old.player }
         requires later { EachIs (λ r. r.entry < entry) self.old.frames }
         ensures answer { result ≡ answer session.now self.old (record { entry = entry; frame = frame.now }) }
@@ -192,11 +178,10 @@ impl Window {
         ensures player { self.new.player ≡ self.old.player }
         ensures closed { self.new.closed ≡ W.is_conflict result }
         ensures unchanged { (result ≡ Offer.Far) ⊎ (result ≡ Offer.Same) → self.new ≡ self.old }
-        ensures walker { walker.new ≡ walker.old }
     {
         session.facts();
         let place = place_of(frame);
-        if is_far(&self.slots, self.reach.next, place) {
+        if session.is_beyond(self.reach.next, frame) {
             return Offer::Far;
         }
         let received = Received {

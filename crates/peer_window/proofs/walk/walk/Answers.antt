@@ -1,4 +1,4 @@
-use Rattle.std.proofs.Common.{None, Some, ap, arith, sym, ◌∙◌}
+use Rattle.std.proofs.Common.{None, Some, ap, arith, sym}
 use Rattle.peer_window.specs.Steps.{stop_of}
 use Rattle.peer_window.proofs.Reached.{reach_open, slots_further, step_on, step_stop}
 use Rattle.peer_window.proofs.walk.walk.Goals as goal
@@ -9,7 +9,6 @@ next_step-requires-clause-track c =
 
 pub loop-track-preserved : goal.loop-track-preserved
 loop-track-preserved c = record {
-  size = c.next_step.ensures.walker ∙ c.loop-track.invariant.size;
   slots = slots_further c.args.session.now c.args.player c.args.slots.now c.loop-track.reach c.in-On.track c.loop-track.invariant.slots (sym c.in-On.ensures.step);
   further = omega arith;
   reach = (step_on c.args.session.now c.args.player c.args.slots.now c.loop-track.reach c.in-On.track c.facts.ensures c.requires.player c.requires.length c.loop-track.invariant.slots c.loop-track.invariant.reach (sym c.in-On.ensures.step)).0;

@@ -1,11 +1,10 @@
-use Rattle.std.proofs.Common.{length, ◌-◌, ◌≡◌, ◌≤◌}
+use Rattle.std.proofs.Common.{length, ◌-◌, ◌≤◌}
 use Rattle.peer_window.specs.Slots.{AreSlots}
 use Rattle.peer_window.specs.Steps as W
 use Rattle.peer_window.proofs.walk.walk.Given as goal
 
 abbrev pub invariant-loop-track : goal.invariant-loop-track
 invariant-loop-track l = record {
-  size : l.walker ≡ l.fn.walker;
   slots : AreSlots l.player l.slots l.reach.next;
   further : l.from.next ≤ l.reach.next;
   reach : W.IsReach l.session l.player l.slots l.reach;
