@@ -1,6 +1,6 @@
--- ForPeers: how the cells at which the players were last seen follow a log as it grows, and which stage a log has come to.
-use Rattle.std.proofs.Common.{◌≡◌, ℕ, zero, suc, ◌*◌, ◌+◌, ◌≤◌, ◌<◌, List, [], ◌∷◌, length, refl, sym, ap, ◌∙◌, arith, inl, inr, subst}
-use Rattle.std.specs.Prelude.{map, slice_set, Some, None}
+-- ForPeers: how the cells at which the players were last seen follow a log as it grows.
+use Rattle.std.proofs.Common.{◌≡◌, ℕ, zero, suc, ◌<◌, List, [], ◌∷◌, length, refl, sym, ap, ◌∙◌, arith, inl, inr, subst}
+use Rattle.std.specs.Prelude.{map, slice_set}
 use Rattle.std.proofs.lemmas.Bool.{cases_eq}
 use Rattle.definitions.specs.declared.world.Cell.{Cell}
 use Rattle.definitions.specs.declared.world.Move.{Move}
@@ -8,10 +8,7 @@ use Rattle.definitions.specs.declared.logs.Entry.{Entry}
 use Rattle.definitions.specs.Lists.{item_or}
 use Rattle.definitions.specs.World.{Game, players_of, no_seat}
 use Rattle.definitions.specs.Moves.{track_after}
-use Rattle.definitions.specs.Places.{slot_at}
 use Rattle.definitions.specs.Held.{known}
-use Rattle.definitions.specs.declared.frames.What.TheVariants as F
-use Rattle.definitions.proofs.Streams.{commit_place-plain, reveal_place-plain, slot_at-commit, slot_at-reveal, slot_at-past}
 use Rattle.dilation.specs.Dilated.{cell_of, starts_of}
 use Rattle.definition_laws.specs.Distances.{last_cell}
 use Rattle.wait_rule.specs.Shown.{AreLastCells}
@@ -52,13 +49,3 @@ last_cells_set game me h later cells p cell seen all player here others q lt oth
 -- where no turn is resolved anew the cells are the same
 pub last_cells_same : (game : Game) (me : ℕ) (h later : List Entry) (cells : List Cell) → AreLastCells game me h cells → ((q : ℕ) → (q ≡ me → ⊥) → last_cell game me later q ≡ last_cell game me h q) → AreLastCells game me later cells
 last_cells_same game me h later cells seen same q lt other = seen q lt other ∙ sym (same q other)
-
--- the slot of an even place, of an odd one, and past the end, one turn ahead
-pub slot_even : (game : Game) (n t : ℕ) → game.ahead ≡ 1 → n ≡ 2 * t → t < game.turns → slot_at game n ≡ Some (record { what = F.Commit; turn = t })
-slot_even game n t a e lt = ap (slot_at game) (e ∙ sym (commit_place-plain game t a)) ∙ slot_at-commit game t (omega arith) lt
-
-pub slot_odd : (game : Game) (n t : ℕ) → game.ahead ≡ 1 → n ≡ 2 * t + 1 → t < game.turns → slot_at game n ≡ Some (record { what = F.Reveal; turn = t })
-slot_odd game n t a e lt = ap (slot_at game) (e ∙ sym (reveal_place-plain game t a)) ∙ slot_at-reveal game t (omega arith) lt
-
-pub slot_end : (game : Game) (n : ℕ) → game.ahead ≡ 1 → 2 * game.turns ≤ n → slot_at game n ≡ None
-slot_end game n a le = slot_at-past game n (omega arith) le

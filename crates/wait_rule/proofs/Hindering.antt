@@ -15,7 +15,6 @@ use Rattle.definitions.specs.Held.{known, held, resolved, resolved_count}
 use Rattle.definitions.specs.Meets.{meets, cell_before}
 use Rattle.definitions.specs.Honest.{others, lets_commit, lets_reveal}
 use Rattle.definitions.specs.Needs as N
-use Rattle.definition_laws.proofs.Nexts.{known_orderly}
 use Rattle.grid_world.specs.Sessions.{IsSession}
 use Rattle.dilation.specs.Dilated.{cell_of}
 use Rattle.wait_rule.specs.declared.views.View.{View}
@@ -49,20 +48,6 @@ meets_later : (game : Game) (me q t : ℕ) (h : List Entry) → meets game me h 
 unfolding meets
 meets_later game me q t h is = leb-true _ _ (and_parts (nat_le (resolved_count game me h q) t) _ is).0
 
--- one turn ahead, of the turns that aren't resolved only the first can be committed
-held_later : (game : Game) (me q t : ℕ) (h : List Entry) → game.ahead ≡ 1 → resolved_count game me h q ≤ t →
-    is_some (held game me h q t) ≡ (is_some (held game me h q (resolved_count game me h q)) && (resolved_count game me h q == t))
-held_later game me q t h one le =
-    let r : ℕ = resolved_count game me h q in
-    let c : ℕ = length (known game me h q).digests in
-    let order = known_orderly game me q h in
-    let within = order.within in
-    let close : c ≤ r + 1 = omega arith in
-    some_is (known game me h q).digests t ∙ by_number r c t le close ∙ ap (λ (b : Bool). b && (r == t)) (sym (some_is (known game me h q).digests r))
-  where
-    by_number : (r c t : ℕ) → r ≤ t → c ≤ r + 1 → nat_lt t c ≡ (nat_lt r c && (r == t))
-    by_number r c t le close = grind (arith, nat_tests)
-
 hinders_commit : (game : Game) (me q t : ℕ) (h : List Entry) → meets game me h q t ≡ not (lets_commit game me h t q)
 hinders_commit game me q t h =
     by_tests (is_some (resolved game me h q t)) (meets game me h q t)
@@ -74,13 +59,10 @@ hinders_commit game me q t h =
     by_tests false true only = refl
     by_tests false false only = refl
 
-hinders_reveal : (game : Game) (me q t : ℕ) (h : List Entry) (v : View) → game.ahead ≡ 1 → IsView game me h q v → (not (holds v t) && meets game me h q t) ≡ not (lets_reveal game me h t q)
-hinders_reveal game me q t h v one shown =
+hinders_reveal : (game : Game) (me q t : ℕ) (h : List Entry) (v : View) → IsView game me h q v → (not (holds v t) && meets game me h q t) ≡ not (lets_reveal game me h t q)
+hinders_reveal game me q t h v shown =
     by_tests (holds v t) (is_some (held game me h q t)) (meets game me h q t)
-    (λ is.
-    ap (λ (b : Bool). b && (v.resolved == t)) shown.held_is
-    ∙ ap (λ (n : ℕ). is_some (held game me h q (resolved_count game me h q)) && (n == t)) shown.resolved_is
-    ∙ sym (held_later game me q t h one (meets_later game me q t h is)))
+    (λ is. ap (nat_lt t) shown.commits_is ∙ sym (some_is (known game me h q).digests t))
   where
     by_tests : (k d m : Bool) → (m ≡ true → k ≡ d) → (not k && m) ≡ not (d || not m)
     by_tests true true m same = refl
@@ -117,7 +99,7 @@ hinders_is : (game : Game) (me q : ℕ) (h : List Entry) (stage : Stage) (v : Vi
 hinders_is game me q h (Commit t last) v from one waits there shown seen =
     meets_is game me q (t - game.ahead) v.resolved h last from (there (leb-true _ _ waits)) shown.resolved_is seen ∙ hinders_commit game me q (t - game.ahead) h
 hinders_is game me q h (Reveal t at) v from one waits there shown seen =
-    ap (λ (b : Bool). not (holds v t) && b) (meets_is game me q t v.resolved h at from there shown.resolved_is seen) ∙ hinders_reveal game me q t h v one shown
+    ap (λ (b : Bool). not (holds v t) && b) (meets_is game me q t v.resolved h at from there shown.resolved_is seen) ∙ hinders_reveal game me q t h v shown
 hinders_is game me q h After v from one waits there shown seen =
     ap (λ (n : ℕ). nat_lt n game.turns) shown.resolved_is ∙ not_not (nat_lt (resolved_count game me h q) game.turns)
 

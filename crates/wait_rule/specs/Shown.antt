@@ -1,5 +1,5 @@
 -- Shown: what a log shows of the players, of where they were last seen, and of the owner's next frame.
-use Rattle.std.specs.Prelude.{◌≡◌, ℕ, ◌-◌, ◌<◌, ◌≤◌, List, Option, Some, None, is_some}
+use Rattle.std.specs.Prelude.{◌≡◌, ℕ, ◌-◌, ◌<◌, ◌≤◌, List, Option, Some, None}
 use Rattle.definitions.specs.declared.world.Cell.{Cell}
 use Rattle.definitions.specs.declared.frames.What.TheVariants as F
 use Rattle.definitions.specs.declared.logs.Entry.{Entry}
@@ -7,7 +7,7 @@ use Rattle.definitions.specs.Lists.{item_or}
 use Rattle.definitions.specs.World.{Game, players_of}
 use Rattle.definitions.specs.declared.places.Slot.{Slot}
 use Rattle.definitions.specs.Places.{slot_at}
-use Rattle.definitions.specs.Held.{held, resolved_count, next_place}
+use Rattle.definitions.specs.Held.{held_count, resolved_count, next_place}
 use Rattle.definitions.specs.Meets.{cell_before}
 use Rattle.definitions.specs.Honest.{made_count}
 use Rattle.definition_laws.specs.Distances.{last_cell}
@@ -27,7 +27,7 @@ pub record Standing : Type 0 where
 pub record IsView (game : Game) (me : ℕ) (h : List Entry) (q : ℕ) (v : View) : Type 0 where
   pub resolved_is : v.resolved ≡ resolved_count game me h q
   pub next_is : v.next ≡ next_place game me h q
-  pub held_is : v.held ≡ is_some (held game me h q (resolved_count game me h q))
+  pub commits_is : v.commits ≡ held_count game me h q
 
 -- these are what it shows of each other player
 abbrev pub AreViews : Game → ℕ → List Entry → List View → Type 0

@@ -1,5 +1,5 @@
 -- Waiting: whom a player waits for, by what is known of the others and where they were last seen.
-use Rattle.std.specs.Prelude.{ℕ, ◌-◌, ◌<◌, ◌≤◌, Bool, true, false, not, ◌&&◌, ◌==◌, List, [], ◌∷◌, flat_map, nat_le, nat_lt, IsTrue, if◌then◌else◌}
+use Rattle.std.specs.Prelude.{ℕ, ◌-◌, ◌<◌, ◌≤◌, Bool, true, not, ◌&&◌, ◌==◌, List, [], ◌∷◌, flat_map, nat_le, nat_lt, IsTrue, if◌then◌else◌}
 use Rattle.std.specs.List.{range_with_len}
 use Rattle.definitions.specs.declared.world.Cell.{Cell}
 use Rattle.definitions.specs.declared.frames.What.TheVariants as F
@@ -27,7 +27,7 @@ waits game After = true
 
 -- nothing is known of a player
 abbrev pub no_view : View
-no_view = record { resolved = 0; next = 0; held = false }
+no_view = record { resolved = 0; next = 0; commits = 0 }
 
 -- the sphere of me, who stands at `at` before turn t, meets that of q, of whom so many turns are resolved, which led to `from`
 abbrev pub meets_at : Game → (me : ℕ) → (at : Cell) → (q resolved : ℕ) → (from : Cell) → (t : ℕ) → Bool
@@ -36,7 +36,7 @@ meets_at game me at q resolved from t =
 
 -- the commitment to the turn is held of a player of whom this is known
 abbrev pub holds : View → ℕ → Bool
-holds v t = v.held && (v.resolved == t)
+holds v t = nat_lt t v.commits
 
 -- the next own frame waits for q, of whom this is known, and who was last seen here
 abbrev pub hinders : Game → ℕ → Stage → ℕ → View → Cell → Bool

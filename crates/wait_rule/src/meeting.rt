@@ -95,7 +95,7 @@ pub(crate) fn hinders(
             view.resolved <= missing && meets(meeting, session, q, missing - view.resolved)
         }
         Stage::Reveal { turn, at: _ } => {
-            let held = view.held && view.resolved == turn;
+            let held = turn < view.commits;
             view.resolved <= turn && !held && meets(meeting, session, q, turn - view.resolved)
         }
         Stage::After => view.resolved < session.turns(),

@@ -2,6 +2,7 @@
 
 ghost use Rattle.std.specs.Prelude.{◌≡◌, ◌<◌, ◌≤◌, [], ◌∷◌, ◌++◌, length};
 
+use definitions::limits::MOST_NEEDS;
 use definitions::{Need, What};
 use std::marker::Model;
 
@@ -13,22 +14,23 @@ const BLANK: Need = Need {
     what: What::Commit,
 };
 
-/// At most 64 needs, one for each other player at most.
+/// At most `MOST_NEEDS` needs, one for each other player at most.
 #[derive(Drop)]
 pub struct NeedList {
-    items: [Need; 64],
+    items: [Need; MOST_NEEDS],
     count: usize,
 }
 
 impl Model for NeedList {
     ghost use Rattle.std.specs.Prelude.{List, take, ◌≤◌};
     ghost use Rattle.definitions.specs.declared.answers.Need.{Need};
+    ghost use Rattle.definitions.specs.declared.limits.TheConstants.{MOST_NEEDS};
 
     ghost Value = { List Need };
 
     ghost view = { λ n. take n.count n.items };
 
-    ghost invariant = { λ n. n.count ≤ 64 };
+    ghost invariant = { λ n. n.count ≤ MOST_NEEDS };
 }
 
 impl NeedList {
@@ -37,7 +39,7 @@ impl NeedList {
         ensures { result ≡ [] }
     {
         NeedList {
-            items: [BLANK; 64],
+            items: [BLANK; MOST_NEEDS],
             count: 0,
         }
     }
@@ -45,7 +47,7 @@ impl NeedList {
     /// The needs, in the order in which they were added.
     pub fn as_slice(&self) -> &[Need]
         ensures items { result.now ≡ self.now }
-        ensures few { length result.now ≤ 64 }
+        ensures few { length result.now ≤ MOST_NEEDS }
     {
         &self.items[..self.count]
     }
@@ -59,7 +61,7 @@ impl NeedList {
 
     /// Adds the need at the end.
     pub fn push(&mut self, item: Need)
-        requires { length self.old < 64 }
+        requires { length self.old < MOST_NEEDS }
         ensures { self.new ≡ self.old ++ item ∷ [] }
     {
         self.items[self.count] = item;

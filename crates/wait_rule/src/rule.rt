@@ -14,6 +14,7 @@ use crate::meeting::{Meeting, hinders, look_from};
 use crate::needs::NeedList;
 use crate::views::{Stage, View};
 use cell_set::CellSet;
+use definitions::limits::MOST_NEEDS;
 use definitions::{Cell, Need, PlayerId, What};
 use dilation::Dilation;
 use grid_world::Session;
@@ -82,7 +83,7 @@ fn add_need(
     requires stage { IsStage session.now stage }
     requires waits { IsTrue (W.waits session.now stage) }
     requires own { IsSight session.now me stage meeting.old.own.cells }
-    requires room { length out.old < 64 }
+    requires room { length out.old < MOST_NEEDS }
     ensures stays { Stays session.now meeting.old meeting.new }
     ensures needs { out.new ≡ out.old ++ W.need_if session.now me stage q view (cell_of meeting.old.dilation.cells q) }
 {

@@ -1,14 +1,14 @@
 //! What is known of the players, and what the own frames have come to.
 
-use definitions::{Cell, Turn};
+use definitions::{Cell, Place, Turn};
 
-/// What is known of one player: how many of its turns are resolved, the next place of its stream, counted from 0, and
-/// whether its commitment to the first turn that isn't resolved is held.
+/// What is known of one player: how many of its turns are resolved, the next place of its stream, counted from 0, and how
+/// many of its commitments are held. They are those to the first turns.
 #[derive(Clone, Copy, Debug, PartialEq, Eq)]
 pub struct View {
     pub resolved: u32,
-    pub next: u32,
-    pub held: bool,
+    pub next: Place,
+    pub commits: u32,
 }
 
 /// Which own frame is to be made next.
