@@ -2,8 +2,11 @@ pub mod Outside
 pub mod Since
 pub mod Pieces
 pub mod Noted
-pub mod Pulls
-pub mod Pushes
+pub mod Sources
+pub mod Sinks
+pub mod Shelves
+pub mod Copies
+pub mod Adapters
 pub mod Files
 pub mod Plans
 pub mod Memory

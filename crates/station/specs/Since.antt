@@ -1,6 +1,6 @@
 -- What was added to a record since it was an earlier one.
 use Rattle.std.specs.Prelude.{◌≡◌, List, [], ◌++◌, length, drop}
-use Rattle.std.proofs.Common.{refl, ap, sym, ◌∙◌, append_assoc, append-nil}
+use Rattle.std.proofs.Common.{ap, sym, ◌∙◌, append_assoc, append-nil}
 use Rattle.std.proofs.Math.Seq.{drop-append_seam}
 
 unfoldable pub since : {A : Type 0} → (before now : List A) → List A

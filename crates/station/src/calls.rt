@@ -1,6 +1,6 @@
 //! Which calls of an object in memory fail.
 
-ghost use Rattle.std.specs.Prelude.{◌≡◌, ◌≤◌, false};
+ghost use Rattle.std.specs.Prelude.{◌≡◌, false};
 ghost use Rattle.station.specs.Outside.{one_more};
 ghost use Rattle.station.specs.Memory.{unused, fails_next, after_call};
 
@@ -48,8 +48,7 @@ impl CallPlan {
 
     /// Counts a fault.
     pub(crate) fn fail(&mut self)
-        ensures after { self.new ≡ record self.old { faults = one_more self.old.faults } }
-        ensures later { self.old.faults ≤ self.new.faults }
+        ensures { self.new ≡ record self.old { faults = one_more self.old.faults } }
     {
         self.faults = self.faults.saturating_add(1);
     }

@@ -1,9 +1,9 @@
 //! Bytes copied into a buffer.
 
 ghost use Rattle.std.specs.Prelude.{◌≡◌, ◌<◌, Some, length, drop};
-ghost use Rattle.station.specs.Pulls.{Copied, pulled, TakesWithin};
+ghost use Rattle.station.specs.Copies.{Copied, pull_of};
 ghost use Rattle.station.specs.Pieces.{GivesAt};
-ghost use Rattle.station.specs.Memory.{pull_of};
+ghost use Rattle.station.specs.Sources.{pulled, TakesWithin};
 
 use crate::sources::Pull;
 

@@ -1,16 +1,16 @@
 //! A sink in memory.
 
-ghost use Rattle.std.specs.Prelude.{◌≡◌, ◌<◌, ◌≤◌, [], length, IfOk};
-ghost use Rattle.station.specs.Pushes.{Pushed, GivesWithin};
-ghost use Rattle.station.specs.Memory.{unused, sink_answer, after_call, is_push_failed};
+ghost use Rattle.std.specs.Prelude.{◌≡◌, ◌<◌, [], length, IfOk};
+ghost use Rattle.station.specs.Memory.{unused, sink_answer, after_call};
+ghost use Rattle.station.specs.Plans.{sink_state};
+ghost use Rattle.station.specs.Sinks.{GivesWithin, after_push, is_push_failed};
 
 use crate::calls::CallPlan;
 use crate::sinks::{Push, Sink};
 use std::alloc::{AllocError, Global};
 use std::marker::Model;
 
-/// Keeps what it is given in memory, up to its room. It tells what it holds, and fails at the calls that it was told to
-/// and where its room is spent.
+/// Keeps what it is given in memory, up to its room. It fails at the calls that it was told to and where its room is spent.
 #[derive(Drop)]
 pub struct MemorySink {
     bytes: Vec<u8>,
@@ -51,16 +51,15 @@ impl MemorySink {
 }
 
 impl Sink for MemorySink {
-    ghost held = { λ s. s.held };
+    ghost use Rattle.station.specs.Plans.{sink_state};
 
-    ghost faults = { λ s. s.plan.faults };
+    ghost state = { sink_state };
 
     /// Fails exactly at the numbers that it was told and where its room is spent, and else appends as many bytes as fit.
     fn write(&mut self, bytes: &[u8]) -> Push
         requires { 0 < length bytes.now }
         ensures within { GivesWithin result bytes.now }
-        ensures bytes { Pushed self.old.held self.new.held result bytes.now }
-        ensures later { self.old.plan.faults ≤ self.new.plan.faults }
+        ensures after { sink_state self.new ≡ after_push (sink_state self.old) result bytes.now }
         ensures answer { result ≡ sink_answer self.old (length bytes.now) }
         ensures counted { self.new.plan ≡ after_call self.old.plan (is_push_failed result) }
         ensures same_room { self.new.room ≡ self.old.room }

@@ -1,28 +1,22 @@
 //! Files by name.
 
-ghost use Rattle.std.specs.Prelude.{◌≡◌, ◌<◌, ◌≤◌, List, ℕ, [], ◌∷◌, ◌++◌, length};
-ghost use Rattle.station.specs.Outside.{one_more};
-ghost use Rattle.station.specs.Pieces.{Piece};
-ghost use Rattle.station.specs.Pulls.{pulled, TakesWithin, OnPullFailed, OnPulled};
+ghost use Rattle.std.specs.Prelude.{◌≡◌, ◌<◌, length};
+ghost use Rattle.station.specs.Shelves.{ShelfState, GivesTold, after_piece};
+ghost use Rattle.station.specs.Sources.{TakesWithin, pulled};
 
 use crate::sources::Pull;
 
 /// Gives pieces of files by name.
 pub trait Shelf {
     /// What its calls answered so far.
-    ghost pieces: { Self → List Piece };
-
-    /// How many calls failed so far. It never falls, and stays at 2^64 - 1 once it is there.
-    ghost faults: { Self → ℕ };
+    ghost state: { Self → ShelfState };
 
     /// Reads the bytes of that name from the place `at` on. A name that isn't there is a fault.
     fn read_at(&mut self, name: &[u8], at: u64, buf: &mut [u8]) -> Pull
         requires { 0 < length buf.old }
         ensures within { TakesWithin result buf.new }
-        ensures piece { pieces self.new ≡ pieces self.old ++ record { name = name.now; at = at; gave = pulled result buf.new } ∷ [] }
+        ensures after { state self.new ≡ after_piece (state self.old) (record { name = name.now; at = at; gave = pulled result buf.new }) }
 
-        // The count rises, by one, exactly where the call fails.
-        ensures later { faults self.old ≤ faults self.new }
-        ensures cause { OnPullFailed result (faults self.new ≡ one_more (faults self.old)) }
-        ensures steady { OnPulled result (faults self.new ≡ faults self.old) };
+        // Where it tells its files, they give what was answered.
+        ensures gives { GivesTold (state self.old).files name.now at (pulled result buf.new) };
 }

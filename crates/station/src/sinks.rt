@@ -1,8 +1,7 @@
 //! Bytes to be written.
 
-ghost use Rattle.std.specs.Prelude.{◌≡◌, ◌<◌, ◌≤◌, List, ℕ, length};
-ghost use Rattle.station.specs.Outside.{one_more};
-ghost use Rattle.station.specs.Pushes.{Pushed, GivesWithin, OnPushFailed, OnPushed};
+ghost use Rattle.std.specs.Prelude.{◌≡◌, ◌<◌, length};
+ghost use Rattle.station.specs.Sinks.{SinkState, GivesWithin, after_push};
 
 /// What a sink answers.
 #[derive(Clone, Copy, Debug, PartialEq, Eq)]
@@ -15,20 +14,12 @@ pub enum Push {
 
 /// Takes bytes, each behind those before it.
 pub trait Sink {
-    /// The bytes that its calls took so far.
-    ghost held: { Self → List ℕ };
-
-    /// How many calls failed so far. It never falls, and stays at 2^64 - 1 once it is there.
-    ghost faults: { Self → ℕ };
+    /// What its calls answered so far.
+    ghost state: { Self → SinkState };
 
     /// Appends the first of these bytes, at least one.
     fn write(&mut self, bytes: &[u8]) -> Push
         requires { 0 < length bytes.now }
         ensures within { GivesWithin result bytes.now }
-        ensures bytes { Pushed (held self.old) (held self.new) result bytes.now }
-
-        // The count rises, by one, exactly where the call fails.
-        ensures later { faults self.old ≤ faults self.new }
-        ensures cause { OnPushFailed result (faults self.new ≡ one_more (faults self.old)) }
-        ensures steady { OnPushed result (faults self.new ≡ faults self.old) };
+        ensures after { state self.new ≡ after_push (state self.old) result bytes.now };
 }
