@@ -1,56 +1,109 @@
 //! The files of the machine as a shelf.
 //!
-//! This is the trusted edge: the crate promises the contract of `Shelf` without content, so that a read takes no more bytes
-//! than fit, and answers `Failed` exactly where its count of faults rises. What a file holds is told by no clause. It opens
-//! files for reading and touches nothing else.
+//! This is the trusted edge. Each call is noted as it is answered, and counted where it fails; that it is answered by what a file of
+//! the name gave, std states nothing of, so these lines are to be read. The file that was read last stays open, so that calls that
+//! read it from its front to its end read one file, whatever becomes of its name meanwhile. It opens files for reading and touches
+//! nothing else.
 #![tactic(auto)]
 
-ghost use Rattle.std.specs.Prelude.{◌≡◌, [], false, IsErr};
+ghost use Rattle.std.specs.Prelude.{◌≡◌, None, [], false, IsErr};
 ghost use Rattle.std.specs.Io.{ReadsAtMost};
 ghost use Rattle.std.specs.Str.{is_utf8};
-ghost use Rattle.file_shelf.specs.Pulls.{pull_of};
+ghost use Rattle.file_shelf.specs.Answers.{pull_of};
 
-use record::Record;
-use station::{Pull, Shelf};
+use station::{PieceNotes, Pull, Shelf};
+use std::alloc::Global;
 use std::io::{self, ErrorKind, Read, Seek, SeekFrom};
 use std::rt::Files;
 use std::{fs, str};
 
+/// An open file, its name, and the place that its next read begins at.
+#[derive(Drop)]
+struct OpenFile<F> {
+    name: Vec<u8>,
+    next: u64,
+    file: F,
+}
+
 /// Reads the files of the machine by their paths.
 #[derive(Drop)]
-pub struct FileShelf<R> {
+pub struct FileShelf<R: Files> {
+    alloc: Global,
     files: R,
+    last: Option<OpenFile<R::File>>,
+    pieces: PieceNotes,
     faults: u64,
-    told: Record,
 }
 
 impl<R: Files> FileShelf<R> {
-    /// A shelf of the files that this runtime reaches, with no fault so far.
-    pub fn new(files: R) -> FileShelf<R>
-        ensures faults { result.faults ≡ 0 }
-        ensures pieces { ⟦<FileShelf<R> as Shelf>⟧.pieces result ≡ [] }
+    /// A shelf of the files that this runtime reaches, with no call so far.
+    pub fn new(alloc: Global, files: R) -> FileShelf<R>
+        ensures { ⟦<FileShelf<R> as Shelf>⟧.state result ≡ record { files = None; pieces = []; faults = 0 } }
     {
         FileShelf {
+            alloc,
             files,
+            last: None,
+            pieces: PieceNotes::new(),
             faults: 0,
-            told: Record::new(),
         }
     }
 }
 
-/// Reads the bytes of the file at this path from the place `at` on. A path that isn't UTF-8 is an error.
-fn read_file<R: Files>(files: &R, path: &[u8], at: u64, buf: &mut [u8]) -> io::Result<usize>
-    ensures count { ReadsAtMost result buf.new }
-    ensures named { is_utf8 path.now ≡ false → IsErr result }
+/// Opens the file at this path, at this place. A path that isn't UTF-8 is an error.
+fn open_at<R: Files>(files: &R, path: &[u8], at: u64) -> io::Result<R::File>
+    ensures { is_utf8 path.now ≡ false → IsErr result }
 {
     match str::from_utf8(path) {
         Err(_) => Err(io::Error::from(ErrorKind::InvalidInput)),
         Ok(path) => {
             let mut file = fs::open(files, path)?;
-            file.seek(SeekFrom::Start(at))?;
-            file.read(buf)
+            if at > 0 {
+                file.seek(SeekFrom::Start(at))?;
+            }
+            Ok(file)
         }
     }
+}
+
+/// The file that was read last, where this call goes on in it, and else one that is opened.
+fn file_for<R: Files>(
+    alloc: Global,
+    files: &R,
+    last: Option<OpenFile<R::File>>,
+    name: &[u8],
+    at: u64,
+) -> io::Result<OpenFile<R::File>> {
+    if let Some(open) = last {
+        if open.name.as_slice() == name && open.next == at {
+            return Ok(open);
+        }
+    }
+    let file = open_at(files, name, at)?;
+    let name = Vec::from_slice(alloc, name)?;
+    Ok(OpenFile {
+        name,
+        next: at,
+        file,
+    })
+}
+
+/// Reads the bytes of the file at this path from the place `at` on. An error closes the file.
+fn read_file<R: Files>(
+    alloc: Global,
+    files: &R,
+    last: &mut Option<OpenFile<R::File>>,
+    name: &[u8],
+    at: u64,
+    buf: &mut [u8],
+) -> io::Result<usize>
+    ensures { ReadsAtMost result buf.new }
+{
+    let mut open = file_for(alloc, files, last.take(), name, at)?;
+    let count = open.file.read(buf)?;
+    open.next = at.saturating_add(count as u64);
+    *last = Some(open);
+    Ok(count)
 }
 
 /// What is answered to what a read of a file gave.
@@ -65,22 +118,17 @@ fn pull_of(read: &io::Result<usize>) -> Pull
 }
 
 impl<R: Files> Shelf for FileShelf<R> {
-    ghost use Rattle.station.specs.Noted.{pieces_of};
+    ghost use Rattle.std.specs.Prelude.{None};
 
-    ghost pieces = { λ s. pieces_of s.told.notes };
-
-    ghost faults = { λ s. s.faults };
+    ghost state = { λ s. record { files = None; pieces = s.pieces; faults = s.faults } };
 
     fn read_at(&mut self, name: &[u8], at: u64, buf: &mut [u8]) -> Pull {
-        let pull = pull_of(&read_file(&self.files, name, at, buf));
-        match pull {
-            Pull::Took(count) => self.told.note(&[at], name, &buf[..count]),
-            Pull::Ended => self.told.note(&[at], name, b""),
-            Pull::Failed => {
-                self.told.note(&[at, 1], name, b"");
-                self.faults = self.faults.saturating_add(1);
-            }
+        let read = read_file(self.alloc, &self.files, &mut self.last, name, at, buf);
+        let pull = pull_of(&read);
+        if let Pull::Failed = pull {
+            self.faults = self.faults.saturating_add(1);
         }
+        self.pieces.note(name, at, pull, buf);
         pull
     }
 }

@@ -39,7 +39,7 @@ fn main(rt: HostRuntime) -> ExitCode {
     match words_of(&rt) {
         Ok(words) => {
             let mut input = StdSource::new(rt.reader());
-            let mut shelf = FileShelf::new(&rt);
+            let mut shelf = FileShelf::new(rt.alloc(), &rt);
             let status = run(
                 rt.alloc(),
                 words.as_slice(),

@@ -1,4 +1,4 @@
--- Pulls: what a shelf of files answers to what std's read of a file gives.
+-- What a shelf of files answers to what std's read of a file gives.
 use Rattle.std.specs.Prelude.{ℕ, Result, Ok, Err, ◌==◌, if◌then◌else◌}
 use Rattle.station.specs.declared.sources.Pull.{Pull}
 use Rattle.station.specs.declared.sources.Pull.TheVariants.{Took, Ended, Failed}
