@@ -1,7 +1,8 @@
 pub mod FirstLine
-pub mod ReadBytes
+pub mod Drawing
 pub mod Inputs
 pub mod Writing
 pub mod Pieces
+pub mod Contents
 pub mod Frames
 pub mod Finish

@@ -1,57 +1,74 @@
 -- A text that is written piece by piece.
-use Rattle.std.proofs.Common.{◌≡◌, ℕ, List, ◌++◌, length, take, drop, ap, sym, ◌∙◌, append_assoc, length-append, arith}
-use Rattle.std.proofs.lemmas.List.{take-append-drop}
+use Rattle.std.proofs.Common.{◌≡◌, ℕ, ◌+◌, ◌<◌, ◌≤◌, List, [], ◌++◌, length, take, refl, ap, sym, ◌∙◌, append_assoc, append-nil, length-append, arith}
+use Rattle.std.proofs.lemmas.List.{take-append-le}
 use Rattle.std.proofs.Math.Seq.{take-append_seam}
-use Rattle.text_io.specs.Texts.{Grew, Between, Underway}
+use Rattle.station.specs.Outside.{one_more}
+use Rattle.station.specs.Sinks.{SinkState, after_bytes}
+use Rattle.text_io.specs.Texts.{CutShort, Underway}
 
--- text begins with front
-abbrev pub Begins : List ℕ → List ℕ → Type 0
-Begins text front = (rest : List ℕ) × (text ≡ front ++ rest)
+-- nothing is written, and one text behind another
+pub bytes_none : (s : SinkState) → after_bytes s [] ≡ s
+bytes_none s = ap (λ h. let t : SinkState = record { held = h; faults = s.faults } in t) (append-nil s.held)
 
-pub begins_trans : (a b c : List ℕ) → Begins b a → Begins c b → Begins c a
-begins_trans a b c p q = (p.0 ++ q.0, q.1 ∙ ap (λ x. x ++ q.0) p.1 ∙ append_assoc a p.0 q.0)
+pub bytes_both : (s : SinkState) (t u : List ℕ) → after_bytes (after_bytes s t) u ≡ after_bytes s (t ++ u)
+bytes_both s t u = ap (λ h. let t : SinkState = record { held = h; faults = s.faults } in t) (append_assoc s.held t u)
 
--- The two forms of each: by what comes behind, and by taking.
-pub grew : (before now : List ℕ) → Begins now before → Grew before now
-grew before now b = record {
-  longer = omega (arith, length-append before b.0, ap length b.1);
-  kept = ap (take (length before)) b.1 ∙ take-append_seam before b.0;
+-- a text was written, and this is to come
+pub underway_by : (before now : SinkState) (text rest : List ℕ) → now ≡ after_bytes before text → Underway before now (text ++ rest) rest
+underway_by before now text rest e = record {
+  longer = omega (arith, length-append before.held text, ap (λ (s : SinkState). length s.held) e);
+  whole = ap (λ s. after_bytes s rest) e ∙ bytes_both before text rest;
 }
 
-pub begins : (before now : List ℕ) → take (length before) now ≡ before → Begins now before
-begins before now k = (drop (length before) now, sym (take-append-drop (length before) now) ∙ ap (λ x. x ++ drop (length before) now) k)
+-- one stretch behind another
+pub underway_on : (a b c : SinkState) (t u v : List ℕ) → Underway a b t u → Underway b c u v → Underway a c t v
+underway_on a b c t u v p q = record { longer = omega (arith, p.longer, q.longer); whole = q.whole ∙ p.whole }
 
-pub between : (before text now : List ℕ) → Begins now before → Begins (before ++ text) now → Between before text now
-between before text now k w = record {
-  longer = (grew before now k).longer;
-  kept = (grew before now k).kept;
-  shorter = omega (arith, length-append before text, length-append now w.0, ap length w.1);
-  within = (grew now (before ++ text) w).kept;
-}
+-- all is written
+pub underway_end : (before now : SinkState) (text : List ℕ) → Underway before now text [] → now ≡ after_bytes before text
+underway_end before now text u = sym (bytes_none now) ∙ u.whole
 
-pub from_before : (before text now : List ℕ) → Between before text now → Begins now before
-from_before before text now b = begins before now b.kept
-
-pub to_after : (before text now : List ℕ) → Between before text now → Begins (before ++ text) now
-to_after before text now b = begins now (before ++ text) b.within
-
--- a piece was written
-pub underway_more : (before text now now' rest piece more : List ℕ) → Underway before text now rest → rest ≡ piece ++ more → now' ≡ now ++ piece → Underway before text now' more
-underway_more before text now now' rest piece more u e w =
-    let k = begins_trans before now now' (begins before now u.kept) (piece, w) in
+-- the sink failed in a piece: `more` is what is to come behind the piece
+pub underway_cut : (before mid now : SinkState) (text rest piece more : List ℕ) → Underway before mid text rest → rest ≡ piece ++ more → CutShort mid now piece → CutShort before now text
+underway_cut before mid now text rest piece more u e c =
+    let held : mid.held ++ rest ≡ before.held ++ text = ap (λ (s : SinkState). s.held) u.whole in
+    let long : length mid.held + length rest ≡ length before.held + length text = omega (arith, length-append mid.held rest, length-append before.held text, ap length held) in
+    let split : length rest ≡ length piece + length more = omega (arith, length-append piece more, ap length e) in
+    let all : (mid.held ++ piece) ++ more ≡ before.held ++ text = append_assoc mid.held piece more ∙ ap (λ x. mid.held ++ x) (sym e) ∙ held in
+    let within : length now.held ≤ length (mid.held ++ piece) = omega (arith, length-append mid.held piece, c.front.shorter) in
     record {
-      longer = (grew before now' k).longer;
-      kept = (grew before now' k).kept;
-      whole = ap (λ x. x ++ more) w ∙ append_assoc now piece more ∙ ap (λ x. now ++ x) (sym e) ∙ u.whole;
+      front = record {
+        longer = omega (arith, u.longer, c.front.longer);
+        shorter = omega (arith, c.front.shorter);
+        within = ap (take (length now.held)) (sym all) ∙ take-append-le (length now.held) (mid.held ++ piece) more within ∙ c.front.within;
+      };
+      rose = c.rose ∙ ap (λ (s : SinkState). one_more s.faults) u.whole;
     }
 
--- the sink failed in a piece
-pub underway_cut : (before text now now' rest piece more : List ℕ) → Underway before text now rest → rest ≡ piece ++ more → Between now piece now' → Between before text now'
-underway_cut before text now now' rest piece more u e b =
-    let w = to_after now piece now' b in
-    between before text now' (begins_trans before now now' (begins before now u.kept) (from_before now piece now' b))
-    (w.0 ++ more, sym u.whole ∙ ap (λ x. now ++ x) e ∙ sym (append_assoc now piece more) ∙ ap (λ x. x ++ more) w.1 ∙ append_assoc now' w.0 more)
+-- the sink failed in all that was to come
+pub underway_ends : (before mid now : SinkState) (text rest : List ℕ) → Underway before mid text rest → CutShort mid now rest → CutShort before now text
+underway_ends before mid now text rest u c = underway_cut before mid now text rest rest [] u (sym (append-nil rest)) c
 
--- nothing more was written
-pub underway_still : (before text now now' rest : List ℕ) → Underway before text now rest → now' ≡ now → Between before text now'
-underway_still before text now now' rest u e = rw e (between before text now (begins before now u.kept) (rest, sym u.whole))
+-- the sink failed in a text, and so in a longer one
+pub cut_longer : (before now : SinkState) (text more : List ℕ) → CutShort before now text → CutShort before now (text ++ more)
+cut_longer before now text more c = underway_cut before before now (text ++ more) (text ++ more) text more (record { longer = omega arith; whole = refl }) refl c
+
+-- the sink failed in a text behind another
+pub cut_behind : (before mid now : SinkState) (text more : List ℕ) → mid ≡ after_bytes before text → CutShort mid now more → CutShort before now (text ++ more)
+cut_behind before mid now text more e c = underway_ends before mid now (text ++ more) more (underway_by before mid text more e) c
+
+-- the sink failed where nothing more was given
+pub underway_failed : (before mid now : SinkState) (text rest : List ℕ) → Underway before mid text rest → 0 < length rest → now ≡ record { held = mid.held; faults = one_more mid.faults } →
+    CutShort before now text
+underway_failed before mid now text rest u some e =
+    let held : now.held ≡ mid.held = ap (λ (s : SinkState). s.held) e in
+    let same : length now.held ≡ length mid.held = ap (λ (h : List ℕ). length h) held in
+    underway_ends before mid now text rest u
+    (record {
+      front = record {
+        longer = omega (arith, same);
+        shorter = omega (arith, same, some);
+        within = ap (λ n. take n (mid.held ++ rest)) same ∙ take-append_seam mid.held rest ∙ sym held;
+      };
+      rose = ap (λ (s : SinkState). s.faults) e;
+    })

@@ -1,19 +1,16 @@
 -- What a run has written at its very end, the line of a refusal with it.
 use Rattle.std.specs.Prelude.{◌≡◌, ◌⊎◌, ℕ, List, ◌++◌}
-use Rattle.text_io.specs.Texts.{Between}
+use Rattle.station.specs.Sinks.{SinkState, after_bytes}
+use Rattle.text_io.specs.Texts.{CutShort}
 use Rattle.text_io.specs.Frame.{Answer}
 use Rattle.text_io.specs.Statuses.{refusal_of}
 use Rattle.text_io.specs.declared.statuses.Status.{Status}
 use Rattle.text_io.specs.declared.statuses.Status.TheVariants.{NoMemory, InputFault, OutputFault}
 
--- The status stays and its line was written, or the sink failed in it.
-abbrev pub Refused : (before now : List ℕ) → Status → (result : Status) → Type 0
-Refused before now status result =
-    ((result ≡ status) × (now ≡ before ++ refusal_of status)) ⊎ ((result ≡ OutputFault) × (Between before (refusal_of status) now))
-
--- The status stays, or the count of the sink rose.
-abbrev pub RefuseCause : Type 0 → Status → Status → Type 0
-RefuseCause rose status result = (result ≡ status) ⊎ ((result ≡ OutputFault) × rose)
+-- The status stays and its line was written, or the sink failed in it, which is the status then.
+abbrev pub Refuses : (before now : SinkState) → Status → (result : Status) → Type 0
+Refuses before now status result =
+    ((result ≡ status) × (now ≡ after_bytes before (refusal_of status))) ⊎ ((result ≡ OutputFault) × CutShort before now (refusal_of status))
 
 -- what is written in all about an answer: its body, and the line of its status
 abbrev pub told_by : Answer → List ℕ
@@ -30,10 +27,10 @@ IsToBeWritten whole cut source shelf text =
 
 -- What a run has written when it ends with this status: all that is due and the status's line, or the part of it that the
 -- status tells of. `whole` is due by the whole input, `cut` by the part of it that was read before a fault of the source, and
--- `source` and `shelf` say that their counts of faults rose.
-abbrev pub Finished : (before now : List ℕ) → (whole cut : Answer) → (source shelf : Type 0) → Status → Type 0
-Finished before now whole cut source shelf NoMemory = now ≡ before ++ refusal_of NoMemory
+-- `source` and `shelf` say that they failed.
+abbrev pub Finished : (before now : SinkState) → (whole cut : Answer) → (source shelf : Type 0) → Status → Type 0
+Finished before now whole cut source shelf NoMemory = now ≡ after_bytes before (refusal_of NoMemory)
 Finished before now whole cut source shelf InputFault =
-    (shelf × (now ≡ before ++ refusal_of InputFault)) ⊎ (source × (cut.status ≡ InputFault) × (now ≡ before ++ told_by cut))
-Finished before now whole cut source shelf OutputFault = (text : List ℕ) × IsToBeWritten whole cut source shelf text × (Between before text now)
-Finished before now whole cut source shelf status = (status ≡ whole.status) × (now ≡ before ++ told_by whole)
+    (shelf × (now ≡ after_bytes before (refusal_of InputFault))) ⊎ (source × (cut.status ≡ InputFault) × (now ≡ after_bytes before (told_by cut)))
+Finished before now whole cut source shelf OutputFault = (text : List ℕ) × IsToBeWritten whole cut source shelf text × CutShort before now text
+Finished before now whole cut source shelf status = (status ≡ whole.status) × (now ≡ after_bytes before (told_by whole))

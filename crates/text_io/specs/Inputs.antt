@@ -1,5 +1,5 @@
 -- Inputs: what a run reads of its source.
-use Rattle.std.specs.Prelude.{◌≡◌, ℕ, Bool, true, List, [], ◌∷◌, ◌++◌, length, drop}
+use Rattle.std.specs.Prelude.{◌≡◌, ℕ, Bool, true, List, [], ◌∷◌, ◌++◌}
 use Rattle.text_io.specs.Lines.{lines_of, closed_lines_of}
 use Rattle.text_io.specs.declared.statuses.Status.{Status}
 use Rattle.text_io.specs.declared.statuses.Status.TheVariants.{InputFault}
@@ -38,10 +38,6 @@ ending_of Fault = AtFault
 abbrev pub input_of : Ending → List ℕ → Input
 input_of AtEnd bytes = lines_then (lines_of bytes) End
 input_of AtFault bytes = lines_then (closed_lines_of bytes) Fault
-
--- the bytes that were read of a source that had given the ones before and has given the others now
-unfoldable pub read_of : (before now : List ℕ) → List ℕ
-read_of before now = drop (length before) now
 
 -- These bytes may stand behind those that were read: none where the source answered the end.
 abbrev pub MayFollow : (ended : Bool) → (rest : List ℕ) → Type 0

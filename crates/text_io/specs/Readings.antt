@@ -1,11 +1,27 @@
--- What the answers of the readers say: of the bytes that the reader held before and of those that it read meanwhile, of those
--- that the source has left, and of those that the reader holds now.
-use Rattle.std.specs.Prelude.{◌≡◌, ℕ, Bool, true, ◌<◌, List, [], ◌∷◌, ◌++◌, length}
+-- What the readers' answers say: of the bytes that the reader held before and of those that it read meanwhile, and of those that
+-- it holds now.
+use Rattle.std.specs.Prelude.{◌≡◌, ℕ, Bool, true, false, ◌<◌, ◌≤◌, List, [], ◌∷◌, ◌++◌, length}
+use Rattle.station.specs.Outside.{faults_behind}
+use Rattle.station.specs.Since.{since, Grows}
+use Rattle.station.specs.Sources.{SourceState}
 use Rattle.text_io.specs.Lines.{lines_of, IsOpen, StartsLonger}
+use Rattle.text_io.specs.Reader.{Reader}
 use Rattle.text_io.specs.declared.bytes.NextByte.{NextByte}
 use Rattle.text_io.specs.declared.bytes.NextByte.TheVariants.{Byte, End as ByteEnd, Failed as ByteFailed}
 use Rattle.text_io.specs.declared.lines.NextLine.{NextLine}
 use Rattle.text_io.specs.declared.lines.NextLine.TheVariants.{Line, Last, TooLong, End as LineEnd, Failed as LineFailed}
+
+-- A source was read on: it has what it had, gave more or nothing, and counts a fault more exactly where it failed.
+pub record Drew (before now : SourceState) (failed : Bool) : Type 0 where
+  pub same : now.whole ≡ before.whole
+  pub grows : Grows before.seen now.seen
+  pub counted : now.faults ≡ faults_behind failed before.faults
+
+-- whether a byte could not be read
+abbrev pub is_byte_failed : NextByte → Bool
+is_byte_failed (Byte byte) = false
+is_byte_failed ByteEnd = false
+is_byte_failed ByteFailed = true
 
 -- The byte is the first of them. The end comes exactly where none is held and none left, and a fault only where none is held.
 abbrev pub GaveByte : (bytes : List ℕ) → (ended : Bool) → (now : List ℕ) → NextByte → Type 0
@@ -13,17 +29,18 @@ GaveByte bytes ended now (Byte byte) = bytes ≡ byte ∷ now
 GaveByte bytes ended now ByteEnd = (bytes ≡ []) × (ended ≡ true) × (now ≡ [])
 GaveByte bytes ended now ByteFailed = (bytes ≡ []) × (now ≡ [])
 
--- P, where a byte could not be read
-abbrev pub OnByteFailed : NextByte → Type 0 → Type 0
-OnByteFailed (Byte byte) P = Unit {0}
-OnByteFailed ByteEnd P = Unit {0}
-OnByteFailed ByteFailed P = P
+-- A byte was read, where these bytes were held before and those are held now.
+pub record ReadsByte (before now : SourceState) (held left : List ℕ) (answer : NextByte) : Type 0 where
+  pub drew : Drew before now (is_byte_failed answer)
+  pub gave : GaveByte (held ++ since before.seen now.seen) now.ended left answer
 
--- P, where a byte or the end was read
-abbrev pub OnByteRead : NextByte → Type 0 → Type 0
-OnByteRead (Byte byte) P = P
-OnByteRead ByteEnd P = P
-OnByteRead ByteFailed P = Unit {0}
+-- whether a line could not be read
+abbrev pub is_line_failed : NextLine → Bool
+is_line_failed Line = false
+is_line_failed Last = false
+is_line_failed TooLong = false
+is_line_failed LineEnd = false
+is_line_failed LineFailed = true
 
 -- The line is the first of them, up to its LF; the last one may lack the LF, and comes so only where nothing is left. The end
 -- comes exactly where none is held and none left, TooLong exactly where the first line has more than 1,024 bytes, whatever
@@ -35,18 +52,8 @@ GaveLine bytes ended now LineEnd line = (bytes ≡ []) × (ended ≡ true) × (n
 GaveLine bytes ended now TooLong line = (rest : List ℕ) → StartsLonger 1024 (lines_of (bytes ++ rest))
 GaveLine bytes ended now LineFailed line = IsOpen line × (bytes ≡ line) × (now ≡ [])
 
--- P, where a line could not be read
-abbrev pub OnLineFailed : NextLine → Type 0 → Type 0
-OnLineFailed Line P = Unit {0}
-OnLineFailed Last P = Unit {0}
-OnLineFailed TooLong P = Unit {0}
-OnLineFailed LineEnd P = Unit {0}
-OnLineFailed LineFailed P = P
-
--- P, where a line, an overlong line or the end was read
-abbrev pub OnLineRead : NextLine → Type 0 → Type 0
-OnLineRead Line P = P
-OnLineRead Last P = P
-OnLineRead TooLong P = P
-OnLineRead LineEnd P = P
-OnLineRead LineFailed P = Unit {0}
+-- A line was read, where the reader held these bytes before, and is now as `reader`.
+pub record ReadsLine (before now : SourceState) (held : List ℕ) (reader : Reader) (answer : NextLine) : Type 0 where
+  pub drew : Drew before now (is_line_failed answer)
+  pub gave : GaveLine (held ++ since before.seen now.seen) now.ended reader.pending answer reader.line
+  pub short : length reader.line ≤ 1024

@@ -1,37 +1,27 @@
--- What a sink holds once a text was written to it, or a part of the text.
-use Rattle.std.specs.Prelude.{◌≡◌, ℕ, ◌+◌, ◌≤◌, List, ◌++◌, length, take}
+-- What a sink holds once a text was written to it, or the sink failed in it.
+use Rattle.std.specs.Prelude.{◌≡◌, ℕ, ◌+◌, ◌<◌, ◌≤◌, List, ◌++◌, length, take}
+use Rattle.station.specs.Outside.{Rose}
+use Rattle.station.specs.Sinks.{SinkState, after_bytes}
 use Rattle.text_io.specs.declared.texts.Written.{Written}
 use Rattle.text_io.specs.declared.texts.Written.TheVariants.{All, Failed}
 
--- The bytes before are the front of the bytes now.
-pub record Grew (before now : List ℕ) : Type 0 where
-  pub longer : length before ≤ length now
-  pub kept : take (length before) now ≡ before
-
--- The bytes now are the bytes before with some front of the text at their end.
+-- The bytes now are the bytes before with some front of the text at their end, but not all of it.
 pub record Between (before text now : List ℕ) : Type 0 where
   pub longer : length before ≤ length now
-  pub kept : take (length before) now ≡ before
-  pub shorter : length now ≤ length before + length text
+  pub shorter : length now < length before + length text
   pub within : take (length now) (before ++ text) ≡ now
 
--- All of the text was written, or some front of it where the sink failed.
-abbrev pub Wrote : List ℕ → List ℕ → List ℕ → Written → Type 0
-Wrote before now text All = now ≡ before ++ text
-Wrote before now text Failed = Between before text now
+-- The sink failed in the text: some front of it was written, and one fault is counted.
+pub record CutShort (before now : SinkState) (text : List ℕ) : Type 0 where
+  pub front : Between before.held text now.held
+  pub rose : Rose before.faults now.faults
 
--- P, where the sink failed
-abbrev pub OnUnwritten : Written → Type 0 → Type 0
-OnUnwritten All P = Unit {0}
-OnUnwritten Failed P = P
-
--- P, where all was written
-abbrev pub OnWritten : Written → Type 0 → Type 0
-OnWritten All P = P
-OnWritten Failed P = Unit {0}
+-- All of the text was written, or the sink failed in it.
+abbrev pub Puts : (before now : SinkState) → (text : List ℕ) → Written → Type 0
+Puts before now text All = now ≡ after_bytes before text
+Puts before now text Failed = CutShort before now text
 
 -- Some of the text was written, and `rest` is still to come.
-pub record Underway (before text now rest : List ℕ) : Type 0 where
-  pub longer : length before ≤ length now
-  pub kept : take (length before) now ≡ before
-  pub whole : now ++ rest ≡ before ++ text
+pub record Underway (before now : SinkState) (text rest : List ℕ) : Type 0 where
+  pub longer : length before.held ≤ length now.held
+  pub whole : after_bytes now rest ≡ after_bytes before text

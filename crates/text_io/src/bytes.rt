@@ -1,9 +1,7 @@
 //! Bytes from a source, one by one, through a buffer.
 
-ghost use Rattle.std.specs.Prelude.{◌≡◌, ◌<◌, ◌≤◌, ◌++◌, ◌∷◌, [], List, ℕ, length};
-ghost use Rattle.station.specs.Outside.{Rose};
-ghost use Rattle.text_io.specs.Inputs.{read_of};
-ghost use Rattle.text_io.specs.Readings.{GaveByte, OnByteFailed, OnByteRead};
+ghost use Rattle.std.specs.Prelude.{◌≡◌, ◌<◌, ◌∷◌, [], length};
+ghost use Rattle.text_io.specs.Readings.{ReadsByte};
 
 use station::{Pull, Source};
 use std::marker::Model;
@@ -51,13 +49,7 @@ impl ByteReader {
 
     /// The next byte of those held and of those that the source has left.
     pub fn next<I: Source>(&mut self, input: &mut I) -> NextByte
-        ensures front { I.seen input.new ≡ I.seen input.old ++ read_of (I.seen input.old) (I.seen input.new) }
-        ensures byte { GaveByte (self.old ++ read_of (I.seen input.old) (I.seen input.new)) (I.ended input.new) self.new result }
-
-        // A fault is answered exactly where the source's count rose.
-        ensures later { I.faults input.old ≤ I.faults input.new }
-        ensures cause { OnByteFailed result (Rose (I.faults input.old) (I.faults input.new)) }
-        ensures steady { OnByteRead result (I.faults input.new ≡ I.faults input.old) }
+        ensures { ReadsByte (I.state input.old) (I.state input.new) self.old self.new result }
     {
         if self.from < self.until {
             return NextByte::Byte(self.give());

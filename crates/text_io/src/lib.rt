@@ -1,12 +1,12 @@
 //! Lines from a source, texts to a sink, the front of a file, and the frame that every command of the program shares: how a
 //! run ends, by which line it tells so, and what it has written then.
 //!
-//! Lines and texts go through buffers of a fixed size, and only `read_front` takes memory. A fault of the outside is
-//! answered exactly where a count of faults rose, and is never passed over. What is read and written is named by the
-//! clauses where the outside tells it: a line is the next one of the bytes that were left, and a sink that fails in a text
-//! holds a front of it. What a run reads of its source has its words in `specs/Inputs.antt`, so that what it writes can be said of
-//! what it read by then. The frame's words stand in `specs/Frame.antt` and `specs/Ends.antt`, and the lemmas by which a command
-//! shows that it keeps to them in `proofs/Frames.antt` and `proofs/Finish.antt`.
+//! A function that reads, writes or fetches says so by one record over the states of the object before and after: `ReadsLine`, `Puts`,
+//! `ReadsFront`, and `Ends`, `Turns` and `Plays` where it does more (`specs/Readings.antt`, `Texts`, `Fronts`, `Frame`, `Turns`). Each
+//! has its faults in it: a fault is answered exactly where it is counted, and is never passed over. Lines and texts go through buffers
+//! of a fixed size, and only `read_front` takes memory. What a run reads of its source has its words in `specs/Inputs.antt`, so that
+//! what it writes can be said of what it read by then. The lemmas by which a command shows that it keeps to the frame stand in
+//! `proofs/Frames.antt` and `proofs/Finish.antt`.
 #![tactic(auto)]
 
 pub mod bytes;

@@ -1,9 +1,7 @@
 //! Lines from a source.
 
-ghost use Rattle.std.specs.Prelude.{◌≡◌, ◌≤◌, ◌++◌, [], List, ℕ, length};
-ghost use Rattle.station.specs.Outside.{Rose};
-ghost use Rattle.text_io.specs.Inputs.{read_of};
-ghost use Rattle.text_io.specs.Readings.{GaveLine, OnLineFailed, OnLineRead};
+ghost use Rattle.std.specs.Prelude.{◌≡◌, ◌≤◌, [], length};
+ghost use Rattle.text_io.specs.Readings.{ReadsLine};
 
 use crate::bytes::{ByteReader, NextByte};
 use arrayvec::ArrayVec;
@@ -63,14 +61,7 @@ impl LineReader {
 
     /// Reads the next line of the bytes held and of those that the source has left.
     pub fn next<I: Source>(&mut self, input: &mut I) -> NextLine
-        ensures front { I.seen input.new ≡ I.seen input.old ++ read_of (I.seen input.old) (I.seen input.new) }
-        ensures line { GaveLine (self.old.pending ++ read_of (I.seen input.old) (I.seen input.new)) (I.ended input.new) self.new.pending result self.new.line }
-        ensures short { length self.new.line ≤ 1024 }
-
-        // A fault is answered exactly where the source's count rose.
-        ensures later { I.faults input.old ≤ I.faults input.new }
-        ensures cause { OnLineFailed result (Rose (I.faults input.old) (I.faults input.new)) }
-        ensures steady { OnLineRead result (I.faults input.new ≡ I.faults input.old) }
+        ensures { ReadsLine (I.state input.old) (I.state input.new) self.old.pending self.new result }
     {
         take_line(&mut self.bytes, &mut self.line, input)
     }
@@ -82,12 +73,7 @@ fn take_line<I: Source>(
     line: &mut ArrayVec<u8, 1024>,
     input: &mut I,
 ) -> NextLine
-    ensures front { I.seen input.new ≡ I.seen input.old ++ read_of (I.seen input.old) (I.seen input.new) }
-    ensures line { GaveLine (bytes.old ++ read_of (I.seen input.old) (I.seen input.new)) (I.ended input.new) bytes.new result line.new.items }
-    ensures short { length line.new.items ≤ 1024 }
-    ensures later { I.faults input.old ≤ I.faults input.new }
-    ensures cause { OnLineFailed result (Rose (I.faults input.old) (I.faults input.new)) }
-    ensures steady { OnLineRead result (I.faults input.new ≡ I.faults input.old) }
+    ensures { ReadsLine (I.state input.old) (I.state input.new) bytes.old (record { line = line.new.items; pending = bytes.new }) result }
 {
     line.clear();
     'bytes: loop {

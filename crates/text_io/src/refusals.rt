@@ -1,10 +1,8 @@
 //! The last line of a run that did not come to its command's end.
 
-ghost use Rattle.std.specs.Prelude.{◌≡◌, ◌≤◌, List, ℕ, length};
-ghost use Rattle.station.specs.Outside.{Rose};
-ghost use Rattle.text_io.specs.Frame.{UnlessOutputFault};
+ghost use Rattle.std.specs.Prelude.{◌≡◌, ◌≤◌, length};
 ghost use Rattle.text_io.specs.Statuses.{rule_name, why_word, text_word, bad_session_line, bad_log_line, bad_line_line, refusal_of};
-ghost use Rattle.text_io.specs.Ends.{Refused, RefuseCause};
+ghost use Rattle.text_io.specs.Ends.{Refuses};
 
 use crate::statuses::{Status, TextName};
 use crate::texts::{Written, put};
@@ -141,12 +139,7 @@ fn refusal(status: Status) -> RefusalLine
 
 /// Writes the line by which the status is told, if it has one. Where the sink fails in it, that is the status.
 pub fn refuse<O: Sink>(status: Status, out: &mut O) -> Status
-    ensures text { Refused (O.held out.old) (O.held out.new) status result }
-
-    // The status changes exactly where the sink's count rose.
-    ensures later { O.faults out.old ≤ O.faults out.new }
-    ensures cause { RefuseCause (Rose (O.faults out.old) (O.faults out.new)) status result }
-    ensures steady { UnlessOutputFault result (O.faults out.new ≡ O.faults out.old) }
+    ensures { Refuses (O.state out.old) (O.state out.new) status result }
 {
     match put(out, refusal(status).as_slice()) {
         Written::All => status,

@@ -1,8 +1,6 @@
 //! Texts to a sink.
 
-ghost use Rattle.std.specs.Prelude.{◌≡◌, ◌≤◌, List, ℕ};
-ghost use Rattle.station.specs.Outside.{Rose};
-ghost use Rattle.text_io.specs.Texts.{Wrote, OnUnwritten, OnWritten};
+ghost use Rattle.text_io.specs.Texts.{Puts};
 
 use station::{Push, Sink};
 
@@ -17,12 +15,7 @@ pub enum Written {
 
 /// Writes the bytes, all of them unless the sink fails. An empty text is written without a call of the sink.
 pub fn put<O: Sink>(out: &mut O, bytes: &[u8]) -> Written
-    ensures text { Wrote (O.held out.old) (O.held out.new) bytes.now result }
-
-    // A fault is answered exactly where the sink's count rose.
-    ensures later { O.faults out.old ≤ O.faults out.new }
-    ensures cause { OnUnwritten result (Rose (O.faults out.old) (O.faults out.new)) }
-    ensures steady { OnWritten result (O.faults out.new ≡ O.faults out.old) }
+    ensures { Puts (O.state out.old) (O.state out.new) bytes.now result }
 {
     let mut rest = bytes;
     while !rest.is_empty() {

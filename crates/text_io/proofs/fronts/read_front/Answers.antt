@@ -1,59 +1,48 @@
-use Rattle.std.proofs.Common.{arith, length, ◌≡◌, ◌++◌, ◌≤◌, take, refl}
+use Rattle.std.proofs.Common.{arith, length, ℕ, ◌≡◌, ◌+◌, ◌-◌, ◌≤◌, subst}
 use Rattle.std.proofs.lemmas.Grind.{common_steps}
-use Rattle.station.specs.Since.{grows_none, grows_on, grows_by}
-use Rattle.text_io.proofs.Pieces.{pieces_before, pieces_more, pieces_none, front_more, front_ended, front_full, front_none}
+use Rattle.text_io.proofs.Pieces.{Fetching, fetching_none, fetching_more, fetched_so, call_split, front_none, front_more, front_full, front_refused, front_stopped}
 use Rattle.text_io.proofs.fronts.read_front.Goals as goal
 
+pub returns-in_default : goal.returns-in_default
+returns-in_default g c = record { fetched = fetched_so _ _ _ _ (fetching_none _ _); front_is = λ files h. tt; short = tt }
+
 pub chunks-init : goal.chunks-init
-chunks-init g c = record {
-  grows = grows_none _;
-  front = λ files h. front_none _ _ c.new-text.ensures.items;
-  short = grind (arith, common_steps);
-  steady = refl;
-  asked = pieces_none _ _;
-}
+chunks-init g c =
+    let none : 0 ≡ length c.new-text.result.items = grind (arith, common_steps) in
+    let shelf = g.H.Shelf.state c.args.shelf.now in
+    record {
+      fetching = subst (λ (n : ℕ). Fetching shelf shelf c.args.name.now n) none (fetching_none shelf c.args.name.now);
+      front = λ files h. front_none _ _ c.new-text.ensures.items;
+      short = omega (arith, none);
+      room = c.in-Ok.ensures;
+    }
 
-pub returns-in-Failed-clause-grows : goal.returns-in-Failed-clause-grows
-returns-in-Failed-clause-grows g c = grows_on _ _ _ c.chunks.invariant.grows (grows_by _ _ _ c.in-Failed.ensures.piece)
+pub returns-in-Fault : goal.returns-in-Fault
+returns-in-Fault g c = front_refused _ _ _ _ _ c.take_piece.new.text.items (length c.as_mut_slice.result.now) _ c.in-Fault.fault c.chunks.invariant.fetching c.in-Fault.ensures
 
-pub returns-in-Failed-clause-asked : goal.returns-in-Failed-clause-asked
-returns-in-Failed-clause-asked g c = pieces_more _ _ _ _ _ c.chunks.invariant.grows c.in-Failed.ensures.piece c.chunks.invariant.asked refl
-
-pub returns-in-Ended-clause-grows : goal.returns-in-Ended-clause-grows
-returns-in-Ended-clause-grows g c = grows_on _ _ _ c.chunks.invariant.grows (grows_by _ _ _ c.in-Ended.ensures.piece)
-
-pub returns-in-Ended-clause-asked : goal.returns-in-Ended-clause-asked
-returns-in-Ended-clause-asked g c = pieces_more _ _ _ _ _ c.chunks.invariant.grows c.in-Ended.ensures.piece c.chunks.invariant.asked refl
-
-pub returns-in-Ended-clause-front : goal.returns-in-Ended-clause-front
-returns-in-Ended-clause-front g c = λ files h.
-    let here : c.len-in-chunks.result ≡ length c.chunks.text.items = grind (arith, common_steps) in
-    let r = pieces_before _ _ _ _ _ c.chunks.invariant.grows c.in-Ended.ensures.piece h in
-    front_ended _ _ _ _ (c.chunks.invariant.front files r.0) r.1 here c.chunks.invariant.short
-
-pub returns-then-is_err-clause-grows : goal.returns-then-is_err-clause-grows
-returns-then-is_err-clause-grows g c = grows_on _ _ _ c.chunks.invariant.grows (grows_by _ _ _ c.in-Took.ensures.piece)
-
-pub returns-then-is_err-clause-asked : goal.returns-then-is_err-clause-asked
-returns-then-is_err-clause-asked g c = pieces_more _ _ _ _ _ c.chunks.invariant.grows c.in-Took.ensures.piece c.chunks.invariant.asked refl
+pub returns-in-End : goal.returns-in-End
+returns-in-End g c = front_stopped _ _ _ _ _ _ (length c.as_mut_slice.result.now) _ c.chunks.invariant.fetching c.chunks.invariant.front c.chunks.invariant.short c.in-End.ensures
 
 pub chunks-preserved : goal.chunks-preserved
 chunks-preserved g c =
-    let here : c.len-in-chunks.result ≡ length c.chunks.text.items = grind (arith, common_steps) in
-    let within : c.min-wanted.result ≤ c.in-Took.count = omega (arith, c.min-wanted.ensures) in
-    let fits : c.min-wanted.result ≤ length c.read_at.new.buf = omega (arith, within, c.in-Took.ensures.within) in
-    let is : c.extend_from_slice.new.self.items ≡ c.chunks.text.items ++ take c.min-wanted.result c.read_at.new.buf = grind (arith, common_steps) in
+    let more = c.in-More.ensures in
+    let long : length c.chunks.text.items + length more.0 ≡ length c.take_piece.new.text.items = grind (arith, common_steps, more.4) in
+    let within : length c.as_mut_slice.result.now ≤ c.args.limit - length c.chunks.text.items = grind (arith, common_steps) in
+    let shelf = g.H.Shelf.state c.args.shelf.now in
     record {
-      grows = grows_on _ _ _ c.chunks.invariant.grows (grows_by _ _ _ c.in-Took.ensures.piece);
+      fetching = subst (λ (n : ℕ). Fetching shelf (g.H.Shelf.state c.take_piece.new.shelf) c.args.name.now n) long (fetching_more _ _ _ _ _ more.0 c.chunks.invariant.fetching more.1 more.2);
       front = λ files h.
-          let r = pieces_before _ _ _ _ _ c.chunks.invariant.grows c.in-Took.ensures.piece h in
-          front_more _ _ _ _ _ _ _ (c.chunks.invariant.front files r.0) r.1 here c.in-Took.ensures.within.2 within fits is;
-      short = grind (arith, common_steps);
-      steady = grind (arith, common_steps);
-      asked = pieces_more _ _ _ _ _ c.chunks.invariant.grows c.in-Took.ensures.piece c.chunks.invariant.asked refl;
+          let r = call_split files _ _ _ _ _ _ c.chunks.invariant.fetching more.1 h in
+          front_more _ _ _ _ (c.chunks.invariant.front files r.0) r.1 more.4;
+      short = omega (arith, long, within, more.3, c.chunks.invariant.short);
+      room = grind (arith, common_steps);
     }
 
-pub returns-clause-front : goal.returns-clause-front
-returns-clause-front g c = λ files h.
+pub returns : goal.returns
+returns g c =
     let full : length c.chunks.text.items ≡ c.args.limit = grind (arith, common_steps) in
-    front_full _ _ _ (c.chunks.invariant.front files h) c.requires full
+    record {
+      fetched = fetched_so _ _ _ _ c.chunks.invariant.fetching;
+      front_is = λ files h. front_full _ _ _ (c.chunks.invariant.front files h) c.requires full;
+      short = c.chunks.invariant.short;
+    }

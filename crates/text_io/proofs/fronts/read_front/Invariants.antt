@@ -1,17 +1,15 @@
-use Rattle.std.proofs.Common.{◌≡◌, ◌≤◌, ◌-◌, List, ℕ, Option, length}
-use Rattle.std.specs.List.{AllByRecursion}
-use Rattle.station.specs.Since.{since, Grows}
+use Rattle.std.proofs.Common.{◌<◌, ◌≤◌, ◌-◌, List, ℕ, Option, length}
+use Rattle.station.specs.Since.{since}
 use Rattle.station.specs.Pieces.{ArePiecesOf}
-use Rattle.text_io.specs.Fronts.{Fronted}
+use Rattle.text_io.proofs.Pieces.{Fetching, Fronted}
 use Rattle.text_io.proofs.fronts.read_front.Given as goal
 
 abbrev pub invariant-chunks : goal.invariant-chunks
 invariant-chunks g l = record {
-  grows : Grows (g.H.Shelf.pieces l.initial.shelf) (g.H.Shelf.pieces l.shelf);
-  front : (files : List ℕ → Option (List ℕ)) → ArePiecesOf files (since (g.H.Shelf.pieces l.initial.shelf) (g.H.Shelf.pieces l.shelf)) → Fronted (files l.name) l.text.items;
+  fetching : Fetching (g.H.Shelf.state l.initial.shelf) (g.H.Shelf.state l.shelf) l.name (length l.text.items);
+  front : (files : List ℕ → Option (List ℕ)) → ArePiecesOf files (since (g.H.Shelf.state l.initial.shelf).pieces (g.H.Shelf.state l.shelf).pieces) → Fronted (files l.name) l.text.items;
   short : length l.text.items ≤ l.limit;
-  steady : g.H.Shelf.faults l.shelf ≡ g.H.Shelf.faults l.initial.shelf;
-  asked : AllByRecursion (λ piece. piece.name ≡ l.name) (since (g.H.Shelf.pieces l.initial.shelf) (g.H.Shelf.pieces l.shelf));
+  room : 0 < length l.chunk.items;
 }
 
 abbrev pub decreases-chunks : goal.decreases-chunks
