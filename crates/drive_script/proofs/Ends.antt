@@ -10,9 +10,10 @@ use Rattle.text_io.specs.Inputs.{AtEnd, AtFault, End, Ending, Fault, Input, Line
 use Rattle.text_io.specs.declared.statuses.Status.{Status}
 use Rattle.text_io.specs.declared.statuses.Status.TheVariants.{Caught}
 use Rattle.script_grammar.specs.Grammar.{is_bad}
-use Rattle.drive_script.specs.Driven.{State, fresh}
+use Rattle.drive_script.specs.Driven.{Driven, State, fresh}
 use Rattle.drive_script.specs.Coming.{log_on}
 use Rattle.drive_script.specs.Drive.{answer_by, bad_line, drive, drive_from, drive_log, going_on, log_by, log_from, said_behind, state_behind, status_for, text_behind}
+use Rattle.drive_script.specs.Hearing.{driven_from}
 use Rattle.drive_script.specs.Lines.{end_text}
 
 clean_status : (b : Bool) (bad : Option ℕ) (ending : Ending) (s : Status) → b ≡ true → s ≡ status_for true bad ending → s ≡ status_for b bad ending
@@ -51,3 +52,12 @@ unfolding drive drive_log
 drive_status game me first input =
     let next = advance game me first in
     on_status game me next (log_from game me (fresh next) 0 (lines_in input)) (drive_from game me (fresh next) 0 input) (bad_line 0 (lines_in input)) (ending_of input) (from_status game me (fresh next) 0 input)
+
+-- the status that is due from a driver on
+pub driven_status : (d : Driven) (input : Input) → (clean : Bool) × (bad : Option ℕ) × ((driven_from d input).status ≡ status_for clean bad (ending_of input))
+driven_status d input =
+    let last = log_from d.game d.me d.state d.lines (lines_in input) in (
+      is_clean d.game (log_on d.game d.state.log last),
+      bad_line d.lines (lines_in input),
+      on_status d.game d.me d.state.log last (drive_from d.game d.me d.state d.lines input) (bad_line d.lines (lines_in input)) (ending_of input) (from_status d.game d.me d.state d.lines input),
+    )

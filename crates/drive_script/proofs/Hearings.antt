@@ -1,5 +1,5 @@
 -- Hearings: the answer from a line on, by what the line says.
-use Rattle.std.proofs.Common.{Bool, List, [], ap, append-nil, append_assoc, false, length, nat_lt, refl, subst, sym, true, ℕ, ◌+◌, ◌++◌, ◌<◌, ◌∙◌, ◌∷◌, ◌≡◌}
+use Rattle.std.proofs.Common.{Bool, List, [], ap, false, length, nat_lt, refl, sym, true, ℕ, ◌+◌, ◌++◌, ◌<◌, ◌∙◌, ◌∷◌, ◌≡◌}
 use Rattle.std.specs.Prelude.{nat_le, not, ◌||◌, if◌then◌else◌}
 use Rattle.std.proofs.lemmas.Bool.{lt-ltb}
 use Rattle.definitions.specs.declared.world.Move.{Move}
@@ -12,13 +12,14 @@ use Rattle.definitions.specs.declared.frames.TurnFrame.{TurnFrame}
 use Rattle.definitions.specs.Findings.{is_clean}
 use Rattle.definitions.specs.Answers.{got_answer, place_of}
 use Rattle.definitions.specs.Steps.{after_choice, after_got}
-use Rattle.text_io.specs.Frame.{Answer, Ended, Onward, after_text, bare_answer}
+use Rattle.station.specs.Sinks.{SinkState, after_bytes}
+use Rattle.text_io.specs.Frame.{Answer, Ends, after_text, bare_answer}
 use Rattle.text_io.specs.Inputs.{Fault, Input, Line, lines_then}
 use Rattle.text_io.specs.Lines.{StartsLonger}
-use Rattle.text_io.specs.Texts.{Between}
+use Rattle.text_io.specs.declared.statuses.Status.{Status}
 use Rattle.text_io.specs.declared.statuses.Status.TheVariants.{BadLine, Caught, InputFault}
 use Rattle.text_io.specs.declared.statuses.TextName.TheVariants.{Script}
-use Rattle.text_io.proofs.Writing.{grew}
+use Rattle.text_io.proofs.Writing.{bytes_none}
 use Rattle.script_grammar.specs.declared.grammar.DriveLine.{DriveLine}
 use Rattle.script_grammar.specs.declared.grammar.DriveLine.TheVariants.{Bad, Nothing, Choose, Got, Bytes, Log}
 use Rattle.script_grammar.specs.Grammar.{is_bad, line_of}
@@ -26,7 +27,6 @@ use Rattle.drive_script.specs.Driven.{State, with_log}
 use Rattle.drive_script.specs.Coming.{received_text, bytes_text, bytes_state}
 use Rattle.drive_script.specs.Drive.{answer_by, drive_from, going_on, said_behind, state_behind, text_behind}
 use Rattle.drive_script.specs.Lines.{added_text, choice_text, got_text, end_text, log_text}
-use Rattle.drive_script.proofs.Pieces.{wrote_first}
 
 -- the answer from a log on that has no finding, and from one that has
 pub goes_on : (game : Game) (me : ℕ) (h : List Entry) (rest : Answer) → is_clean game h ≡ true → going_on game me h rest ≡ rest
@@ -100,31 +100,25 @@ pub too_long : (game : Game) (me : ℕ) (s : State) (n : ℕ) (lines : List (Lis
 too_long game me s n [] last c l = absurd l
 too_long game me s n (line ∷ lines) last c l = refused game me s n line (lines_then lines last) c (sym (overlong n line l))
 
--- the text before the rest was written
-pub onward_text : (a b t : List ℕ) (p q : Answer) → p ≡ after_text t q → (b ≡ a ++ t) → Onward a p b q
-onward_text a b t p q e w = record {
-  longer = (grew a b (t, w)).longer;
-  kept = (grew a b (t, w)).kept;
-  text = ap (λ x. x ++ q.body) w ∙ append_assoc a t q.body ∙ ap (λ (r : Answer). a ++ r.body) (sym e);
-  status = ap (λ (r : Answer). r.status) (sym e);
-}
+-- a status that is all that is due ends the run, and nothing is written
+bare_ends : (a : SinkState) (p : Answer) (s : Status) → p ≡ bare_answer s → (a ≡ after_bytes a p.body) × (s ≡ p.status)
+bare_ends a p s e = (sym (bytes_none a) ∙ ap (λ (r : Answer). after_bytes a r.body) (sym e), ap (λ (r : Answer). r.status) (sym e))
 
--- the sink failed in the text before the rest
-pub between_text : (a b t : List ℕ) (p q : Answer) → p ≡ after_text t q → Between a t b → Between a p.body b
-between_text a b t p q e w = let F : Answer → Type 0 = λ r. Between a r.body b in subst F (sym e) (wrote_first a b t q.body w)
+-- a line of no grammar ends the run
+pub bad_ends : (a : SinkState) (p : Answer) (n : ℕ) → p ≡ bare_answer (BadLine Script n) → Ends a a p (BadLine Script n)
+bad_ends a p n e = bare_ends a p (BadLine Script n) e
 
--- a line of no grammar ends the run, and nothing was written
-pub bad_ends : (a : List ℕ) (p : Answer) (n : ℕ) → p ≡ bare_answer (BadLine Script n) → Ended a a p (BadLine Script n)
-bad_ends a p n e = (sym (append-nil a) ∙ ap (λ (r : Answer). a ++ r.body) (sym e), ap (λ (r : Answer). r.status) (sym e))
-
--- a fault of the source ends the run, and nothing was written
-pub fault_ends : (game : Game) (me : ℕ) (s : State) (n : ℕ) (a : List ℕ) (input : Input) → is_clean game s.log ≡ true → input ≡ Fault →
-    Ended a a (answer_from game me s n input) InputFault
+-- a fault of the source ends the run
+pub fault_ends : (game : Game) (me : ℕ) (s : State) (n : ℕ) (a : SinkState) (input : Input) → is_clean game s.log ≡ true → input ≡ Fault →
+    Ends a a (answer_from game me s n input) InputFault
 fault_ends game me s n a input c e =
-    let due : answer_from game me s n input ≡ bare_answer InputFault = ap (answer_from game me s n) e ∙ goes_on game me s.log (drive_from game me s n Fault) c in
-    (sym (append-nil a) ∙ ap (λ (r : Answer). a ++ r.body) (sym due), ap (λ (r : Answer). r.status) (sym due))
+    bare_ends a (answer_from game me s n input) InputFault (ap (answer_from game me s n) e ∙ goes_on game me s.log (drive_from game me s n Fault) c)
 
 -- a log has no finding where its peer tells of none, and has one where it tells of it
 pub told_none : (b clean : Bool) → b ≡ not clean → b ≡ false → clean ≡ true
 told_none b true e f = refl
 told_none b false e f = cc
+
+pub told_some : (b clean : Bool) → b ≡ not clean → b ≡ true → clean ≡ false
+told_some b true e f = cc
+told_some b false e f = refl

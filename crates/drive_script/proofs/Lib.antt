@@ -1,5 +1,4 @@
 pub mod Choices
-pub mod Pieces
 pub mod Plays
 pub mod Players
 pub mod Hearings

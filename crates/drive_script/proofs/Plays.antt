@@ -1,44 +1,85 @@
 -- Plays: a line that is read and answered, and the ends to which reading comes.
-use Rattle.std.proofs.Common.{◌≡◌, ℕ, ◌<◌, List, [], ◌∷◌, ◌++◌, Bool, length, refl, subst, sym, ◌∙◌}
+use Rattle.std.proofs.Common.{◌≡◌, ℕ, Bool, true, false, Option, Some, None, List, ◌∷◌, ◌++◌, refl, ap, subst, sym, ◌∙◌}
+use Rattle.definitions.specs.Findings.{is_clean}
+use Rattle.station.specs.Since.{since}
+use Rattle.station.specs.Sinks.{SinkState}
+use Rattle.station.specs.Sources.{SourceState}
 use Rattle.text_io.specs.Lines.{IsOpen}
-use Rattle.text_io.specs.Frame.{Ended, EndCause, Onward}
-use Rattle.text_io.specs.Inputs.{AtEnd, End, Input, Line, input_by, input_of}
-use Rattle.text_io.specs.Turns.{TurnCause, Turned}
+use Rattle.text_io.specs.Frame.{Answer, Ends, Onward}
+use Rattle.text_io.specs.Inputs.{AtEnd, AtFault, End, Ending, Fault, Input, Line, MayFollow, ending_of, input_of}
+use Rattle.text_io.specs.Readings.{Drew}
+use Rattle.text_io.specs.Turns.{Plays, PlaysTurn, Turns}
 use Rattle.text_io.specs.declared.statuses.Status.{Status}
-use Rattle.text_io.specs.declared.statuses.Status.TheVariants.{InputFault}
+use Rattle.text_io.specs.declared.statuses.Status.TheVariants.{Caught, Done, InputFault, NoMemory, OutputFault}
 use Rattle.text_io.specs.declared.turns.LoopTurn.{LoopTurn}
 use Rattle.text_io.specs.declared.turns.LoopTurn.TheVariants.{On, Over}
-use Rattle.text_io.proofs.Inputs.{end_read, last_read, line_read}
+use Rattle.text_io.proofs.Drawing.{drew_none}
+use Rattle.text_io.proofs.Inputs.{line_read}
+use Rattle.drive_script.specs.Drive.{drive_from, status_for}
 use Rattle.drive_script.specs.Driven.{Driven}
-use Rattle.drive_script.specs.Ends.{ScriptEnds}
 use Rattle.drive_script.specs.Hearing.{driven_from}
-use Rattle.drive_script.specs.Playing.{Played}
+use Rattle.drive_script.proofs.Ends.{driven_status}
+use Rattle.drive_script.proofs.Hearings.{comes_to_end}
 
--- a run that ends by no fault of the source has read the whole input
-whole_read : (output : Type 0) (s : Status) (bytes rest : List ℕ) → EndCause ScriptEnds ⊥ output s → input_by s bytes rest ≡ input_of AtEnd (bytes ++ rest)
-whole_read output InputFault bytes rest c = absurd c
-whole_read output s bytes rest c = refl
+-- what is due by an input that is read to its end is no fault of the source, and by one that is cut by a fault it is never done
+no_fault : (clean : Bool) (bad : Option ℕ) → InputFault ≡ status_for clean bad AtEnd → ⊥
+no_fault false bad e = cc
+no_fault true (Some n) e = cc
+no_fault true None e = cc
 
--- the run ended by what it read
-module _ (output : Type 0) (a b : List ℕ) (d : Driven) (s : Status) (bytes rest : List ℕ) (c : EndCause ScriptEnds ⊥ output s) where
-  ended_by : (input : Input) → input_of AtEnd (bytes ++ rest) ≡ input → Ended a b (driven_from d input) s → Ended a b (driven_from d (input_by s bytes rest)) s
-  ended_by input e ended =
-      let E : Input → Type 0 = λ i. Ended a b (driven_from d i) s in
-      subst E (sym (whole_read output s bytes rest c ∙ e)) ended
+not_done : (clean : Bool) (bad : Option ℕ) → Done ≡ status_for clean bad AtFault → ⊥
+not_done false bad e = cc
+not_done true (Some n) e = cc
+not_done true None e = cc
 
-  -- at the end
-  pub ended_at_end : bytes ≡ [] → rest ≡ [] → Ended a b (driven_from d End) s → Ended a b (driven_from d (input_by s bytes rest)) s
-  ended_at_end none gone ended = ended_by End (end_read bytes rest none gone) ended
+due_no_fault : (d : Driven) (input : Input) → ending_of input ≡ AtEnd → InputFault ≡ (driven_from d input).status → ⊥
+due_no_fault d input ends e = let s = driven_status d input in no_fault s.0 s.1 (e ∙ s.2 ∙ ap (status_for s.0 s.1) ends)
 
-  -- at the last line
-  pub ended_at_last : (line : List ℕ) → IsOpen line → 0 < length line → bytes ≡ line → rest ≡ [] → Ended a b (driven_from d (Line line End)) s → Ended a b (driven_from d (input_by s bytes rest)) s
-  ended_at_last line uncut some is gone ended = ended_by (Line line End) (last_read bytes line rest uncut some is gone) ended
+due_not_done : (d : Driven) (input : Input) → ending_of input ≡ AtFault → Done ≡ (driven_from d input).status → ⊥
+due_not_done d input ends e = let s = driven_status d input in not_done s.0 s.1 (e ∙ s.2 ∙ ap (status_for s.0 s.1) ends)
+
+pub caught_status : (d : Driven) (input : Input) → is_clean d.game d.state.log ≡ false → (driven_from d input).status ≡ Caught
+caught_status d input c = ap (λ (a : Answer). a.status) (comes_to_end d.game d.me d.state.log (drive_from d.game d.me d.state d.lines input) c)
+
+-- a run whose log has a finding ends without a look at its input
+module _ (i : SourceState) (a b : SinkState) (d : Driven) (held : List ℕ) (found : is_clean d.game d.state.log ≡ false) where
+  pub caught_plays : (s : Status) → ((input : Input) → Ends a b (driven_from d input) s) → Plays i i a b (driven_from d) held s
+  caught_plays NoMemory e = absurd (e End)
+  caught_plays InputFault e = absurd (let never : InputFault ≡ Caught = (e End).1 ∙ caught_status d End found in cc)
+  caught_plays Done e = absurd (let never : Done ≡ Caught = (e End).1 ∙ caught_status d End found in cc)
+  caught_plays OutputFault e = record { drew = drew_none i; ends = λ behind m. e _; over = tt }
+  caught_plays s e = record { drew = drew_none i; ends = λ behind m. e _; over = tt }
+
+-- a run that has read its source to its end
+module _ (i j : SourceState) (a b : SinkState) (d : Driven) (held : List ℕ) (drew : Drew i j false) (over : j.ended ≡ true) (input : Input) (ends : ending_of input ≡ AtEnd)
+    (is : (behind : List ℕ) → MayFollow j.ended behind → input_of AtEnd ((held ++ since i.seen j.seen) ++ behind) ≡ input) where
+  pub ended_plays : (s : Status) → Ends a b (driven_from d input) s → Plays i j a b (driven_from d) held s
+  ended_plays NoMemory e = absurd e
+  ended_plays InputFault e = absurd (due_no_fault d input ends e.1)
+  ended_plays OutputFault e = record { drew = drew; ends = λ behind m. subst (λ (i : Input). Ends a b (driven_from d i) OutputFault) (sym (is behind m)) e; over = tt }
+  ended_plays Done e = record { drew = drew; ends = λ behind m. subst (λ (i : Input). Ends a b (driven_from d i) Done) (sym (is behind m)) e; over = over }
+  ended_plays s e = record { drew = drew; ends = λ behind m. subst (λ (i : Input). Ends a b (driven_from d i) s) (sym (is behind m)) e; over = tt }
 
 -- a line was read and answered
-pub line_played : (output : Type 0) (a b : List ℕ) (d d' : Driven) (bytes held line : List ℕ) (left : Bool) (turn : LoopTurn) → IsOpen line → bytes ≡ line ++ 10 ∷ held →
-    ((input : Input) → Turned a (driven_from d (Line line input)) b (driven_from d' input) turn) → TurnCause ScriptEnds ⊥ output turn → Played a b d d' bytes left held turn
-line_played output a b d d' bytes held line left On uncut is turned c = λ ending rest.
-    let O : Input → Type 0 = λ i. Onward a (driven_from d i) b (driven_from d' (input_of ending (held ++ rest))) in
-    subst O (sym (line_read ending bytes line held rest uncut is)) (turned (input_of ending (held ++ rest)))
-line_played output a b d d' bytes held line left (Over s) uncut is turned c = λ rest m.
-    ended_by output a b d s bytes rest c (Line line (input_of AtEnd (held ++ rest))) (line_read AtEnd bytes line held rest uncut is) (turned (input_of AtEnd (held ++ rest)))
+module _ (i j : SourceState) (a b : SinkState) (d d' : Driven) (held held' line : List ℕ) (drew : Drew i j false) (uncut : IsOpen line) (is : held ++ since i.seen j.seen ≡ line ++ 10 ∷ held') where
+  due_line : (ending : Ending) (behind : List ℕ) → input_of ending ((held ++ since i.seen j.seen) ++ behind) ≡ Line line (input_of ending (held' ++ behind))
+  due_line ending behind = line_read ending (held ++ since i.seen j.seen) line held' behind uncut is
+
+  ends_so : (s : Status) → ((input : Input) → Ends a b (driven_from d (Line line input)) s) → (behind : List ℕ) → Ends a b (driven_from d (input_of AtEnd ((held ++ since i.seen j.seen) ++ behind))) s
+  ends_so s e behind = subst (λ (i : Input). Ends a b (driven_from d i) s) (sym (due_line AtEnd behind)) (e (input_of AtEnd (held' ++ behind)))
+
+  over_plays : (s : Status) → ((input : Input) → Ends a b (driven_from d (Line line input)) s) → Plays i j a b (driven_from d) held s
+  over_plays NoMemory e = absurd (e End)
+  over_plays InputFault e = absurd (due_no_fault d (Line line End) refl (e End).1)
+  over_plays Done e = absurd (due_not_done d (Line line Fault) refl (e Fault).1)
+  over_plays OutputFault e = record { drew = drew; ends = λ behind m. ends_so OutputFault e behind; over = tt }
+  over_plays s e = record { drew = drew; ends = λ behind m. ends_so s e behind; over = tt }
+
+  pub line_plays : (turn : LoopTurn) → ((input : Input) → Turns a b (driven_from d (Line line input)) (driven_from d' input) turn) →
+      PlaysTurn i j a b (driven_from d) (driven_from d') held held' turn
+  line_plays On turned = record {
+    drew = drew;
+    onward = λ ending behind.
+        subst (λ (i : Input). Onward a b (driven_from d i) (driven_from d' (input_of ending (held' ++ behind)))) (sym (due_line ending behind)) (turned (input_of ending (held' ++ behind)));
+  }
+  line_plays (Over s) turned = over_plays s turned

@@ -4,8 +4,6 @@ pub mod Coming
 pub mod Drive
 pub mod Hearing
 pub mod Bringing
-pub mod Playing
-pub mod Ends
 pub mod Telling
 pub mod FairPlay
 pub mod Laws

@@ -2,13 +2,10 @@
 
 ghost use Rattle.std.specs.Prelude.{◌≡◌, ◌≤◌, ◌<◌, ◌+◌, ◌∷◌, List, ℕ, length, drop, IsTrue};
 ghost use Rattle.definitions.specs.Findings.{is_clean};
-ghost use Rattle.station.specs.Outside.{Rose};
-ghost use Rattle.text_io.specs.Frame.{UnlessOutputFault, OnDone};
 ghost use Rattle.text_io.specs.Inputs.{Input, Line};
-ghost use Rattle.text_io.specs.Turns.{Turned, TurnCause, MatchTurn, OnOn};
+ghost use Rattle.text_io.specs.Turns.{Turns, OnTurn};
 ghost use Rattle.drive_script.specs.Hearing.{driven_from, bytes_from, MayCome};
-ghost use Rattle.drive_script.specs.Bringing.{Brought, OnFailed, OnWell, OnMore};
-ghost use Rattle.drive_script.specs.Ends.{ScriptEnds};
+ghost use Rattle.drive_script.specs.Bringing.{BringsPart, OnMore};
 
 use crate::driver::Driver;
 use crate::heard::{Heard, is_last};
@@ -41,12 +38,8 @@ pub(crate) fn bad_line_status(driver: &Driver) -> Status
 /// Reads on in bytes that come from a player, up to the end of a frame, and tells of it.
 fn bring_part<O: Sink>(driver: &mut Driver, from: PlayerId, bytes: &[u8], out: &mut O) -> PartTurn
     requires { MayCome driver.old from bytes.now }
-    ensures text { (input : Input) → Brought
-        (O.held out.old) (bytes_from driver.old from bytes.now input)
-        (O.held out.new) driver.new from bytes.now input result }
-    ensures later { O.faults out.old ≤ O.faults out.new }
-    ensures cause { OnFailed result (Rose (O.faults out.old) (O.faults out.new)) }
-    ensures steady { OnWell result (O.faults out.new ≡ O.faults out.old) }
+    ensures text { (input : Input) →
+        BringsPart (O.state out.old) (O.state out.new) (bytes_from driver.old from bytes.now input) driver.new from bytes.now input result }
     ensures lines { driver.new.lines ≡ driver.old.lines }
     ensures more { OnMore result (λ used. (0 < used) × (used ≤ length bytes.now) × MayCome driver.new from (drop used bytes.now)) }
 {
@@ -68,14 +61,9 @@ fn bring_part<O: Sink>(driver: &mut Driver, from: PlayerId, bytes: &[u8], out: &
 /// and of a bad byte.
 fn bring<O: Sink>(driver: &mut Driver, from: PlayerId, bytes: &[u8], out: &mut O) -> LoopTurn
     requires { MayCome driver.old from bytes.now }
-    ensures text { (input : Input) → Turned
-        (O.held out.old) (bytes_from driver.old from bytes.now input)
-        (O.held out.new) (driven_from driver.new input) result }
-    ensures later { O.faults out.old ≤ O.faults out.new }
-    ensures cause { TurnCause ScriptEnds ⊥ (Rose (O.faults out.old) (O.faults out.new)) result }
-    ensures steady { MatchTurn result (O.faults out.new ≡ O.faults out.old) (λ s. UnlessOutputFault s (O.faults out.new ≡ O.faults out.old)) }
-    ensures lines { OnOn result (driver.new.lines ≡ driver.old.lines) }
-    ensures read { MatchTurn result (Unit {0}) (λ s. OnDone s ⊥) }
+    ensures text { (input : Input) →
+        Turns (O.state out.old) (O.state out.new) (bytes_from driver.old from bytes.now input) (driven_from driver.new input) result }
+    ensures lines { OnTurn result (driver.new.lines ≡ driver.old.lines) }
 {
     let mut rest = bytes;
     'parts: loop {
@@ -91,14 +79,9 @@ fn bring<O: Sink>(driver: &mut Driver, from: PlayerId, bytes: &[u8], out: &mut O
 pub(crate) fn answer<O: Sink>(driver: &mut Driver, line: &[u8], out: &mut O) -> LoopTurn
     requires short { length line.now ≤ 1024 }
     requires clean { IsTrue (is_clean driver.old.game driver.old.state.log) }
-    ensures text { (input : Input) → Turned
-        (O.held out.old) (driven_from driver.old (Line line.now input))
-        (O.held out.new) (driven_from driver.new input) result }
-    ensures later { O.faults out.old ≤ O.faults out.new }
-    ensures cause { TurnCause ScriptEnds ⊥ (Rose (O.faults out.old) (O.faults out.new)) result }
-    ensures steady { MatchTurn result (O.faults out.new ≡ O.faults out.old) (λ s. UnlessOutputFault s (O.faults out.new ≡ O.faults out.old)) }
-    ensures counted { OnOn result ((driver.new.lines ≡ driver.old.lines + 1) × (driver.new.lines ≤ 1048576)) }
-    ensures read { MatchTurn result (Unit {0}) (λ s. OnDone s ⊥) }
+    ensures text { (input : Input) →
+        Turns (O.state out.old) (O.state out.new) (driven_from driver.old (Line line.now input)) (driven_from driver.new input) result }
+    ensures counted { OnTurn result ((driver.new.lines ≡ driver.old.lines + 1) × (driver.new.lines ≤ 1048576)) }
 {
     match driver.hear(line) {
         Heard::Bad => LoopTurn::Over(bad_line_status(driver)),

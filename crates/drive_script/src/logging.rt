@@ -2,8 +2,7 @@
 
 ghost use Rattle.std.specs.Prelude.{◌≡◌, ◌≤◌, ◌++◌, codes};
 ghost use Rattle.hex.specs.Hex.{encode_lower};
-ghost use Rattle.station.specs.Outside.{Rose};
-ghost use Rattle.text_io.specs.Texts.{Wrote, OnUnwritten, OnWritten};
+ghost use Rattle.text_io.specs.Texts.{Puts};
 ghost use Rattle.session_log.specs.Writing.{written, after, all_written, fresh};
 ghost use Rattle.drive_script.specs.Lines.{log_text, log_field};
 ghost use Rattle.session_log.specs.Spelling.{log_bytes};
@@ -32,10 +31,7 @@ fn entry_digits(writer: &mut LogWriter, entry: &Entry) -> ArrayVec<u8, 192>
 
 /// Writes the digits of the bytes of these entries of a log.
 fn put_digits<O: Sink>(writer: &mut LogWriter, entries: &[Entry], out: &mut O) -> Written
-    ensures text { Wrote (O.held out.old) (O.held out.new) (encode_lower (all_written writer.old entries.now)) result }
-    ensures later { O.faults out.old ≤ O.faults out.new }
-    ensures cause { OnUnwritten result (Rose (O.faults out.old) (O.faults out.new)) }
-    ensures steady { OnWritten result (O.faults out.new ≡ O.faults out.old) }
+    ensures { Puts (O.state out.old) (O.state out.new) (encode_lower (all_written writer.old entries.now)) result }
 {
     'entries: for entry in entries {
         match put(out, entry_digits(writer, entry).as_slice()) {
@@ -48,10 +44,7 @@ fn put_digits<O: Sink>(writer: &mut LogWriter, entries: &[Entry], out: &mut O) -
 
 /// Writes the digits of a log as a field of a line; nothing where the log has no bytes.
 fn put_field<O: Sink>(peer: &Peer, out: &mut O) -> Written
-    ensures text { Wrote (O.held out.old) (O.held out.new) (log_field (log_bytes peer.now.game.id peer.now.me peer.now.entries)) result }
-    ensures later { O.faults out.old ≤ O.faults out.new }
-    ensures cause { OnUnwritten result (Rose (O.faults out.old) (O.faults out.new)) }
-    ensures steady { OnWritten result (O.faults out.new ≡ O.faults out.old) }
+    ensures { Puts (O.state out.old) (O.state out.new) (log_field (log_bytes peer.now.game.id peer.now.me peer.now.entries)) result }
 {
     let entries = peer.entries();
     if entries.is_empty() {
@@ -66,10 +59,7 @@ fn put_field<O: Sink>(peer: &Peer, out: &mut O) -> Written
 
 /// Writes the word and the log.
 fn put_word_and_field<O: Sink>(peer: &Peer, out: &mut O) -> Written
-    ensures text { Wrote (O.held out.old) (O.held out.new) (codes "log" ++ log_field (log_bytes peer.now.game.id peer.now.me peer.now.entries)) result }
-    ensures later { O.faults out.old ≤ O.faults out.new }
-    ensures cause { OnUnwritten result (Rose (O.faults out.old) (O.faults out.new)) }
-    ensures steady { OnWritten result (O.faults out.new ≡ O.faults out.old) }
+    ensures { Puts (O.state out.old) (O.state out.new) (codes "log" ++ log_field (log_bytes peer.now.game.id peer.now.me peer.now.entries)) result }
 {
     match put(out, b"log") {
         Written::All => put_field(peer, out),
@@ -80,10 +70,7 @@ fn put_word_and_field<O: Sink>(peer: &Peer, out: &mut O) -> Written
 /// Writes the line that prints the log so far, all of its bytes, entry by entry.
 #[tactic(auto, unfolding(crate::specs::Lines::log_text))]
 pub(crate) fn put_log<O: Sink>(peer: &Peer, out: &mut O) -> Written
-    ensures text { Wrote (O.held out.old) (O.held out.new) (log_text peer.now.game peer.now.me peer.now.entries) result }
-    ensures later { O.faults out.old ≤ O.faults out.new }
-    ensures cause { OnUnwritten result (Rose (O.faults out.old) (O.faults out.new)) }
-    ensures steady { OnWritten result (O.faults out.new ≡ O.faults out.old) }
+    ensures { Puts (O.state out.old) (O.state out.new) (log_text peer.now.game peer.now.me peer.now.entries) result }
 {
     match put_word_and_field(peer, out) {
         Written::All => put(out, b"\n"),

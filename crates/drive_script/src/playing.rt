@@ -1,18 +1,15 @@
 //! A script that is answered line by line.
 
-ghost use Rattle.std.specs.Prelude.{◌≡◌, ◌≤◌, ◌+◌, ◌++◌, [], List, ℕ, false, true, length, IsTrue};
+ghost use Rattle.std.specs.Prelude.{◌≡◌, ◌≤◌, ◌+◌, ◌++◌, [], false, length, IsTrue};
 ghost use Rattle.definitions.specs.Advance.{advance};
 ghost use Rattle.definitions.specs.Findings.{is_clean};
 ghost use Rattle.log_scan.specs.First.{finding_of_log};
-ghost use Rattle.station.specs.Outside.{Rose};
-ghost use Rattle.text_io.specs.Inputs.{Input, Line, End, MayFollow, input_by, read_of};
-ghost use Rattle.text_io.specs.Frame.{Ended, EndCause, after_text, OnDone, UnlessInputFault, UnlessOutputFault};
-ghost use Rattle.text_io.specs.Turns.{TurnCause, MatchTurn, OnOver, OnOn};
+ghost use Rattle.text_io.specs.Inputs.{Input, Line, End};
+ghost use Rattle.text_io.specs.Frame.{Ends, after_text};
+ghost use Rattle.text_io.specs.Turns.{Plays, PlaysTurn, OnTurn};
 ghost use Rattle.drive_script.specs.Drive.{drive};
 ghost use Rattle.drive_script.specs.Lines.{added_text, found_text};
 ghost use Rattle.drive_script.specs.Hearing.{driven_from};
-ghost use Rattle.drive_script.specs.Playing.{Played};
-ghost use Rattle.drive_script.specs.Ends.{ScriptEnds};
 
 use crate::answering::{answer, bad_line_status};
 use crate::driver::Driver;
@@ -24,11 +21,7 @@ use text_io::{LineReader, LoopTurn, NextLine, Status, Written};
 /// Writes the end of a peer whose log has a finding.
 fn end_caught<O: Sink>(driver: &Driver, out: &mut O) -> Status
     requires { is_clean driver.now.game driver.now.state.log ≡ false }
-    ensures text { (input : Input) → Ended (O.held out.old) (O.held out.new) (driven_from driver.now input) result }
-    ensures later { O.faults out.old ≤ O.faults out.new }
-    ensures cause { EndCause ScriptEnds ⊥ (Rose (O.faults out.old) (O.faults out.new)) result }
-    ensures steady { UnlessOutputFault result (O.faults out.new ≡ O.faults out.old) }
-    ensures read { OnDone result ⊥ }
+    ensures { (input : Input) → Ends (O.state out.old) (O.state out.new) (driven_from driver.now input) result }
 {
     match put_end(driver.peer(), out) {
         Written::All => Status::Caught,
@@ -38,10 +31,7 @@ fn end_caught<O: Sink>(driver: &Driver, out: &mut O) -> Status
 
 /// Writes the end of a peer whose script came to its end.
 fn end<O: Sink>(driver: &Driver, out: &mut O) -> Status
-    ensures text { Ended (O.held out.old) (O.held out.new) (driven_from driver.now End) result }
-    ensures later { O.faults out.old ≤ O.faults out.new }
-    ensures cause { EndCause ScriptEnds ⊥ (Rose (O.faults out.old) (O.faults out.new)) result }
-    ensures steady { UnlessOutputFault result (O.faults out.new ≡ O.faults out.old) }
+    ensures { Ends (O.state out.old) (O.state out.new) (driven_from driver.now End) result }
 {
     if driver.peer().finding().is_some() {
         return end_caught(driver, out);
@@ -56,10 +46,7 @@ fn end<O: Sink>(driver: &Driver, out: &mut O) -> Status
 fn answer_last<O: Sink>(driver: &mut Driver, line: &[u8], out: &mut O) -> Status
     requires short { length line.now ≤ 1024 }
     requires clean { IsTrue (is_clean driver.old.game driver.old.state.log) }
-    ensures text { Ended (O.held out.old) (O.held out.new) (driven_from driver.old (Line line.now End)) result }
-    ensures later { O.faults out.old ≤ O.faults out.new }
-    ensures cause { EndCause ScriptEnds ⊥ (Rose (O.faults out.old) (O.faults out.new)) result }
-    ensures steady { UnlessOutputFault result (O.faults out.new ≡ O.faults out.old) }
+    ensures { Ends (O.state out.old) (O.state out.new) (driven_from driver.old (Line line.now End)) result }
 {
     match answer(driver, line, out) {
         LoopTurn::On => end(driver, out),
@@ -74,16 +61,9 @@ fn answer_line<I: Source, O: Sink>(
     input: &mut I,
     out: &mut O,
 ) -> LoopTurn
-    ensures front { I.seen input.new ≡ I.seen input.old ++ read_of (I.seen input.old) (I.seen input.new) }
-    ensures text { Played (O.held out.old) (O.held out.new)
-        driver.old driver.new (reader.old.pending ++ read_of (I.seen input.old) (I.seen input.new)) (I.ended input.new) reader.new.pending result }
-    ensures later_in { I.faults input.old ≤ I.faults input.new }
-    ensures later_out { O.faults out.old ≤ O.faults out.new }
-    ensures cause { TurnCause ScriptEnds (Rose (I.faults input.old) (I.faults input.new)) (Rose (O.faults out.old) (O.faults out.new)) result }
-    ensures steady_in { MatchTurn result (I.faults input.new ≡ I.faults input.old) (λ s. UnlessInputFault s (I.faults input.new ≡ I.faults input.old)) }
-    ensures steady_out { MatchTurn result (O.faults out.new ≡ O.faults out.old) (λ s. UnlessOutputFault s (O.faults out.new ≡ O.faults out.old)) }
-    ensures counted { OnOn result ((driver.new.lines ≡ driver.old.lines + 1) × (driver.new.lines ≤ 1048576)) }
-    ensures read { OnOver result (I.ended input.new ≡ true) }
+    ensures text { PlaysTurn (I.state input.old) (I.state input.new) (O.state out.old) (O.state out.new)
+        (driven_from driver.old) (driven_from driver.new) reader.old.pending reader.new.pending result }
+    ensures counted { OnTurn result ((driver.new.lines ≡ driver.old.lines + 1) × (driver.new.lines ≤ 1048576)) }
 {
     if driver.peer().finding().is_some() {
         return LoopTurn::Over(end_caught(driver, out));
@@ -104,16 +84,7 @@ fn answer_lines<I: Source, O: Sink>(
     input: &mut I,
     out: &mut O,
 ) -> Status
-    ensures front { I.seen input.new ≡ I.seen input.old ++ read_of (I.seen input.old) (I.seen input.new) }
-    ensures text { (rest : List ℕ) → MayFollow (I.ended input.new) rest →
-        Ended (O.held out.old) (O.held out.new)
-        (driven_from driver.old (input_by result (reader.old.pending ++ read_of (I.seen input.old) (I.seen input.new)) rest)) result }
-    ensures later_in { I.faults input.old ≤ I.faults input.new }
-    ensures later_out { O.faults out.old ≤ O.faults out.new }
-    ensures cause { EndCause ScriptEnds (Rose (I.faults input.old) (I.faults input.new)) (Rose (O.faults out.old) (O.faults out.new)) result }
-    ensures steady_in { UnlessInputFault result (I.faults input.new ≡ I.faults input.old) }
-    ensures steady_out { UnlessOutputFault result (O.faults out.new ≡ O.faults out.old) }
-    ensures read { OnDone result (I.ended input.new ≡ true) }
+    ensures { Plays (I.state input.old) (I.state input.new) (O.state out.old) (O.state out.new) (driven_from driver.old) reader.old.pending result }
 {
     'lines: loop {
         match answer_line(driver, reader, input, out) {
@@ -132,18 +103,9 @@ fn follow<I: Source, O: Sink>(
     out: &mut O,
 ) -> Status
     requires { entries ≤ length driver.old.state.log }
-    ensures front { I.seen input.new ≡ I.seen input.old ++ read_of (I.seen input.old) (I.seen input.new) }
-    ensures text { (rest : List ℕ) → MayFollow (I.ended input.new) rest →
-        Ended (O.held out.old) (O.held out.new)
-        (after_text (added_text entries driver.old.state.log ++ found_text (finding_of_log driver.old.game driver.old.state.log))
-        (driven_from driver.old (input_by result (read_of (I.seen input.old) (I.seen input.new)) rest))) result }
+    ensures text { Plays (I.state input.old) (I.state input.new) (O.state out.old) (O.state out.new)
+        (λ script. after_text (added_text entries driver.old.state.log ++ found_text (finding_of_log driver.old.game driver.old.state.log)) (driven_from driver.old script)) [] result }
     ensures untouched { is_clean driver.old.game driver.old.state.log ≡ false → input.new ≡ input.old }
-    ensures later_in { I.faults input.old ≤ I.faults input.new }
-    ensures later_out { O.faults out.old ≤ O.faults out.new }
-    ensures cause { EndCause ScriptEnds (Rose (I.faults input.old) (I.faults input.new)) (Rose (O.faults out.old) (O.faults out.new)) result }
-    ensures steady_in { UnlessInputFault result (I.faults input.new ≡ I.faults input.old) }
-    ensures steady_out { UnlessOutputFault result (O.faults out.new ≡ O.faults out.old) }
-    ensures read { OnDone result (I.ended input.new ≡ true) }
 {
     let mut reader = LineReader::new();
     match put_start(driver.peer(), entries, out) {
@@ -161,24 +123,11 @@ fn follow<I: Source, O: Sink>(
 /// Lets the peer advance, and then answers the lines of the input as its script. Nothing is written behind a fault.
 pub fn play<I: Source, O: Sink>(peer: Peer, input: &mut I, out: &mut O) -> Status
 
-    // What is written, and how the run ends: as is due for the bytes that were read, whatever stands behind them.
-    ensures front { I.seen input.new ≡ I.seen input.old ++ read_of (I.seen input.old) (I.seen input.new) }
-    ensures text { (rest : List ℕ) → MayFollow (I.ended input.new) rest →
-        Ended (O.held out.old) (O.held out.new)
-        (drive peer.game peer.me peer.entries (input_by result (read_of (I.seen input.old) (I.seen input.new)) rest)) result }
+    // What is read and written, and how the run ends: as is due for the bytes that were read, whatever stands behind them.
+    ensures text { Plays (I.state input.old) (I.state input.new) (O.state out.old) (O.state out.new) (drive peer.game peer.me peer.entries) [] result }
 
     // Where the log that the peer begins with has a finding, the input is left alone.
     ensures untouched { is_clean peer.game (advance peer.game peer.me peer.entries) ≡ false → input.new ≡ input.old }
-
-    // A fault is answered exactly where its count rose, and no other status than these comes.
-    ensures later_in { I.faults input.old ≤ I.faults input.new }
-    ensures later_out { O.faults out.old ≤ O.faults out.new }
-    ensures cause { EndCause ScriptEnds (Rose (I.faults input.old) (I.faults input.new)) (Rose (O.faults out.old) (O.faults out.new)) result }
-    ensures steady_in { UnlessInputFault result (I.faults input.new ≡ I.faults input.old) }
-    ensures steady_out { UnlessOutputFault result (O.faults out.new ≡ O.faults out.old) }
-
-    // At the end the input was read to its end.
-    ensures read { OnDone result (I.ended input.new ≡ true) }
 {
     let entries = peer.entries().len();
     let mut driver = Driver::new(peer);

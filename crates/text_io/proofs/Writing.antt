@@ -1,10 +1,12 @@
 -- A text that is written piece by piece.
-use Rattle.std.proofs.Common.{◌≡◌, ℕ, ◌+◌, ◌<◌, ◌≤◌, List, [], ◌++◌, length, take, refl, ap, sym, ◌∙◌, append_assoc, append-nil, length-append, arith}
+use Rattle.std.proofs.Common.{◌≡◌, ℕ, ◌+◌, ◌<◌, ◌≤◌, List, [], ◌++◌, length, take, refl, ap, sym, ◌∙◌, subst, append_assoc, append-nil, length-append, arith}
 use Rattle.std.proofs.lemmas.List.{take-append-le}
 use Rattle.std.proofs.Math.Seq.{take-append_seam}
 use Rattle.station.specs.Outside.{one_more}
 use Rattle.station.specs.Sinks.{SinkState, after_bytes}
-use Rattle.text_io.specs.Texts.{CutShort, Underway}
+use Rattle.text_io.specs.Texts.{CutShort, Puts, Underway}
+use Rattle.text_io.specs.declared.texts.Written.{Written}
+use Rattle.text_io.specs.declared.texts.Written.TheVariants.{All, Failed}
 
 -- nothing is written, and one text behind another
 pub bytes_none : (s : SinkState) → after_bytes s [] ≡ s
@@ -24,9 +26,14 @@ underway_by before now text rest e = record {
 pub underway_on : (a b c : SinkState) (t u v : List ℕ) → Underway a b t u → Underway b c u v → Underway a c t v
 underway_on a b c t u v p q = record { longer = omega (arith, p.longer, q.longer); whole = q.whole ∙ p.whole }
 
+-- a piece was written
+pub underway_more : (before mid now : SinkState) (text rest piece more : List ℕ) → Underway before mid text rest → rest ≡ piece ++ more → now ≡ after_bytes mid piece → Underway before now text more
+underway_more before mid now text rest piece more u e w =
+    underway_on before mid now text rest more u (subst (λ (r : List ℕ). Underway mid now r more) (sym e) (underway_by mid now piece more w))
+
 -- all is written
-pub underway_end : (before now : SinkState) (text : List ℕ) → Underway before now text [] → now ≡ after_bytes before text
-underway_end before now text u = sym (bytes_none now) ∙ u.whole
+pub underway_end : (before now : SinkState) (text rest : List ℕ) → Underway before now text rest → rest ≡ [] → now ≡ after_bytes before text
+underway_end before now text rest u e = sym (bytes_none now) ∙ ap (after_bytes now) (sym e) ∙ u.whole
 
 -- the sink failed in a piece: `more` is what is to come behind the piece
 pub underway_cut : (before mid now : SinkState) (text rest piece more : List ℕ) → Underway before mid text rest → rest ≡ piece ++ more → CutShort mid now piece → CutShort before now text
@@ -72,3 +79,8 @@ underway_failed before mid now text rest u some e =
       };
       rose = ap (λ (s : SinkState). s.faults) e;
     })
+
+-- one text behind another that was written
+pub puts_behind : (a b c : SinkState) (t u : List ℕ) (r : Written) → b ≡ after_bytes a t → Puts b c u r → Puts a c (t ++ u) r
+puts_behind a b c t u All e w = w ∙ ap (λ (s : SinkState). after_bytes s u) e ∙ bytes_both a t u
+puts_behind a b c t u Failed e w = cut_behind a b c t u e w

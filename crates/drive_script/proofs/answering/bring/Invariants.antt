@@ -6,10 +6,7 @@ use Rattle.drive_script.proofs.answering.bring.Given as goal
 
 abbrev pub invariant-parts : goal.invariant-parts
 invariant-parts g l = record {
-  steady : g.O.Sink.faults l.out ≡ g.O.Sink.faults l.initial.out;
-  text : (input : Input) → Onward
-      (g.O.Sink.held l.initial.out) (bytes_from l.initial.driver l.from l.bytes input)
-      (g.O.Sink.held l.out) (bytes_from l.driver l.from l.rest input);
+  text : (input : Input) → Onward (g.O.Sink.state l.initial.out) (g.O.Sink.state l.out) (bytes_from l.initial.driver l.from l.bytes input) (bytes_from l.driver l.from l.rest input);
   may : MayCome l.driver l.from l.rest;
   lines : l.driver.lines ≡ l.initial.driver.lines;
 }

@@ -1,5 +1,5 @@
 use Rattle.text_io.specs.Inputs.{End}
 use Rattle.drive_script.proofs.playing.end.Goals as goal
 
-pub returns-then-is_some-clause-text : goal.returns-then-is_some-clause-text
-returns-then-is_some-clause-text g c = c.end_caught.ensures.text End
+pub returns-then-is_some : goal.returns-then-is_some
+returns-then-is_some g c = c.end_caught.ensures End

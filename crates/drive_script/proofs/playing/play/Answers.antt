@@ -7,4 +7,4 @@ follow-requires g c = rw (c.new-driver.ensures, c.entries-entries.ensures) (adva
 
 pub returns-clause-text : goal.returns-clause-text
 unfolding drive start_text
-returns-clause-text g c = λ rest m. rw (c.new-driver.ensures, c.entries-entries.ensures) at (c.follow.ensures.text rest m)
+returns-clause-text g c = rw (c.new-driver.ensures, c.entries-entries.ensures) at c.follow.ensures.text

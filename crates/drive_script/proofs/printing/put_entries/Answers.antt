@@ -4,6 +4,6 @@ use Rattle.text_io.proofs.Writing.{underway_cut}
 use Rattle.drive_script.specs.Lines.{entry_text}
 use Rattle.drive_script.proofs.printing.put_entries.Goals as goal
 
-pub returns-in-Failed-clause-text : goal.returns-in-Failed-clause-text
-returns-in-Failed-clause-text g c =
-    underway_cut _ _ _ _ _ c.as_slice.result.now (flat_map entry_text (drop (c.entries.entry-index + 1) c.args.entries.now)) c.entries.invariant.text (grind (arith, common_steps)) (c.in-Failed.ensures.text)
+pub returns-in-Failed : goal.returns-in-Failed
+returns-in-Failed g c =
+    underway_cut _ _ _ _ _ c.as_slice.result.now (flat_map entry_text (drop (c.entries.entry-index + 1) c.args.entries.now)) c.entries.invariant (grind (arith, common_steps)) c.in-Failed.ensures

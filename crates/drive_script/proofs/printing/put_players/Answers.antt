@@ -2,21 +2,20 @@ use Rattle.std.proofs.Common.{arith, ap, ◌+◌, ◌-◌, ◌<◌, ◌++◌, �
 use Rattle.std.proofs.lemmas.Grind.{common_steps}
 use Rattle.definitions.specs.World.{players_of}
 use Rattle.peer_core.specs.Views.{player_view}
-use Rattle.text_io.proofs.Writing.{underway_cut, underway_more}
+use Rattle.text_io.proofs.Writing.{underway_cut, underway_end, underway_more}
 use Rattle.drive_script.specs.Lines.{player_text, players_text}
-use Rattle.drive_script.proofs.Pieces.{underway_end}
 use Rattle.drive_script.proofs.Players.{players_more, players_none}
 use Rattle.drive_script.proofs.printing.put_players.Goals as goal
 
-pub returns-in-Failed-clause-text : goal.returns-in-Failed-clause-text
-returns-in-Failed-clause-text g c =
+pub returns-in-Failed : goal.returns-in-Failed
+returns-in-Failed g c =
     let peer = c.args.peer.now in
     let q = c.players.player in
     let n = players_of peer.game in
     let below : q < n = grind (arith, common_steps) in
     let line : c.as_slice.result.now ≡ player_text q (player_view peer.game peer.me peer.entries q) = cc in
     let rest = players_text peer.game peer.me peer.entries (q + 1) (n - (q + 1)) in
-    underway_cut _ _ _ _ _ c.as_slice.result.now rest c.players.invariant.text (players_more peer.game peer.me peer.entries q n below ∙ ap (λ x. x ++ rest) (sym line)) (c.in-Failed.ensures.text)
+    underway_cut _ _ _ _ _ c.as_slice.result.now rest c.players.invariant (players_more peer.game peer.me peer.entries q n below ∙ ap (λ x. x ++ rest) (sym line)) c.in-Failed.ensures
 
 pub players-preserved : goal.players-preserved
 players-preserved g c =
@@ -25,13 +24,11 @@ players-preserved g c =
     let n = players_of peer.game in
     let below : q < n = grind (arith, common_steps) in
     let line : c.as_slice.result.now ≡ player_text q (player_view peer.game peer.me peer.entries q) = cc in
-    let rest = players_text peer.game peer.me peer.entries (q + 1) (n - (q + 1)) in record {
-      text = underway_more _ _ _ _ _ c.as_slice.result.now rest c.players.invariant.text (players_more peer.game peer.me peer.entries q n below ∙ ap (λ x. x ++ rest) (sym line)) (c.in-All.ensures.text);
-      steady = grind (arith, common_steps);
-    }
+    let rest = players_text peer.game peer.me peer.entries (q + 1) (n - (q + 1)) in
+    underway_more _ _ _ _ _ c.as_slice.result.now rest c.players.invariant (players_more peer.game peer.me peer.entries q n below ∙ ap (λ x. x ++ rest) (sym line)) c.in-All.ensures
 
-pub returns-clause-text : goal.returns-clause-text
-returns-clause-text g c =
+pub returns : goal.returns
+returns g c =
     let peer = c.args.peer.now in
     let none : players_of peer.game - c.players.player ≡ 0 = grind (arith, common_steps) in
-    underway_end _ _ _ _ c.players.invariant.text (ap (players_text peer.game peer.me peer.entries c.players.player) none ∙ players_none peer.game peer.me peer.entries c.players.player)
+    underway_end _ _ _ _ c.players.invariant (ap (players_text peer.game peer.me peer.entries c.players.player) none ∙ players_none peer.game peer.me peer.entries c.players.player)

@@ -1,12 +1,11 @@
-use Rattle.std.proofs.Common.{◌≡◌, ◌-◌}
+use Rattle.std.proofs.Common.{◌-◌}
 use Rattle.definitions.specs.World.{players_of}
 use Rattle.text_io.specs.Texts.{Underway}
 use Rattle.drive_script.specs.Lines.{players_text}
 use Rattle.drive_script.proofs.printing.put_players.Given as goal
 
 abbrev pub invariant-players : goal.invariant-players
-invariant-players g l = record {
-  text : Underway (g.O.Sink.held l.initial.out) (players_text l.peer.game l.peer.me l.peer.entries 0 (players_of l.peer.game))
-      (g.O.Sink.held l.out) (players_text l.peer.game l.peer.me l.peer.entries l.player (players_of l.peer.game - l.player));
-  steady : g.O.Sink.faults l.out ≡ g.O.Sink.faults l.initial.out;
-}
+invariant-players g l =
+    Underway (g.O.Sink.state l.initial.out) (g.O.Sink.state l.out)
+    (players_text l.peer.game l.peer.me l.peer.entries 0 (players_of l.peer.game))
+    (players_text l.peer.game l.peer.me l.peer.entries l.player (players_of l.peer.game - l.player))

@@ -1,8 +1,0 @@
-use Rattle.drive_script.proofs.Pieces.{wrote_both, wrote_first}
-use Rattle.drive_script.proofs.logging.put_word_and_field.Goals as goal
-
-pub returns-in-All-clause-text : goal.returns-in-All-clause-text
-returns-in-All-clause-text g c = wrote_both _ _ _ _ _ _ c.in-All.ensures.text (c.put_field.ensures.text)
-
-pub returns-in-Failed-clause-text : goal.returns-in-Failed-clause-text
-returns-in-Failed-clause-text g c = wrote_first _ _ _ _ c.in-Failed.ensures.text
