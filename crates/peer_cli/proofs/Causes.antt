@@ -4,7 +4,7 @@ use Rattle.std.specs.Prelude.{Err, Ok, Result, nat_lt, option_map, if◌then◌e
 use Rattle.std.proofs.lemmas.Bool.{lt-ltb, ltb-true}
 use Rattle.definitions.specs.World.{Game, players_of}
 use Rattle.text_io.specs.Ends.{Finished}
-use Rattle.text_io.specs.Frame.{Answer, EndCause, after_text}
+use Rattle.text_io.specs.Frame.{Answer, after_text}
 use Rattle.text_io.specs.Inputs.{AtEnd, End, Input, ending_of, input_of, lines_in, lines_then}
 use Rattle.text_io.specs.Lines.{lines_of}
 use Rattle.text_io.specs.declared.statuses.Status.{Status}
@@ -19,15 +19,19 @@ use Rattle.drive_script.proofs.Ends.{drive_status}
 use Rattle.old_log.specs.Old.{Fault, dropped_at, old_entries, old_fault}
 use Rattle.peer_cli.specs.Causes.{HasCause, IsNamed, IsSeated, IsSet}
 use Rattle.peer_cli.specs.Games.{Beginning, begun, empty_beginning, ended_by, front_of, log_front_of, old_beginning, with_log, with_player}
-use Rattle.peer_cli.specs.Program.{answer_of, answer_to, dropped_text, playing}
-use Rattle.peer_cli.specs.Words.{Command, Drive, command_of}
+use Rattle.peer_cli.specs.Program.{answer_of, dropped_text, playing}
+use Rattle.peer_cli.specs.Files.{Contents}
+use Rattle.peer_cli.specs.Outside.{CountsFaults, OneFailed, Outside}
+use Rattle.station.specs.Outside.{Rose}
+use Rattle.station.specs.Sinks.{SinkState}
+use Rattle.peer_cli.specs.Words.{Command, Drive}
 
 -- the answer where a run begins with this
-pub set_answer : (words : List (List ℕ)) (files : List ℕ → Option (List ℕ)) (input : Input) (player : ℕ) (b : Beginning) → IsSet words files player b →
-    answer_to words files input ≡ after_text (dropped_text b.dropped) (drive b.game player b.first input)
-set_answer words files input player b s =
-    let old = option_map files s.old in
-    ap (λ (o : Option Command). answer_of o files input) s.seated.named.command ∙
+pub set_answer : (asked : Option Command) (contents : Contents) (input : Input) (player : ℕ) (b : Beginning) → IsSet asked contents player b →
+    answer_of asked contents input ≡ after_text (dropped_text b.dropped) (drive b.game player b.first input)
+set_answer asked contents input player b s =
+    let old = option_map (λ name. contents.log) s.old in
+    ap (λ (o : Option Command). answer_of o contents input) s.seated.named.command ∙
     ap (λ (r : Result Game SessionFault). playing player (with_log player (with_player player (ended_by r)) old) input) s.seated.named.read ∙
     ap (λ (c : Bool). playing player (with_log player (if c then Ok b.game else Err Usage) old) input) (lt-ltb player (players_of b.game) s.seated.player_is) ∙
     ap (λ (r : Result Beginning Status). playing player r input) s.begins
@@ -43,54 +47,54 @@ unfolding game_at session_fault
 fault_said text e h = bound_fault _ _ (said_by (L.ended_lines_of text)) _ e h
 
 -- the status that is due for an input that is read to its end has its cause
-module _ (words : List (List ℕ)) (files : List ℕ → Option (List ℕ)) (input : Input) (ends : ending_of input ≡ AtEnd) where
-  played : (player : ℕ) (b : Beginning) → IsSet words files player b → (clean : Bool) → is_clean b.game (drive_log b.game player b.first input) ≡ clean → (bad : Option ℕ) → bad_line 0 (lines_in input) ≡ bad →
-      HasCause words files input (status_for clean bad AtEnd)
+module _ (asked : Option Command) (contents : Contents) (input : Input) (ends : ending_of input ≡ AtEnd) where
+  played : (player : ℕ) (b : Beginning) → IsSet asked contents player b → (clean : Bool) → is_clean b.game (drive_log b.game player b.first input) ≡ clean → (bad : Option ℕ) → bad_line 0 (lines_in input) ≡ bad →
+      HasCause asked contents input (status_for clean bad AtEnd)
   played player b set false e bad l = record { player = player; begins = b; set = set; found = e }
   played player b set true e None l = record { player = player; begins = b; set = set; clean = e; lines = l }
   played player b set true e (Some n) l = record { player = player; begins = b; set = set; clean = e; lines = l }
 
   -- a run that begins with this
-  begins : (player : ℕ) (b : Beginning) → IsSet words files player b → HasCause words files input (after_text (dropped_text b.dropped) (drive b.game player b.first input)).status
+  begins : (player : ℕ) (b : Beginning) → IsSet asked contents player b → HasCause asked contents input (after_text (dropped_text b.dropped) (drive b.game player b.first input)).status
   begins player b set =
-      subst (λ (s : Status). HasCause words files input s) (sym (drive_status b.game player b.first input ∙ ap (status_for (is_clean b.game (drive_log b.game player b.first input)) (bad_line 0 (lines_in input))) ends))
+      subst (λ (s : Status). HasCause asked contents input s) (sym (drive_status b.game player b.first input ∙ ap (status_for (is_clean b.game (drive_log b.game player b.first input)) (bad_line 0 (lines_in input))) ends))
       (played player b set (is_clean b.game (drive_log b.game player b.first input)) refl (bad_line 0 (lines_in input)) refl)
 
   -- a log that is named, by the fault for which the player can't go on from it
-  named_log : (game : Game) (player : ℕ) (name : List ℕ) → IsSeated words files game player (Some name) → (fault : Option Fault) → old_fault game player (log_front_of (files name)) ≡ fault →
-      HasCause words files input (playing player (old_beginning game (log_front_of (files name)) fault) input).status
+  named_log : (game : Game) (player : ℕ) (name : List ℕ) → IsSeated asked contents game player (Some name) → (fault : Option Fault) → old_fault game player (log_front_of contents.log) ≡ fault →
+      HasCause asked contents input (playing player (old_beginning game (log_front_of contents.log) fault) input).status
   named_log game player name seated None e =
-      let bytes = log_front_of (files name) in
+      let bytes = log_front_of contents.log in
       let b : Beginning = record { game = game; first = old_entries game bytes; dropped = dropped_at game bytes } in
       begins player b (record { old = Some name; seated = seated; begins = ap (old_beginning game bytes) e })
   named_log game player name seated (Some f) e = record { game = game; player = player; name = name; seated = seated; log_is = refl; fault_is = e }
 
-  with_old : (game : Game) (player : ℕ) (old : Option (List ℕ)) → IsSeated words files game player old → HasCause words files input (playing player (begun player game (option_map files old)) input).status
+  with_old : (game : Game) (player : ℕ) (old : Option (List ℕ)) → IsSeated asked contents game player old → HasCause asked contents input (playing player (begun player game (option_map (λ name. contents.log) old)) input).status
   with_old game player None seated = begins player (empty_beginning game) (record { old = None; seated = seated; begins = refl })
-  with_old game player (Some name) seated = named_log game player name seated (old_fault game player (log_front_of (files name))) refl
+  with_old game player (Some name) seated = named_log game player name seated (old_fault game player (log_front_of contents.log)) refl
 
   -- a session of which the player may be one
-  seated : (game : Game) (player : ℕ) (old : Option (List ℕ)) → IsNamed words files game player old → (b : Bool) → nat_lt player (players_of game) ≡ b →
-      HasCause words files input (playing player (with_log player (if b then Ok game else Err Usage) (option_map files old)) input).status
+  seated : (game : Game) (player : ℕ) (old : Option (List ℕ)) → IsNamed asked contents game player old → (b : Bool) → nat_lt player (players_of game) ≡ b →
+      HasCause asked contents input (playing player (with_log player (if b then Ok game else Err Usage) (option_map (λ name. contents.log) old)) input).status
   seated game player old named true e = with_old game player old (record { named = named; player_is = ltb-true player (players_of game) e })
   seated game player old named false e = inr (record { game = game; player = player; old = old; named = named; past = grind (arith, e) })
 
-  read : (session : List ℕ) (player : ℕ) (old : Option (List ℕ)) → command_of words ≡ Some (Drive session player old) → (r : Result Game SessionFault) → game_at (front_of (files session)) ≡ r →
-      HasCause words files input (playing player (with_log player (with_player player (ended_by r)) (option_map files old)) input).status
+  read : (session : List ℕ) (player : ℕ) (old : Option (List ℕ)) → asked ≡ Some (Drive session player old) → (r : Result Game SessionFault) → game_at (front_of contents.session) ≡ r →
+      HasCause asked contents input (playing player (with_log player (with_player player (ended_by r)) (option_map (λ name. contents.log) old)) input).status
   read session player old e (Ok game) f = seated game player old (record { session = session; command = e; read = f }) (nat_lt player (players_of game)) refl
   read session player old e (Err Memory) f = tt
   read session player old e (Err (At line what)) f =
-      record { session = session; player = player; old = old; command = e; fault_is = fault_said (front_of (files session)) (At line what) f }
+      record { session = session; player = player; old = old; command = e; fault_is = fault_said (front_of contents.session) (At line what) f }
 
-  commanded : (o : Option Command) → command_of words ≡ o → HasCause words files input (answer_of o files input).status
+  commanded : (o : Option Command) → asked ≡ o → HasCause asked contents input (answer_of o contents input).status
   commanded None e = inl e
-  commanded (Some (Drive session player old)) e = read session player old e (game_at (front_of (files session))) refl
+  commanded (Some (Drive session player old)) e = read session player old e (game_at (front_of contents.session)) refl
 
-pub caused : (words : List (List ℕ)) (files : List ℕ → Option (List ℕ)) (input : Input) → ending_of input ≡ AtEnd → HasCause words files input (answer_to words files input).status
-caused words files input ends = commanded words files input ends (command_of words) refl
+pub caused : (asked : Option Command) (contents : Contents) (input : Input) → ending_of input ≡ AtEnd → HasCause asked contents input (answer_of asked contents input).status
+caused asked contents input ends = commanded asked contents input ends asked refl
 
 -- what holds of the status that is due, of want of memory and of faults holds of the status that comes
-module _ (before now : List ℕ) (whole cut : Answer) (source shelf : Type 0) where
+module _ (before now : SinkState) (whole cut : Answer) (source shelf : Type 0) where
   pub finished_cause : (P : Status → Type 0) (s : Status) → Finished before now whole cut source shelf s → P whole.status → P NoMemory → P InputFault → P OutputFault → P s
   finished_cause P NoMemory f p m i o = m
   finished_cause P InputFault f p m i o = i
@@ -98,12 +102,16 @@ module _ (before now : List ℕ) (whole cut : Answer) (source shelf : Type 0) wh
   finished_cause P s f p m i o = subst P (sym f.0) p
 
   -- a run that nothing outside cuts short comes to what is due, unless memory is wanting
-  pub completed : (own : Status → Type 0) (input output : Type 0) (s : Status) → Finished before now whole cut source shelf s →
-      EndCause own input output s → (input → ⊥) → (output → ⊥) → (s ≡ whole.status) ⊎ (s ≡ NoMemory)
-  completed own input output NoMemory f c i o = inr refl
-  completed own input output InputFault f c i o = absurd (i c)
-  completed own input output OutputFault f c i o = absurd (o c)
-  completed own input output s f c i o = inl f.0
+  pub completed : (b a : Outside) (s : Status) → Finished before now whole cut source shelf s → CountsFaults b a s →
+      ¬ Rose b.input.faults a.input.faults → ¬ Rose b.shelf.faults a.shelf.faults → ¬ Rose b.output.faults a.output.faults → (s ≡ whole.status) ⊎ (s ≡ NoMemory)
+  completed b a NoMemory f c i h o = inr refl
+  completed b a InputFault f c i h o = absurd (neither c.0)
+    where
+      neither : OneFailed b a → ⊥
+      neither (inl r) = i r.0
+      neither (inr r) = h r.1
+  completed b a OutputFault f c i h o = absurd (o c.1)
+  completed b a s f c i h o = inl f.0
 
 -- an input that is read to its end
 pub ends_at_end : (bytes : List ℕ) → ending_of (input_of AtEnd bytes) ≡ AtEnd

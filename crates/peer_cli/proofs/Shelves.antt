@@ -1,36 +1,20 @@
--- Shelves: what a shelf answered in one stretch of calls and in the next.
-use Rattle.std.proofs.Common.{◌≡◌, List, ◌∷◌, [], ◌++◌, ℕ, Option, sym, subst, rules}
-use Rattle.std.specs.List.{AllByRecursion}
-use Rattle.station.specs.Since.{since, Grows, since_on, since_none}
+-- Shelves: what was read of the files, the session's first and then the log's.
+use Rattle.std.proofs.Common.{◌≡◌, ◌⊎◌, ◌<◌, Bool, inl, inr, List, [], ◌++◌, ℕ, Option, Some, None, refl, ap, sym, ◌∙◌, subst, append_assoc, append-nil}
+use Rattle.std.specs.Prelude.{Result, Ok, Err, option_map}
+use Rattle.station.specs.Outside.{faults_behind}
 use Rattle.station.specs.Pieces.{Piece}
-use Rattle.std.specs.Prelude.{Some, None, Result, Ok, Err}
-use Rattle.definitions.specs.World.{Game}
+use Rattle.station.specs.Shelves.{ShelfState}
+use Rattle.station.specs.Since.{since, Grows, since_is, grows_by}
+use Rattle.definitions.specs.World.{Game, players_of}
 use Rattle.grid_world.specs.declared.fault.SessionFault.{SessionFault}
 use Rattle.grid_world.specs.declared.fault.SessionFault.TheVariants.{At, Memory}
+use Rattle.old_log.specs.declared.resuming.Resumed.{Resumed}
 use Rattle.text_io.specs.Fronts.{IsFrontOf}
 use Rattle.text_io.specs.declared.statuses.Status.{Status}
-use Rattle.peer_cli.specs.Games.{front_of, log_front_of, ended_by, with_log, with_player, IsDue, IsStartFor}
-
-split : (P : Piece → Type 0) (xs ys : List Piece) → AllByRecursion P (xs ++ ys) → AllByRecursion P xs × AllByRecursion P ys
-split P [] ys h = (tt, h)
-split P (x ∷ xs) ys h = let r = split P xs ys h.1 in ((h.0, r.0), r.1)
-
-join : (P : Piece → Type 0) (xs ys : List Piece) → AllByRecursion P xs → AllByRecursion P ys → AllByRecursion P (xs ++ ys)
-join P [] ys h k = k
-join P (x ∷ xs) ys h k = (h.0, join P xs ys h.1 k)
-
-pub all_split : (P : Piece → Type 0) (a b c : List Piece) → Grows a b → Grows b c → AllByRecursion P (since a c) → AllByRecursion P (since a b) × AllByRecursion P (since b c)
-all_split P a b c g h all = split P (since a b) (since b c) (subst (AllByRecursion P) (since_on a b c g h) all)
-
-pub all_on : (P : Piece → Type 0) (a b c : List Piece) → Grows a b → Grows b c → AllByRecursion P (since a b) → AllByRecursion P (since b c) → AllByRecursion P (since a c)
-all_on P a b c g h x y = subst (AllByRecursion P) (sym (since_on a b c g h)) (join P (since a b) (since b c) x y)
-
-pub all_none : (P : Piece → Type 0) (a : List Piece) → AllByRecursion P (since a a)
-all_none P a = subst (AllByRecursion P) (sym (since_none a)) tt
-
-pub all_map : (P Q : Piece → Type 0) (xs : List Piece) → ((p : Piece) → P p → Q p) → AllByRecursion P xs → AllByRecursion Q xs
-all_map P Q [] f h = tt
-all_map P Q (x ∷ xs) f h = (f x h.0, all_map P Q xs f h.1)
+use Rattle.text_io.specs.declared.statuses.Status.TheVariants.{NoMemory, InputFault, BadSession}
+use Rattle.grid_world.specs.Reading.{game_at}
+use Rattle.peer_cli.specs.Files.{BeginsPeer, HasPlayer, FetchesLog, IsLogReading, IsLogTold, OpensPeer, OpensSession}
+use Rattle.peer_cli.specs.Games.{IsDue, IsStartFor, ended_by, front_of, is_shelf_fault, log_front_of, with_log, with_player}
 
 -- the bytes that are read of a file, by its front
 pub front_read : (content : Option (List ℕ)) (text : List ℕ) → IsFrontOf 1048576 content text → front_of content ≡ text
@@ -44,11 +28,98 @@ log_front_read None text h = absurd h
 log_front_read (Some bytes) text h = sym h
 
 -- a session that is due was read
-pub game_due : (r : Result Game SessionFault) (game : Game) → ended_by r ≡ Ok game → r ≡ Ok game
+game_due : (r : Result Game SessionFault) (game : Game) → ended_by r ≡ Ok game → r ≡ Ok game
 game_due (Ok g) game e = cc
 game_due (Err Memory) game e = cc
 game_due (Err (At line what)) game e = cc
 
 -- no session is due
-pub none_due : (player : ℕ) (due : Result Game Status) (old : Option (Option (List ℕ))) (status : Status) → IsDue due (Err status) → IsStartFor player (with_log player (with_player player due) old) (Err status)
-none_due player due old status h = search rules
+none_due : (player : ℕ) (due : Result Game Status) (old : Option (Option (List ℕ))) (status : Status) → IsDue due (Err status) → IsStartFor player (with_log player (with_player player due) old) (Err status)
+none_due player due old NoMemory h = tt
+none_due player due old InputFault h = tt
+none_due player due old (BadSession line what) h = ap (λ d. with_log player (with_player player d) old) h
+none_due player due old status h = absurd h
+
+-- no call for a log was made
+none_reading : (old : Option (List ℕ)) → IsLogReading old []
+none_reading None = refl
+none_reading (Some name) = tt
+
+none_told : (files : Option (List ℕ → Option (List ℕ))) (old : Option (List ℕ)) → IsLogTold files old []
+none_told files None = tt
+none_told None (Some name) = tt
+none_told (Some f) (Some name) = tt
+
+-- What is known behind the reading of a log.
+record LogRead (b c : ShelfState) (game : Game) (player : ℕ) (old : Option (List ℕ)) (start : Result Resumed Status) : Type 0 where
+  pub same : c.files ≡ b.files
+  pub grows : Grows b.pieces c.pieces
+  pub reading : IsLogReading old (since b.pieces c.pieces)
+  pub due : (since b.pieces c.pieces ≡ []) ⊎ (player < players_of game)
+  pub told : IsLogTold b.files old (since b.pieces c.pieces)
+  pub counted : c.faults ≡ faults_behind (is_shelf_fault start) b.faults
+
+log_read : (b c : ShelfState) (game : Game) (player : ℕ) (old : Option (List ℕ)) (start : Result Resumed Status) → FetchesLog b c game player old start → LogRead b c game player old start
+log_read b c game player old start (inl h) =
+    let pieces : c.pieces ≡ b.pieces ++ [] = ap (λ (s : ShelfState). s.pieces) h.0 ∙ sym (append-nil b.pieces) in
+    let none : since b.pieces c.pieces ≡ [] = since_is b.pieces c.pieces [] pieces in
+    record {
+      same = ap (λ (s : ShelfState). s.files) h.0;
+      grows = grows_by b.pieces c.pieces [] pieces;
+      reading = subst (IsLogReading old) (sym none) (none_reading old);
+      due = inl none;
+      told = subst (IsLogTold b.files old) (sym none) (none_told b.files old);
+      counted = ap (λ (s : ShelfState). s.faults) h.0 ∙ ap (λ (f : Bool). faults_behind f b.faults) (sym h.1);
+    }
+log_read b c game player old start (inr h) =
+    let f = h.3 in
+    record {
+      same = f.same;
+      grows = f.grows;
+      reading = subst (λ (o : Option (List ℕ)). IsLogReading o (since b.pieces c.pieces)) (sym h.1) f.reading;
+      due = inr h.2;
+      told = subst (λ (o : Option (List ℕ)). IsLogTold b.files o (since b.pieces c.pieces)) (sym h.1) f.told;
+      counted = f.counted;
+    }
+
+-- a session was read, and its player begun with
+pub opened : (a b c : ShelfState) (session : List ℕ) (player : ℕ) (old : Option (List ℕ)) (game : Game) (start : Result Resumed Status) →
+    OpensSession a b session (Ok game) → BeginsPeer b c game player old start → OpensPeer a c session player old start
+opened a b c session player old game start o p =
+    let l = log_read b c game player old start p.fetches in
+    record {
+      calls = record { session = since a.pieces b.pieces; log = since b.pieces c.pieces };
+      reads = record {
+        same = l.same ∙ o.fetched.same;
+        answered = l.grows ∙ ap (λ (x : List Piece). x ++ since b.pieces c.pieces) o.fetched.grows ∙ append_assoc a.pieces (since a.pieces b.pieces) (since b.pieces c.pieces);
+        session_read = o.fetched.reading;
+        log_read = l.reading;
+        log_due = λ content h. go l.due (game_due _ game (o.due content h));
+        session_told = o.fetched.told;
+        log_told = subst (λ (f : Option (List ℕ → Option (List ℕ))). IsLogTold f old (since b.pieces c.pieces)) o.fetched.same l.told;
+      };
+      counted = l.counted ∙ ap (faults_behind (is_shelf_fault start)) o.fetched.counted;
+      due = λ contents h.
+          subst (λ (r : Result Game Status). IsStartFor player (with_log player (with_player player r) (option_map (λ name. contents.log) old)) start) (sym (o.due contents.session h.session_gives)) (p.due contents.log h.log_gives);
+    }
+  where
+    go : {content : Option (List ℕ)} → (since b.pieces c.pieces ≡ []) ⊎ (player < players_of game) → game_at (front_of content) ≡ Ok game → (since b.pieces c.pieces ≡ []) ⊎ HasPlayer player content
+    go (inl none) read = inl none
+    go (inr in_it) read = inr (record { game = game; read = read; player_is = in_it })
+
+-- no session was read
+pub unopened : (a b : ShelfState) (session : List ℕ) (player : ℕ) (old : Option (List ℕ)) (status : Status) → OpensSession a b session (Err status) → OpensPeer a b session player old (Err status)
+unopened a b session player old status o = record {
+  calls = record { session = since a.pieces b.pieces; log = [] };
+  reads = record {
+    same = o.fetched.same;
+    answered = o.fetched.grows ∙ ap (λ (x : List Piece). a.pieces ++ x) (sym (append-nil (since a.pieces b.pieces)));
+    session_read = o.fetched.reading;
+    log_read = none_reading old;
+    log_due = λ content h. inl refl;
+    session_told = o.fetched.told;
+    log_told = none_told a.files old;
+  };
+  counted = o.fetched.counted;
+  due = λ contents h. none_due player _ _ status (o.due contents.session h.session_gives);
+}

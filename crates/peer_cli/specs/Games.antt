@@ -1,9 +1,10 @@
 -- Games: the session that a file has and the log that a player goes on from, or how the run ends where there is none. A file that
 -- isn't there counts as one without bytes here; reading it is a fault of the shelf, which is answered where the file is read.
-use Rattle.std.specs.Prelude.{◌≡◌, ◌⊎◌, ◌<◌, ℕ, List, [], take, Result, Ok, Err, Option, Some, None, nat_lt, if◌then◌else◌, unwrap_or}
+use Rattle.std.specs.Prelude.{◌≡◌, ℕ, Bool, false, List, [], take, Result, Ok, Err, Option, Some, None, nat_lt, if◌then◌else◌, unwrap_or}
 use Rattle.definitions.specs.declared.logs.Entry.{Entry}
 use Rattle.definitions.specs.World.{Game, players_of}
 use Rattle.definitions.specs.Honest.{IsHonest}
+use Rattle.text_io.specs.Frame.{is_input_fault}
 use Rattle.text_io.specs.declared.statuses.Status.{Status}
 use Rattle.text_io.specs.declared.statuses.Status.TheVariants.{NoMemory, Usage, BadSession, InputFault, BadLog}
 use Rattle.grid_world.specs.declared.fault.SessionFault.{SessionFault}
@@ -72,17 +73,13 @@ abbrev pub IsDue : Result Game Status → Result Game Status → Type 0
 IsDue due (Ok game) = due ≡ Ok game
 IsDue due (Err NoMemory) = Unit {0}
 IsDue due (Err InputFault) = Unit {0}
-IsDue due (Err status) = due ≡ Err status
+IsDue due (Err (BadSession line what)) = due ≡ Err (BadSession line what)
+IsDue due (Err status) = ⊥
 
--- P, where what is opened is refused for a fault of the shelf
-abbrev pub OnShelfFault : {T : Type 0} → Result T Status → Type 0 → Type 0
-OnShelfFault (Ok start) P = Unit {0}
-OnShelfFault (Err InputFault) P = P
-OnShelfFault (Err status) P = Unit {0}
-
--- This file is read: that of the session, or, where there is a session and the player is one of it, that of the log.
-abbrev pub IsRead : (session : List ℕ) → (player : ℕ) → (old : Option (List ℕ)) → (files : List ℕ → Option (List ℕ)) → (name : List ℕ) → Type 0
-IsRead session player old files name = (name ≡ session) ⊎ ((old ≡ Some name) × (game : Game) × (game_at (front_of (files session)) ≡ Ok game) × (player < players_of game))
+-- whether what is opened is refused for a fault of the shelf
+abbrev pub is_shelf_fault : {T : Type 0} → Result T Status → Bool
+is_shelf_fault (Ok start) = false
+is_shelf_fault (Err status) = is_input_fault status
 
 -- a peer of the player with the log that a run begins with
 pub record IsPeerFor (player : ℕ) (due : Result Beginning Status) (r : Resumed) : Type 0 where
@@ -95,4 +92,7 @@ abbrev pub IsStartFor : ℕ → Result Beginning Status → Result Resumed Statu
 IsStartFor player due (Ok r) = IsPeerFor player due r
 IsStartFor player due (Err NoMemory) = Unit {0}
 IsStartFor player due (Err InputFault) = Unit {0}
-IsStartFor player due (Err status) = due ≡ Err status
+IsStartFor player due (Err Usage) = due ≡ Err Usage
+IsStartFor player due (Err (BadSession line what)) = due ≡ Err (BadSession line what)
+IsStartFor player due (Err (BadLog log at why)) = due ≡ Err (BadLog log at why)
+IsStartFor player due (Err status) = ⊥

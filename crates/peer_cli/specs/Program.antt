@@ -9,7 +9,8 @@ use Rattle.text_io.specs.declared.statuses.Status.{Status}
 use Rattle.text_io.specs.declared.statuses.Status.TheVariants.{Usage}
 use Rattle.drive_script.specs.Drive as D
 use Rattle.drive_script.specs.Telling.{TellsLog}
-use Rattle.peer_cli.specs.Words.{Command, Drive, command_of}
+use Rattle.peer_cli.specs.Words.{Command, Drive}
+use Rattle.peer_cli.specs.Files.{Contents}
 use Rattle.peer_cli.specs.Games.{Beginning, beginning_for}
 
 -- what is written about the byte from which on a log is dropped
@@ -35,19 +36,15 @@ abbrev pub NeedsNoInput : ℕ → Result Beginning Status → Type 0
 NeedsNoInput player (Err status) = Unit {0}
 NeedsNoInput player (Ok b) = is_clean b.game (advance b.game player b.first) ≡ false
 
--- the same of a command
-abbrev pub IsOverAtFirst : Option Command → (List ℕ → Option (List ℕ)) → Type 0
-IsOverAtFirst None files = Unit {0}
-IsOverAtFirst (Some (Drive session player old)) files = NeedsNoInput player (beginning_for player (files session) (option_map files old))
+-- the same of a command, where its files hold this
+abbrev pub IsOverAtFirst : Option Command → Contents → Type 0
+IsOverAtFirst None contents = Unit {0}
+IsOverAtFirst (Some (Drive session player old)) contents = NeedsNoInput player (beginning_for player contents.session (option_map (λ name. contents.log) old))
 
--- the answer to a command
-abbrev pub answer_of : Option Command → (List ℕ → Option (List ℕ)) → Input → Answer
-answer_of None files input = bare_answer Usage
-answer_of (Some (Drive session player old)) files input = drive_answer player (files session) (option_map files old) input
-
--- the answer to the program's words
-abbrev pub answer_to : List (List ℕ) → (List ℕ → Option (List ℕ)) → Input → Answer
-answer_to words files input = answer_of (command_of words) files input
+-- the answer to a command, where its files hold this
+abbrev pub answer_of : Option Command → Contents → Input → Answer
+answer_of None contents input = bare_answer Usage
+answer_of (Some (Drive session player old)) contents input = drive_answer player contents.session (option_map (λ name. contents.log) old) input
 
 -- The body of an answer tells from which byte on the log is dropped that the run begins with, if it is, and then how this log
 -- came from its entries.

@@ -6,8 +6,10 @@
 //! touches the source, the sink and the shelf that it is handed, and takes its memory before the first byte is written.
 #![tactic(auto)]
 
+mod memory;
 mod program;
 mod sessions;
 mod words;
 
+pub use memory::run_in_memory;
 pub use program::run;

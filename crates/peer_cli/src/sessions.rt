@@ -1,17 +1,15 @@
 //! The session of a file, and a peer for it.
 
-ghost use Rattle.std.specs.Prelude.{◌≡◌, ◌≤◌, ◌<◌, Option, List, ℕ, Some, option_map};
-ghost use Rattle.std.specs.List.{AllByRecursion};
-ghost use Rattle.station.specs.Pieces.{ArePiecesOf};
-ghost use Rattle.station.specs.Since.{since, Grows};
-ghost use Rattle.station.specs.Outside.{Rose};
-ghost use Rattle.text_io.specs.Frame.{StartCause, StartSteady};
+ghost use Rattle.std.specs.Prelude.{◌≡◌, ◌<◌, Option, List, ℕ, Ok, Some, false, option_map};
+ghost use Rattle.station.specs.Pieces.{AllGive};
+ghost use Rattle.station.specs.Since.{since};
+ghost use Rattle.text_io.specs.Fronts.{Fetched};
 ghost use Rattle.grid_world.specs.Reading.{game_at};
 ghost use Rattle.definitions.specs.World.{players_of};
-ghost use Rattle.peer_cli.specs.Ends.{SessionEnds, StartEnds, LogEnds};
 ghost use Rattle.old_log.specs.Old.{old_fault};
+ghost use Rattle.peer_cli.specs.Files.{BeginsPeer, OpensPeer, OpensSession};
 ghost use Rattle.peer_cli.specs.Games as G;
-ghost use Rattle.peer_cli.specs.Games.{IsDue, IsRead, IsStartFor};
+ghost use Rattle.peer_cli.specs.Games.{IsDue, IsStartFor, is_shelf_fault};
 
 use definitions::PlayerId;
 use grid_world::{Session, SessionFault, read_session};
@@ -30,7 +28,7 @@ const LOG_FRONT: usize = 67_108_865;
 /// The session of a text.
 fn session_of(alloc: Global, text: &[u8]) -> Result<Session, Status>
     ensures due { IsDue (G.ended_by (game_at text.now)) result }
-    ensures cause { StartCause SessionEnds ⊥ result }
+    ensures calm { is_shelf_fault result ≡ false }
 {
     match read_session(alloc, text) {
         Err(SessionFault::Memory) => Err(Status::NoMemory),
@@ -42,12 +40,7 @@ fn session_of(alloc: Global, text: &[u8]) -> Result<Session, Status>
 /// The session of a file.
 #[tactic(auto, unfolding(crate::specs::Games::front_of))]
 fn open_session<H: Shelf>(alloc: Global, shelf: &mut H, name: &[u8]) -> Result<Session, Status>
-    ensures due { (files : List ℕ → Option (List ℕ)) → ArePiecesOf files (since (H.pieces shelf.old) (H.pieces shelf.new)) → IsDue (G.session_in (files name.now)) result }
-    ensures grows { Grows (H.pieces shelf.old) (H.pieces shelf.new) }
-    ensures later { H.faults shelf.old ≤ H.faults shelf.new }
-    ensures cause { StartCause SessionEnds (Rose (H.faults shelf.old) (H.faults shelf.new)) result }
-    ensures asked { AllByRecursion (λ piece. piece.name ≡ name.now) (since (H.pieces shelf.old) (H.pieces shelf.new)) }
-    ensures steady { StartSteady result (H.faults shelf.new ≡ H.faults shelf.old) }
+    ensures { OpensSession (H.state shelf.old) (H.state shelf.new) name.now result }
 {
     match read_front(alloc, shelf, name, FRONT) {
         Err(FrontFault::NoMemory) => Err(Status::NoMemory),
@@ -60,7 +53,7 @@ fn open_session<H: Shelf>(alloc: Global, shelf: &mut H, name: &[u8]) -> Result<S
 fn begin_empty(alloc: Global, session: &Session, player: PlayerId) -> Result<Resumed, Status>
     requires { player < players_of session.now }
     ensures due { IsStartFor player (Ok (G.empty_beginning session.now)) result }
-    ensures cause { StartCause LogEnds ⊥ result }
+    ensures calm { is_shelf_fault result ≡ false }
 {
     match Peer::new(alloc, session, player) {
         Ok(peer) => Ok(Resumed {
@@ -80,7 +73,7 @@ fn begin_with(
 ) -> Result<Resumed, Status>
     requires { player < players_of session.now }
     ensures due { IsStartFor player (G.old_beginning session.now bytes.now (old_fault session.now player bytes.now)) result }
-    ensures cause { StartCause LogEnds ⊥ result }
+    ensures calm { is_shelf_fault result ≡ false }
 {
     match resume_from(alloc, session, player, bytes) {
         Ok(resumed) => Ok(resumed),
@@ -99,12 +92,9 @@ fn begin_with_file<H: Shelf>(
     name: &[u8],
 ) -> Result<Resumed, Status>
     requires { player < players_of session.now }
-    ensures grows { Grows (H.pieces shelf.old) (H.pieces shelf.new) }
-    ensures due { (files : List ℕ → Option (List ℕ)) → ArePiecesOf files (since (H.pieces shelf.old) (H.pieces shelf.new)) → IsStartFor player (G.begun player session.now (Some (files name.now))) result }
-    ensures later { H.faults shelf.old ≤ H.faults shelf.new }
-    ensures cause { StartCause LogEnds (Rose (H.faults shelf.old) (H.faults shelf.new)) result }
-    ensures asked { AllByRecursion (λ piece. piece.name ≡ name.now) (since (H.pieces shelf.old) (H.pieces shelf.new)) }
-    ensures steady { StartSteady result (H.faults shelf.new ≡ H.faults shelf.old) }
+    ensures fetched { Fetched (H.state shelf.old) (H.state shelf.new) name.now (is_shelf_fault result) }
+    ensures due { (content : Option (List ℕ)) → AllGive content (since (H.state shelf.old).pieces (H.state shelf.new).pieces) →
+        IsStartFor player (G.begun player session.now (Some content)) result }
 {
     match read_front(alloc, shelf, name, LOG_FRONT) {
         Err(FrontFault::NoMemory) => Err(Status::NoMemory),
@@ -121,13 +111,7 @@ fn begin<H: Shelf>(
     player: PlayerId,
     old: Option<&[u8]>,
 ) -> Result<Resumed, Status>
-    ensures due { (files : List ℕ → Option (List ℕ)) → ArePiecesOf files (since (H.pieces shelf.old) (H.pieces shelf.new)) →
-        IsStartFor player (G.with_log player (G.with_player player (Ok session.now)) (option_map (λ name. files name.now) old.entry)) result }
-    ensures later { H.faults shelf.old ≤ H.faults shelf.new }
-    ensures cause { StartCause StartEnds (Rose (H.faults shelf.old) (H.faults shelf.new)) result }
-    ensures grows { Grows (H.pieces shelf.old) (H.pieces shelf.new) }
-    ensures asked { AllByRecursion (λ piece. (option_map (λ n. n.now) old.entry ≡ Some piece.name) × (player < players_of session.now)) (since (H.pieces shelf.old) (H.pieces shelf.new)) }
-    ensures steady { StartSteady result (H.faults shelf.new ≡ H.faults shelf.old) }
+    ensures { BeginsPeer (H.state shelf.old) (H.state shelf.new) session.now player (option_map (λ name. name.now) old.entry) result }
 {
     if player >= session.players() {
         return Err(Status::Usage);
@@ -146,13 +130,7 @@ pub(crate) fn open_peer<H: Shelf>(
     player: PlayerId,
     old: Option<&[u8]>,
 ) -> Result<Resumed, Status>
-    ensures due { (files : List ℕ → Option (List ℕ)) → ArePiecesOf files (since (H.pieces shelf.old) (H.pieces shelf.new)) →
-        IsStartFor player (G.beginning_for player (files name.now) (option_map (λ name. files name.now) old.entry)) result }
-    ensures later { H.faults shelf.old ≤ H.faults shelf.new }
-    ensures cause { StartCause StartEnds (Rose (H.faults shelf.old) (H.faults shelf.new)) result }
-    ensures grows { Grows (H.pieces shelf.old) (H.pieces shelf.new) }
-    ensures asked { (files : List ℕ → Option (List ℕ)) → ArePiecesOf files (since (H.pieces shelf.old) (H.pieces shelf.new)) → AllByRecursion (λ piece. IsRead name.now player (option_map (λ n. n.now) old.entry) files piece.name) (since (H.pieces shelf.old) (H.pieces shelf.new)) }
-    ensures steady { StartSteady result (H.faults shelf.new ≡ H.faults shelf.old) }
+    ensures { OpensPeer (H.state shelf.old) (H.state shelf.new) name.now player (option_map (λ name. name.now) old.entry) result }
 {
     match open_session(alloc, shelf, name) {
         Ok(session) => begin(alloc, shelf, &session, player, old),

@@ -16,9 +16,6 @@ GivesAt None at (Some bytes) = ⊥
 GivesAt (Some content) at None = Unit {0}
 GivesAt None at None = Unit {0}
 
--- The files give what was answered.
-abbrev pub IsPieceOf : (files : List ℕ → Option (List ℕ)) → Piece → Type 0
-IsPieceOf files piece = GivesAt (files piece.name) piece.at piece.gave
-
-abbrev pub ArePiecesOf : (files : List ℕ → Option (List ℕ)) → List Piece → Type 0
-ArePiecesOf files pieces = AllByRecursion (IsPieceOf files) pieces
+-- A file with this content gives what these calls for it answered.
+abbrev pub AllGive : (content : Option (List ℕ)) → List Piece → Type 0
+AllGive content pieces = AllByRecursion (λ piece. GivesAt content piece.at piece.gave) pieces

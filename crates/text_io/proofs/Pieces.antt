@@ -5,10 +5,10 @@ use Rattle.std.specs.List.{AllByRecursion}
 use Rattle.std.proofs.Math.Seq.{take-add}
 use Rattle.std.proofs.lemmas.List.{take-append-drop, drop_all}
 use Rattle.station.specs.Outside.{one_more}
-use Rattle.station.specs.Pieces.{Piece, GivesAt, IsPieceOf, ArePiecesOf}
+use Rattle.station.specs.Pieces.{Piece, GivesAt, AllGive}
 use Rattle.station.specs.Shelves.{ShelfState, GivesTold}
 use Rattle.station.specs.Since.{since, Grows, since_is, since_none, since_on, grows_by, grows_none, grows_on}
-use Rattle.text_io.specs.Fronts.{ArePiecesOfTold, Fetched, IsCall, IsFrontOf, IsReading, ReadsFront, TakesPiece, bytes_given}
+use Rattle.text_io.specs.Fronts.{AllTold, Fetched, IsCall, IsFrontOf, IsReading, ReadsFront, TakesPiece, bytes_given}
 use Rattle.text_io.specs.declared.fronts.PieceTurn.TheVariants.{End, Fault}
 use Rattle.text_io.specs.declared.fronts.FrontFault.{FrontFault}
 use Rattle.text_io.specs.declared.fronts.FrontFault.TheVariants.{NoMemory, Failed}
@@ -73,7 +73,7 @@ pub record Fetching (before now : ShelfState) (name : List ℕ) (next : ℕ) : T
   pub same : now.files ≡ before.files
   pub grows : Grows before.pieces now.pieces
   pub reads : ReadsTo name 0 (since before.pieces now.pieces) next
-  pub told : ArePiecesOfTold before.files (since before.pieces now.pieces)
+  pub told : AllTold before.files name (since before.pieces now.pieces)
   pub counted : now.faults ≡ before.faults
 
 pub fetching_none : (s : ShelfState) (name : List ℕ) → Fetching s s name 0
@@ -81,11 +81,11 @@ fetching_none s name = record {
   same = refl;
   grows = grows_none s.pieces;
   reads = subst (λ (ps : List Piece). ReadsTo name 0 ps 0) (sym (since_none s.pieces)) refl;
-  told = subst (ArePiecesOfTold s.files) (sym (since_none s.pieces)) (go s.files);
+  told = subst (AllTold s.files name) (sym (since_none s.pieces)) (go s.files);
   counted = refl;
 }
   where
-    go : (files : Option (List ℕ → Option (List ℕ))) → ArePiecesOfTold files []
+    go : (files : Option (List ℕ → Option (List ℕ))) → AllTold files name []
     go (Some f) = tt
     go None = tt
 
@@ -106,16 +106,16 @@ module _ (a b c : ShelfState) (name : List ℕ) (next : ℕ) (gave : Option (Lis
   pub now_grows : Grows a.pieces c.pieces
   now_grows = grows_on a.pieces b.pieces c.pieces f.grows (grows_by b.pieces c.pieces (piece ∷ []) grown)
 
-  told_more : ArePiecesOfTold a.files (since a.pieces b.pieces ++ piece ∷ [])
+  told_more : AllTold a.files name (since a.pieces b.pieces ++ piece ∷ [])
   unfolding piece
   told_more = go a.files f.same f.told
     where
-      go : (files : Option (List ℕ → Option (List ℕ))) → b.files ≡ files → ArePiecesOfTold files (since a.pieces b.pieces) → ArePiecesOfTold files (since a.pieces b.pieces ++ piece ∷ [])
-      go (Some fs) same told = all_append (IsPieceOf fs) (since a.pieces b.pieces) (piece ∷ []) told (subst (λ (o : Option (List ℕ → Option (List ℕ))). GivesTold o name next gave) same call.told, tt)
+      go : (files : Option (List ℕ → Option (List ℕ))) → b.files ≡ files → AllTold files name (since a.pieces b.pieces) → AllTold files name (since a.pieces b.pieces ++ piece ∷ [])
+      go (Some fs) same told = all_append (λ (p : Piece). GivesAt (fs name) p.at p.gave) (since a.pieces b.pieces) (piece ∷ []) told (subst (λ (o : Option (List ℕ → Option (List ℕ))). GivesTold o name next gave) same call.told, tt)
       go None same told = tt
 
-  now_told : ArePiecesOfTold a.files (since a.pieces c.pieces)
-  now_told = subst (ArePiecesOfTold a.files) (sym pieces_are) told_more
+  now_told : AllTold a.files name (since a.pieces c.pieces)
+  now_told = subst (AllTold a.files name) (sym pieces_are) told_more
 
   now_same : c.files ≡ a.files
   now_same = ap (λ (s : ShelfState). s.files) call.after ∙ f.same
@@ -159,10 +159,10 @@ fetched_failed a b c name next f call = record {
 }
 
 -- the pieces before the call, and what it gave
-pub call_split : (files : List ℕ → Option (List ℕ)) (a b c : ShelfState) (name : List ℕ) (next : ℕ) (gave : Option (List ℕ)) → Fetching a b name next → IsCall b c name next gave →
-    ArePiecesOf files (since a.pieces c.pieces) → ArePiecesOf files (since a.pieces b.pieces) × GivesAt (files name) next gave
-call_split files a b c name next gave f call h =
-    pieces_before (IsPieceOf files) a.pieces b.pieces c.pieces (record { name = name; at = next; gave = gave }) f.grows (ap (λ (s : ShelfState). s.pieces) call.after) h
+pub call_split : (content : Option (List ℕ)) (a b c : ShelfState) (name : List ℕ) (next : ℕ) (gave : Option (List ℕ)) → Fetching a b name next → IsCall b c name next gave →
+    AllGive content (since a.pieces c.pieces) → AllGive content (since a.pieces b.pieces) × GivesAt content next gave
+call_split content a b c name next gave f call h =
+    pieces_before (λ (p : Piece). GivesAt content p.at p.gave) a.pieces b.pieces c.pieces (record { name = name; at = next; gave = gave }) f.grows (ap (λ (s : ShelfState). s.pieces) call.after) h
 
 -- no further call was made
 pub fetched_so : (a b : ShelfState) (name : List ℕ) (next : ℕ) → Fetching a b name next → Fetched a b name false
@@ -211,16 +211,16 @@ front_full (Some bytes) text limit front some full = front ∙ ap (λ (k : ℕ).
 -- reading ends without a text
 pub front_refused : (a b c : ShelfState) (name text text' : List ℕ) (room limit : ℕ) (fault : FrontFault) → Fetching a b name (length text) → TakesPiece b c name text text' room (Fault fault) →
     ReadsFront a c name limit (Err fault)
-front_refused a b c name text text' room limit NoMemory f call = record { fetched = fetched_some a b c name (length text) call.0 f call.1; front_is = λ files h. tt; short = tt }
-front_refused a b c name text text' room limit Failed f call = record { fetched = fetched_failed a b c name (length text) f call; front_is = λ files h. tt; short = tt }
+front_refused a b c name text text' room limit NoMemory f call = record { fetched = fetched_some a b c name (length text) call.0 f call.1; front_is = λ content h. tt; short = tt }
+front_refused a b c name text text' room limit Failed f call = record { fetched = fetched_failed a b c name (length text) f call; front_is = λ content h. tt; short = tt }
 
 pub front_stopped : (a b c : ShelfState) (name text text' : List ℕ) (room limit : ℕ) → Fetching a b name (length text) →
-    ((files : List ℕ → Option (List ℕ)) → ArePiecesOf files (since a.pieces b.pieces) → Fronted (files name) text) → length text ≤ limit → TakesPiece b c name text text' room End →
+    ((content : Option (List ℕ)) → AllGive content (since a.pieces b.pieces) → Fronted content text) → length text ≤ limit → TakesPiece b c name text text' room End →
     ReadsFront a c name limit (Ok text')
 front_stopped a b c name text text' room limit f fronted short call = record {
   fetched = fetched_some a b c name (length text) [] f call.0;
-  front_is = λ files h.
-      let r = call_split files a b c name (length text) (Some []) f call.0 h in
-      subst (λ (t : List ℕ). IsFrontOf limit (files name) t) (sym call.1) (front_ended (files name) text limit (fronted files r.0) r.1 short);
+  front_is = λ content h.
+      let r = call_split content a b c name (length text) (Some []) f call.0 h in
+      subst (λ (t : List ℕ). IsFrontOf limit content t) (sym call.1) (front_ended content text limit (fronted content r.0) r.1 short);
   short = subst (λ (t : List ℕ). length t ≤ limit) (sym call.1) short;
 }

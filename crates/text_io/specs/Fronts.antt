@@ -1,7 +1,7 @@
 -- What was read of a file, from its front on.
 use Rattle.std.specs.Prelude.{◌≡◌, ℕ, ◌+◌, ◌≤◌, Bool, true, false, Result, Ok, Err, IfOk, Option, Some, None, List, [], ◌∷◌, ◌++◌, ◌<◌, length, take}
 use Rattle.station.specs.Outside.{faults_behind}
-use Rattle.station.specs.Pieces.{Piece, ArePiecesOf}
+use Rattle.station.specs.Pieces.{Piece, AllGive}
 use Rattle.station.specs.Shelves.{ShelfState, GivesTold, after_piece}
 use Rattle.station.specs.Since.{since, Grows}
 use Rattle.text_io.specs.declared.fronts.PieceTurn.{PieceTurn}
@@ -26,10 +26,10 @@ abbrev pub bytes_read : List Piece → List ℕ
 bytes_read [] = []
 bytes_read (piece ∷ pieces) = bytes_given piece.gave ++ bytes_read pieces
 
--- The pieces are of the shelf's files, where it tells them.
-abbrev pub ArePiecesOfTold : Option (List ℕ → Option (List ℕ)) → List Piece → Type 0
-ArePiecesOfTold (Some files) pieces = ArePiecesOf files pieces
-ArePiecesOfTold None pieces = Unit {0}
+-- The file of this name gives what these calls answered, where the shelf tells its files.
+abbrev pub AllTold : Option (List ℕ → Option (List ℕ)) → (name : List ℕ) → List Piece → Type 0
+AllTold (Some files) name pieces = AllGive (files name) pieces
+AllTold None name pieces = Unit {0}
 
 -- A shelf was asked for the file of this name from its front on: it has the files that it had, its answers are theirs where it tells
 -- them, and it counts a fault more exactly where it failed.
@@ -37,7 +37,7 @@ pub record Fetched (before now : ShelfState) (name : List ℕ) (failed : Bool) :
   pub same : now.files ≡ before.files
   pub grows : Grows before.pieces now.pieces
   pub reading : IsReading name 0 (since before.pieces now.pieces)
-  pub told : ArePiecesOfTold before.files (since before.pieces now.pieces)
+  pub told : AllTold before.files name (since before.pieces now.pieces)
   pub counted : now.faults ≡ faults_behind failed before.faults
 
 -- One call for the file of this name, at this place, gave this.
@@ -70,8 +70,8 @@ is_front_failed (Ok text) = false
 is_front_failed (Err NoMemory) = false
 is_front_failed (Err Failed) = true
 
--- The front of a file was read: it is that of the file in any files that give what the shelf answered.
+-- The front of a file was read: it is that of any content that gives what the shelf answered.
 pub record ReadsFront (before now : ShelfState) (name : List ℕ) (limit : ℕ) (front : Result (List ℕ) FrontFault) : Type 0 where
   pub fetched : Fetched before now name (is_front_failed front)
-  pub front_is : (files : List ℕ → Option (List ℕ)) → ArePiecesOf files (since before.pieces now.pieces) → IfOk front (λ text. IsFrontOf limit (files name) text)
+  pub front_is : (content : Option (List ℕ)) → AllGive content (since before.pieces now.pieces) → IfOk front (λ text. IsFrontOf limit content text)
   pub short : IfOk front (λ text. length text ≤ limit)

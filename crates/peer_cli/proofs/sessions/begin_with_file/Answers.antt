@@ -5,6 +5,6 @@ use Rattle.peer_cli.proofs.Shelves.{log_front_read}
 use Rattle.peer_cli.proofs.sessions.begin_with_file.Goals as goal
 
 pub returns-in-Ok-clause-due : goal.returns-in-Ok-clause-due
-returns-in-Ok-clause-due g c = λ files h.
+returns-in-Ok-clause-due g c = λ content h.
     subst (λ (b : List ℕ). IsStartFor c.args.player (old_beginning c.args.session.now b (old_fault c.args.session.now c.args.player b)) c.begin_with.result)
-    (c.as_slice.ensures.value ∙ sym (log_front_read _ _ (c.in-Ok.ensures.front files h))) c.begin_with.ensures.due
+    (c.as_slice.ensures.value ∙ sym (log_front_read _ _ (c.in-Ok.ensures.front_is content h))) c.begin_with.ensures.due

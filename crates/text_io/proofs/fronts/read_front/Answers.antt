@@ -4,7 +4,7 @@ use Rattle.text_io.proofs.Pieces.{Fetching, fetching_none, fetching_more, fetche
 use Rattle.text_io.proofs.fronts.read_front.Goals as goal
 
 pub returns-in_default : goal.returns-in_default
-returns-in_default g c = record { fetched = fetched_so _ _ _ _ (fetching_none _ _); front_is = λ files h. tt; short = tt }
+returns-in_default g c = record { fetched = fetched_so _ _ _ _ (fetching_none _ _); front_is = λ content h. tt; short = tt }
 
 pub chunks-init : goal.chunks-init
 chunks-init g c =
@@ -12,7 +12,7 @@ chunks-init g c =
     let shelf = g.H.Shelf.state c.args.shelf.now in
     record {
       fetching = subst (λ (n : ℕ). Fetching shelf shelf c.args.name.now n) none (fetching_none shelf c.args.name.now);
-      front = λ files h. front_none _ _ c.new-text.ensures.items;
+      front = λ content h. front_none _ _ c.new-text.ensures.items;
       short = omega (arith, none);
       room = c.in-Ok.ensures;
     }
@@ -31,9 +31,9 @@ chunks-preserved g c =
     let shelf = g.H.Shelf.state c.args.shelf.now in
     record {
       fetching = subst (λ (n : ℕ). Fetching shelf (g.H.Shelf.state c.take_piece.new.shelf) c.args.name.now n) long (fetching_more _ _ _ _ _ more.0 c.chunks.invariant.fetching more.1 more.2);
-      front = λ files h.
-          let r = call_split files _ _ _ _ _ _ c.chunks.invariant.fetching more.1 h in
-          front_more _ _ _ _ (c.chunks.invariant.front files r.0) r.1 more.4;
+      front = λ content h.
+          let r = call_split content _ _ _ _ _ _ c.chunks.invariant.fetching more.1 h in
+          front_more _ _ _ _ (c.chunks.invariant.front content r.0) r.1 more.4;
       short = omega (arith, long, within, more.3, c.chunks.invariant.short);
       room = grind (arith, common_steps);
     }
@@ -43,6 +43,6 @@ returns g c =
     let full : length c.chunks.text.items ≡ c.args.limit = grind (arith, common_steps) in
     record {
       fetched = fetched_so _ _ _ _ c.chunks.invariant.fetching;
-      front_is = λ files h. front_full _ _ _ (c.chunks.invariant.front files h) c.requires full;
+      front_is = λ content h. front_full _ _ _ (c.chunks.invariant.front content h) c.requires full;
       short = c.chunks.invariant.short;
     }

@@ -1,13 +1,13 @@
 use Rattle.std.proofs.Common.{◌<◌, ◌≤◌, ◌-◌, List, ℕ, Option, length}
 use Rattle.station.specs.Since.{since}
-use Rattle.station.specs.Pieces.{ArePiecesOf}
+use Rattle.station.specs.Pieces.{AllGive}
 use Rattle.text_io.proofs.Pieces.{Fetching, Fronted}
 use Rattle.text_io.proofs.fronts.read_front.Given as goal
 
 abbrev pub invariant-chunks : goal.invariant-chunks
 invariant-chunks g l = record {
   fetching : Fetching (g.H.Shelf.state l.initial.shelf) (g.H.Shelf.state l.shelf) l.name (length l.text.items);
-  front : (files : List ℕ → Option (List ℕ)) → ArePiecesOf files (since (g.H.Shelf.state l.initial.shelf).pieces (g.H.Shelf.state l.shelf).pieces) → Fronted (files l.name) l.text.items;
+  front : (content : Option (List ℕ)) → AllGive content (since (g.H.Shelf.state l.initial.shelf).pieces (g.H.Shelf.state l.shelf).pieces) → Fronted content l.text.items;
   short : length l.text.items ≤ l.limit;
   room : 0 < length l.chunk.items;
 }

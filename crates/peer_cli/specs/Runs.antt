@@ -1,0 +1,125 @@
+-- Runs: what the program promises of a run.
+use Rattle.std.specs.Prelude.{◌≡◌, ◌⊎◌, ℕ, true, IsTrue, None, Option, List, ◌++◌}
+use Rattle.station.specs.Outside.{Rose}
+use Rattle.station.specs.Since.{since, Grows}
+use Rattle.station.specs.Sources.{SourceState}
+use Rattle.text_io.specs.Ends.{Finished}
+use Rattle.text_io.specs.Frame.{OnDone, OnNoMemory, Ran}
+use Rattle.text_io.specs.Inputs.{AtEnd, AtFault, Input, MayFollow, input_by, input_of}
+use Rattle.text_io.specs.Lines.{lines_of}
+use Rattle.text_io.specs.declared.statuses.Status.{Status}
+use Rattle.text_io.specs.declared.statuses.Status.TheVariants.{Done, NoMemory, OutputFault, Usage}
+use Rattle.definitions.specs.Findings.{is_clean}
+use Rattle.drive_script.specs.Drive.{bad_line, drive_log}
+use Rattle.drive_script.specs.FairPlay.{IsFairPlay}
+use Rattle.peer_cli.specs.Words.{Command}
+use Rattle.peer_cli.specs.Games.{Beginning}
+use Rattle.peer_cli.specs.Files.{AreContents, Calls, Contents, ReadsFor}
+use Rattle.peer_cli.specs.Program.{IsOverAtFirst, TellsRun, answer_of}
+use Rattle.peer_cli.specs.Causes.{HasCause, IsSet}
+use Rattle.peer_cli.specs.Outside.{CountsFaults, Outside}
+
+-- a run: the command that its words say, if they say one, and the outside before it and behind it
+pub record Run : Type 0 where
+  pub command : Option Command
+  pub before : Outside
+  pub after : Outside
+
+-- the bytes that it read of its input
+abbrev pub read_by : Run → List ℕ
+read_by run = since run.before.input.seen run.after.input.seen
+
+-- The input was read on: it has what it had, and gave more or nothing.
+pub record ReadsOn (before after : SourceState) : Type 0 where
+  pub same : after.whole ≡ before.whole
+  pub grows : Grows before.seen after.seen
+
+-- The files may hold this, and this may stand behind the bytes read of the input: the files give what was answered to the run's
+-- calls, and nothing stands behind an input that answered its end.
+pub record MayBe (run : Run) (calls : Calls) (contents : Contents) (behind : List ℕ) : Type 0 where
+  pub given : AreContents contents calls
+  pub follows : MayFollow run.after.input.ended behind
+
+-- P of whatever the files may hold and may stand behind the bytes read
+abbrev pub ForAny : Run → Calls → (P : Contents → List ℕ → Type 0) → Type 0
+ForAny run calls P = (contents : Contents) (behind : List ℕ) → MayBe run calls contents behind → P contents behind
+
+-- There is something that they may be: no promise for any of them is empty.
+pub record IsPossible (run : Run) (calls : Calls) : Type 0 where
+  pub contents : Contents
+  pub behind : List ℕ
+  pub may : MayBe run calls contents behind
+
+-- What the run wrote, and how it ended: as is due for the files and for the bytes read of the input, whatever stands behind them.
+-- Where the source failed, it is what is due for the whole lines read before. Where a file failed, the input is left alone, and where
+-- the sink failed, a front of all that was written: so nothing is written before that was read by which it is due.
+abbrev pub Writes : Run → (alone : Type 0) → Status → Contents → (behind : List ℕ) → Type 0
+Writes run alone status contents behind =
+    Finished run.before.output run.after.output
+    (answer_of run.command contents (input_of AtEnd (read_by run ++ behind))) (answer_of run.command contents (input_of AtFault (read_by run)))
+    (Rose run.before.input.faults run.after.input.faults) (Rose run.before.shelf.faults run.after.shelf.faults × alone) status
+
+-- Why the run ended so.
+pub record IsCaused (run : Run) (calls : Calls) (status : Status) : Type 0 where
+  -- the status has its cause in the command, the files and the input
+  pub cause : ForAny run calls (λ contents behind. HasCause run.command contents (input_of AtEnd (read_by run ++ behind)) status)
+  -- words that are no command are told so, whatever the memory
+  pub usage : run.command ≡ None → (status ≡ Usage) ⊎ (status ≡ OutputFault)
+
+-- When the input is left alone.
+pub record LeavesAlone (run : Run) (calls : Calls) (alone : Type 0) (status : Status) : Type 0 where
+  -- where there is no session, player or log to begin with, or that log has a finding
+  pub over : ForAny run calls (λ contents behind. IsOverAtFirst run.command contents → alone)
+  -- where memory is wanting
+  pub no_memory : OnNoMemory status alone
+
+-- When the run comes to its end.
+pub record Completes (run : Run) (calls : Calls) (status : Status) : Type 0 where
+  -- with a session, a player, a log and a script in their grammars, no finding and no fault, only memory can be wanting
+  pub done : ForAny run calls (λ contents behind. (player : ℕ) (begins : Beginning) → IsSet run.command contents player begins →
+      bad_line 0 (lines_of (read_by run ++ behind)) ≡ None →
+      IsTrue (is_clean begins.game (drive_log begins.game player begins.first (input_of AtEnd (read_by run ++ behind)))) →
+      ¬ Rose run.before.input.faults run.after.input.faults → ¬ Rose run.before.shelf.faults run.after.shelf.faults → ¬ Rose run.before.output.faults run.after.output.faults →
+      (status ≡ Done) ⊎ (status ≡ NoMemory))
+  -- at its end the input was read to its end
+  pub over : OnDone status (run.after.input.ended ≡ true)
+
+-- What is behind each answer, whatever the files hold and the input is.
+pub record TellsPlay (command : Option Command) : Type 0 where
+  -- the body tells a log, from the one on that the run begins with
+  pub tells : (contents : Contents) (input : Input) (player : ℕ) (begins : Beginning) → IsSet command contents player begins →
+      TellsRun player begins (drive_log begins.game player begins.first input) (answer_of command contents input).body
+  -- that log is one of fair play
+  pub fair : (contents : Contents) (input : Input) (player : ℕ) (begins : Beginning) → IsSet command contents player begins →
+      IsFairPlay begins.game player (drive_log begins.game player begins.first input)
+
+-- What the program promises of a run that ended with this status. `alone` says that the input was left alone.
+pub record Runs (run : Run) (alone : Type 0) (status : Status) : Type 0 where
+  -- it read these calls' answers of the files, and of its input nothing but what the input gave
+  pub calls : Calls
+  pub files : ReadsFor run.command run.before.shelf run.after.shelf calls
+  pub input : ReadsOn run.before.input run.after.input
+  pub possible : IsPossible run calls
+  -- what it wrote is due by what it read
+  pub text : ForAny run calls (Writes run alone status)
+  -- why it ended so
+  pub caused : IsCaused run calls status
+  pub faults : CountsFaults run.before run.after status
+  -- what it left alone
+  pub untouched : LeavesAlone run calls alone status
+  -- it comes to its end
+  pub complete : Completes run calls status
+  -- what it wrote tells a log of fair play
+  pub play : TellsPlay run.command
+
+-- The same before the line of a refusal is written.
+pub record Works (run : Run) (alone : Type 0) (status : Status) : Type 0 where
+  pub calls : Calls
+  pub files : ReadsFor run.command run.before.shelf run.after.shelf calls
+  pub input : ReadsOn run.before.input run.after.input
+  pub text : ForAny run calls (λ contents behind. Ran run.before.output run.after.output (answer_of run.command contents (input_by status (read_by run) behind))
+      (Rose run.before.input.faults run.after.input.faults) (Rose run.before.shelf.faults run.after.shelf.faults × alone) status)
+  pub usage : run.command ≡ None → status ≡ Usage
+  pub faults : CountsFaults run.before run.after status
+  pub untouched : LeavesAlone run calls alone status
+  pub over : OnDone status (run.after.input.ended ≡ true)

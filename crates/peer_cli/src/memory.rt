@@ -1,0 +1,24 @@
+//! The program over objects in memory.
+
+ghost use Rattle.std.specs.Prelude.{map};
+ghost use Rattle.peer_cli.specs.Memory.{WritesInMemory};
+ghost use Rattle.peer_cli.specs.Words.{command_of};
+
+use crate::program::run;
+use station::{MemoryShelf, MemorySink, MemorySource};
+use std::alloc::Global;
+use text_io::Status;
+
+/// Runs the program over objects in memory. What it wrote is due by what the files and the input held: this follows from the promises
+/// of `run` alone.
+pub fn run_in_memory(
+    alloc: Global,
+    words: &[Vec<u8>],
+    input: &mut MemorySource,
+    out: &mut MemorySink,
+    shelf: &mut MemoryShelf,
+) -> Status
+    ensures { WritesInMemory (command_of (map (λ w. w.items) words.now)) input.old input.new out.old out.new shelf.old shelf.new result }
+{
+    run(alloc, words, input, out, shelf)
+}
