@@ -13,10 +13,10 @@ use Rattle.definitions.specs.Held.{next_place}
 use Rattle.definitions.specs.Findings.{findings, is_clean}
 use Rattle.definitions.specs.Answers.{got_answer, is_far, is_of_another, is_same, new_answer, place_of}
 use Rattle.definitions.specs.Steps.{is_taken_in}
-use Rattle.log_scan.specs.First.{finding_of_log}
-use Rattle.log_scan.specs.Replies.{refusal}
-use Rattle.log_scan.proofs.Replied.{replies}
-use Rattle.peer_core.specs.Choosing.{caught_in, is_logged}
+use Rattle.definition_laws.specs.First.{finding_of_log}
+use Rattle.definition_laws.specs.Replies.{refusal}
+use Rattle.definition_laws.proofs.Replied.{replies}
+use Rattle.peer_core.specs.Answers.{caught_in, is_logged}
 use Rattle.peer_core.specs.Views.{with_got}
 
 module _ (game : Game) (me : ℕ) (h : List Entry) (q : ℕ) (f : TurnFrame) where

@@ -1,5 +1,4 @@
 pub mod OwnTracks
-pub mod Places
 pub mod Ready
 pub mod Answering
 pub mod Tables

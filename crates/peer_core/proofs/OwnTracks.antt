@@ -1,25 +1,27 @@
 -- The owner's tracks: where each is found, and that all of them stand on open cells.
-use Rattle.std.proofs.Common.{◌≡◌, ℕ, zero, suc, ◌+◌, ◌*◌, ◌≤◌, ◌<◌, List, [], ◌∷◌, ◌++◌, length, take, drop, refl, Bool, true, false, sym, ◌∙◌, ap, subst, arith, get_or}
-use Rattle.std.specs.Prelude.{◌&&◌, not, map, Some, is_none, if◌then◌else◌}
-use Rattle.std.proofs.lemmas.Bool.{and_parts}
+use Rattle.std.proofs.Common.{◌≡◌, ℕ, zero, suc, ◌+◌, ◌≤◌, ◌<◌, List, [], ◌∷◌, ◌++◌, length, take, drop, refl, true, sym, ◌∙◌, ap, subst, arith, get_or, inl, inr}
+use Rattle.std.specs.Prelude.{map}
+use Rattle.std.proofs.lemmas.Bool.{and_parts, cases_lt}
 use Rattle.std.proofs.lemmas.List.{take-append-drop, length-map}
 use Rattle.definitions.specs.declared.world.Move.{Move}
 use Rattle.definitions.specs.declared.world.Track.{Track}
-use Rattle.definitions.specs.declared.world.MoveFault.TheVariants.{Outside, Wall, TooFar}
 use Rattle.definitions.specs.declared.logs.Entry.{Entry}
-use Rattle.definitions.specs.World.{Game, players_of, is_inside, is_wall, is_open}
-use Rattle.definitions.specs.Walk.{in_reach}
-use Rattle.definitions.specs.Moves.{is_legal, strike_fault, next_track, start_track, track_from, track_after, are_legal_from}
-use Rattle.definitions.specs.Logs.{chosen, frames_of}
-use Rattle.definitions.specs.Held.{known, resolved_count}
+use Rattle.definitions.specs.World.{Game, players_of, is_open}
+use Rattle.definitions.specs.Moves.{next_track, start_track, track_from, are_legal_from}
+use Rattle.definitions.specs.Logs.{chosen}
+use Rattle.definitions.specs.Held.{known, resolved_count, held_count}
 use Rattle.definitions.specs.Meets.{cell_before}
-use Rattle.definitions.specs.Honest.{IsHonest, chosen_track}
-use Rattle.definition_laws.proofs.Tracks.{are_legal_from_append, AreKnownLegal, known_to_legal}
+use Rattle.definitions.specs.Honest.{IsHonest, chosen_track, made_count}
+use Rattle.definition_laws.proofs.Tracks.{are_legal_from_append, moves_open}
 use Rattle.definition_laws.proofs.OwnLog.{own_honest}
 use Rattle.definition_laws.proofs.ForPeers.{own_moves, own_counts}
 use Rattle.grid_world.specs.Sessions.{IsSession}
 use Rattle.grid_world.proofs.Facts.{seat_open}
+use Rattle.grid_world.proofs.Reveals.{ahead_least, reveals_are}
 use Rattle.peer_core.specs.OwnTracks.{tracks_from, AreOwnTracks}
+use Rattle.definitions.specs.Places.{reveal_place}
+use Rattle.definition_laws.proofs.Order.{reveal_known}
+use Rattle.grid_world.specs.Places.{reveals_below}
 
 pub tracks-length : (game : Game) (track : Track) (ms : List Move) → length (tracks_from game track ms) ≡ length ms + 1
 tracks-length game track [] = refl
@@ -36,26 +38,6 @@ tracks-at game track (m ∷ ms) (suc i) d h = tracks-at game (next_track game tr
 pub tracks-push : (game : Game) (track : Track) (ms : List Move) (m : Move) → tracks_from game track (ms ++ m ∷ []) ≡ tracks_from game track ms ++ next_track game (track_from game track ms) m ∷ []
 tracks-push game track [] m = refl
 tracks-push game track (k ∷ ms) m = ap (λ ts. track ∷ ts) (tracks-push game (next_track game track k) ms m)
-
--- a legal move leads to an open cell
-legal-open : (game : Game) (q : ℕ) (track : Track) (m : Move) → is_legal game q track m ≡ true → is_open game.grid m.to ≡ true
-unfolding is_legal
-legal-open game q track m h = by_tests (is_inside game.grid m.to) (is_wall game.grid m.to) h
-  where
-    by_tests : (i w : Bool) →
-        is_none (if not i then Some Outside else if w then Some Wall else if not (in_reach game q track.at m.to) then Some TooFar else strike_fault game q track m.to m.strike) ≡ true →
-        (i && not w) ≡ true
-    by_tests true true h = h
-    by_tests true false h = refl
-    by_tests false w h = h
-
--- legal moves lead from an open cell to an open cell
-pub moves-open : (game : Game) (q : ℕ) (track : Track) (ms : List Move) → is_open game.grid track.at ≡ true → are_legal_from game q track ms ≡ true →
-    is_open game.grid (track_from game track ms).at ≡ true
-moves-open game q track [] o h = o
-moves-open game q track (m ∷ ms) o h =
-    let p = and_parts (is_legal game q track m) (are_legal_from game q (next_track game track m) ms) h in
-    moves-open game q (next_track game track m) ms (legal-open game q track m p.0) p.1
 
 take-take : {X : Type 0} (xs : List X) (i j : ℕ) → i ≤ j → take i (take j xs) ≡ take i xs
 take-take xs zero j h = refl
@@ -105,18 +87,23 @@ own_cell_open game me t h a i o le =
     let ms : List Move = map (λ o. o.mv) (chosen me h) in
     let front : take t (known game me h me).moves ≡ take t ms = ap (take t) (own_moves game me h a i) ∙ take-take ms t (resolved_count game me h me) le in
     let P : List Move → Type 0 = λ xs. is_open game.grid (track_from game (start_track game me) xs).at ≡ true in
-    subst P (sym front) (moves-open game me (start_track game me) (take t ms) o (legal-front game me (start_track game me) ms t (own-moves-legal game me h a i)))
-
-pub ahead : (game : Game) → IsSession game → 1 ≤ game.ahead
-ahead game is = let one = is.ahead in omega arith
-
--- the track that is known of a player stands on an open cell
-pub known_open : (game : Game) (me q : ℕ) (h : List Entry) → IsSession game → q < players_of game → is_open game.grid (track_after game q (known game me h q).moves).at ≡ true
-unfolding known AreKnownLegal
-known_open game me q h is lt =
-    moves-open game q (start_track game q) (known game me h q).moves (seat_open game q is lt) (known_to_legal game q (frames_of me q h) (2 * game.turns))
+    subst P (sym front) (moves_open game me (start_track game me) (take t ms) o (legal-front game me (start_track game me) ms t (own-moves-legal game me h a i)))
 
 -- where the owner stands after its choices is open
 pub chosen_open : (game : Game) (me : ℕ) (h : List Entry) → IsSession game → me < players_of game → IsHonest game me h → is_open game.grid (chosen_track game me h).at ≡ true
 chosen_open game me h is lt i =
-    moves-open game me (start_track game me) (map (λ o. o.mv) (chosen me h)) (seat_open game me is lt) (own-moves-legal game me h (ahead game is) i)
+    moves_open game me (start_track game me) (map (λ o. o.mv) (chosen me h)) (seat_open game me is lt) (own-moves-legal game me h (ahead_least game is) i)
+
+-- the reveals below the owner's next place are those of its resolved turns
+pub own_revealed : (game : Game) (me : ℕ) (h : List Entry) → 1 ≤ game.ahead → IsHonest game me h → resolved_count game me h me ≡ reveals_below game (made_count h)
+own_revealed game me h d i =
+    let w = own_counts game me h d i in
+    let o = w.orderly in
+    let few = o.turns in
+    let sum = w.sum in
+    sym (reveals_are game (made_count h) (resolved_count game me h me) few
+    (λ t lt below. let at = (reveal_known game (held_count game me h me) (resolved_count game me h me) t d o lt).0 below in omega arith)
+    (λ t lt past. elim (cases_lt (reveal_place game t) (held_count game me h me + resolved_count game me h me)) [
+      | inl at ↦ let below = (reveal_known game (held_count game me h me) (resolved_count game me h me) t d o lt).1 at in absurd (omega arith)
+      | inr at ↦ omega arith
+    ]))

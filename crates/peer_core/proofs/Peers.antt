@@ -1,6 +1,6 @@
 -- Peers: what follows from an honest log for a peer's tables.
 use Rattle.std.proofs.Common.{◌≡◌, ℕ, ◌+◌, ◌-◌, ◌*◌, ◌≤◌, ◌<◌, List, [], ◌∷◌, ◌++◌, refl, true, false, sym, ◌∙◌, ap, subst, arith, length, get_or, append-nil, length-append}
-use Rattle.std.specs.Prelude.{Option, Some, None, is_none, is_some, map, slice_get, ◌/◌}
+use Rattle.std.specs.Prelude.{Option, Some, None, is_none, is_some, map, slice_get}
 use Rattle.std.proofs.lemmas.List.{length-map, map-append, take_all}
 use Rattle.std.proofs.lemmas.Bool.{false≢true}
 use Rattle.definitions.specs.declared.world.Move.{Move}
@@ -23,41 +23,41 @@ use Rattle.definitions.specs.Held.{known, resolved_count, next_place}
 use Rattle.definitions.specs.Honest.{IsHonest, made_count, chosen_track}
 use Rattle.definitions.specs.Needs.{needs, may_choose}
 use Rattle.definitions.specs.Advance.{next_made}
-use Rattle.definition_laws.proofs.ForPeers.{own_next, own_moves, own_counts, own_counts_plain, honest_empty, honest_push, clean_without_got}
+use Rattle.definition_laws.proofs.ForPeers.{own_next, own_moves, own_counts, honest_empty, honest_push, clean_without_got}
 use Rattle.definition_laws.proofs.Silent.{findings_made, findings_chose}
-use Rattle.log_scan.specs.First.{finding_of_log}
-use Rattle.log_scan.specs.Fits.{room_of}
-use Rattle.log_scan.specs.Replies.{refusal}
-use Rattle.log_scan.proofs.Received.{log_stays_honest}
-use Rattle.log_scan.proofs.Counted.{clean_none, logs_fit, room_small}
-use Rattle.log_scan.proofs.First.{clean_is_none}
+use Rattle.definition_laws.specs.First.{finding_of_log}
+use Rattle.definition_laws.specs.Fits.{room_of}
+use Rattle.definition_laws.specs.Replies.{refusal}
+use Rattle.definition_laws.proofs.Replied.{log_stays_honest}
+use Rattle.definition_laws.proofs.Room.{clean_none, logs_fit, room_small}
+use Rattle.definition_laws.proofs.FirstFinding.{clean_is_none}
 use Rattle.definition_laws.proofs.Waits.{may_choose_allowed}
 use Rattle.definition_laws.proofs.Advances.{next_made_allowed}
 use Rattle.definition_laws.proofs.Listing.{flat_map_append}
 use Rattle.grid_world.specs.Sessions.{IsSession}
-use Rattle.move_rules.specs.Verdicts.{Size, size_of}
 use Rattle.peer_core.specs.OwnTracks.{AreOwnTracks, tracks_from}
 use Rattle.peer_core.specs.Others.{Known, AreOthers}
 use Rattle.peer_core.proofs.Tables.{others_made, others_chose}
 use Rattle.peer_core.specs.declared.views.Choice.{Choice}
-use Rattle.peer_core.specs.Choosing.{is_logged}
+use Rattle.peer_core.specs.Answers.{is_logged}
 use Rattle.peer_core.specs.Views.{PeerState, choice_of, player_view, with_got}
 use Rattle.peer_core.proofs.Answering.{got_logged, got_unlogged}
 use Rattle.peer_core.specs.declared.views.PlayerView.{PlayerView}
 use Rattle.peer_core.specs.Standing.{IsStanding}
 use Rattle.peer_core.specs.Inside.{IsPeer, HasRoom}
-use Rattle.peer_core.proofs.OwnTracks.{ahead, tracks-length, tracks-at, tracks-push}
-use Rattle.peer_core.proofs.Ready.{made_few}
+use Rattle.peer_core.proofs.OwnTracks.{tracks-length, tracks-at, tracks-push, own_revealed}
+use Rattle.definition_laws.proofs.Standing.{made_count_most}
+use Rattle.grid_world.specs.Places.{reveals_below}
+use Rattle.grid_world.proofs.Reveals.{ahead_least}
 
 -- a peer's tables, by what the log says
-pub peer_of : (game : Game) (me : ℕ) (h : List Entry) (os : List Opening) (fs : List TurnFrame) (ts : List Track) (others : Known) (found : Option Finding) (ns : List Need) (size : Size) → IsSession game →
+pub peer_of : (game : Game) (me : ℕ) (h : List Entry) (os : List Opening) (fs : List TurnFrame) (ts : List Track) (others : Known) (found : Option Finding) (ns : List Need) → IsSession game →
     me < players_of game → IsHonest game me h → os ≡ chosen me h → fs ≡ made h → AreOwnTracks game me h ts → AreOthers game me h others → found ≡ finding_of_log game h →
-    ns ≡ needs game me h → size ≡ size_of game.grid → IsPeer game me h os fs ts others found ns size
-peer_of game me h os fs ts others found ns size is lt i o f t s e n z =
-    let counts = own_counts game me h (ahead game is) i in
-    let plain = own_counts_plain game me h is.ahead i in
+    ns ≡ needs game me h → IsPeer game me h os fs ts others found ns
+peer_of game me h os fs ts others found ns is lt i o f t s e n =
+    let counts = own_counts game me h (ahead_least game is) i in
     let few = counts.few in
-    let made_are = made_few game me h is i in
+    let made_are = made_count_most game me h (ahead_least game is) i in
     let turns = is.turns in
     let lo = ap length o in
     let lf = ap length f in
@@ -72,12 +72,11 @@ peer_of game me h os fs ts others found ns size is lt i o f t s e n z =
       others_are = s;
       found_is = e;
       needs_are = n;
-      size_is = z;
       few_openings = omega arith;
       few_frames = omega arith;
       few_turns = omega arith;
       tracked = omega arith;
-      revealed = plain.0 ∙ ap (λ k. k / 2) (sym lf);
+      revealed = own_revealed game me h (ahead_least game is) i ∙ ap (reveals_below game) (sym lf);
     }
 
 -- the last track is that after all that was chosen
@@ -120,14 +119,14 @@ found_empty game = ap (λ (fs : List Finding). slice_get fs 0) (sym (clean_none 
 
 -- a new peer's tables
 pub peer_new : (game copy : Game) (me : ℕ) (h g : List Entry) (os : List Opening) (fs : List TurnFrame) (t : Track) (ts : List Track) (others : Known) (ns : List Need)
-    (size : Size) → IsSession game → me < players_of game → copy ≡ game → h ≡ [] → g ≡ h → os ≡ [] → fs ≡ [] → t ≡ start_track game me → ts ≡ t ∷ [] → AreOthers game me [] others →
-    ns ≡ needs game me g → size ≡ size_of game.grid → IsPeer copy me h os fs ts others None ns size
-peer_new game copy me h g os fs t ts others ns size is lt same none seen o f e k s n z =
-    let IsGame : Game → Type 0 = λ c. IsPeer c me h os fs ts others None ns size in
-    let IsLog : List Entry → Type 0 = λ l. IsPeer game me l os fs ts others None ns size in
+    → IsSession game → me < players_of game → copy ≡ game → h ≡ [] → g ≡ h → os ≡ [] → fs ≡ [] → t ≡ start_track game me → ts ≡ t ∷ [] → AreOthers game me [] others →
+    ns ≡ needs game me g → IsPeer copy me h os fs ts others None ns
+peer_new game copy me h g os fs t ts others ns is lt same none seen o f e k s n =
+    let IsGame : Game → Type 0 = λ c. IsPeer c me h os fs ts others None ns in
+    let IsLog : List Entry → Type 0 = λ l. IsPeer game me l os fs ts others None ns in
     let needs_are : ns ≡ needs game me [] = n ∙ ap (needs game me) (seen ∙ none) in
     subst IsGame (sym same) (subst IsLog (sym none)
-    (peer_of game me [] os fs ts others None ns size is lt (honest_empty game me) (o ∙ chosen_empty me) (f ∙ frames_empty) (tracks_empty game me t ts e k) s (found_empty game) needs_are z))
+    (peer_of game me [] os fs ts others None ns is lt (honest_empty game me) (o ∙ chosen_empty me) (f ∙ frames_empty) (tracks_empty game me t ts e k) s (found_empty game) needs_are))
 
 -- a new peer's room
 pub room_new : (game copy : Game) (turns others e o f t : ℕ) → copy ≡ game → turns ≡ game.turns → others ≡ players_of game - 1 →
@@ -147,7 +146,7 @@ room_new game copy turns others e o f t same a b p q r s =
 -- there is room for an entry with which the log is honest
 pub entry_room : (game : Game) (me : ℕ) (h : List Entry) (e : Entry) (room : ℕ) → IsSession game → me < players_of game → IsHonest game me (h ++ e ∷ []) → room_of game + 1 ≤ room → length h < room
 entry_room game me h e room is my i fits =
-    let few = logs_fit game me (h ++ e ∷ []) (ahead game is) my i in
+    let few = logs_fit game me (h ++ e ∷ []) (ahead_least game is) my i in
     let more = length-append h (e ∷ []) in
     omega arith
 
@@ -172,22 +171,22 @@ next_honest game me h f i e = honest_push game me h (Made f) i (next_made_allowe
 -- there is a place left where a frame is next
 pub next_room : (game : Game) (me : ℕ) (h : List Entry) (f : TurnFrame) (fs : List TurnFrame) → IsSession game → IsHonest game me h → next_made game me h ≡ Some f → fs ≡ made h → length fs < 2 * game.turns
 next_room game me h f fs is i e m =
-    let after = made_few game me (h ++ Made f ∷ []) is (next_honest game me h f i e) in
+    let after = made_count_most game me (h ++ Made f ∷ []) (ahead_least game is) (next_honest game me h f i e) in
     let l = ap length (frames_made h f) in
     let n = length-append (made h) (f ∷ []) in
     let k = ap length m in
     omega arith
 
 -- the tables after the next frame
-pub peer_made : (game : Game) (me : ℕ) (h h' : List Entry) (os : List Opening) (fs fs' : List TurnFrame) (ts : List Track) (others : Known) (found : Option Finding) (ns ns' : List Need) (size : Size) (f : TurnFrame) → IsSession game →
-    IsPeer game me h os fs ts others found ns size → next_made game me h ≡ Some f → h' ≡ h ++ Made f ∷ [] → fs' ≡ fs ++ f ∷ [] → ns' ≡ needs game me h' →
-    IsPeer game me h' os fs' ts others found ns' size
-peer_made game me h h' os fs fs' ts others found ns ns' size f is p next e m n =
-    let IsLog : List Entry → Type 0 = λ g. IsPeer game me g os fs' ts others found ns' size in
+pub peer_made : (game : Game) (me : ℕ) (h h' : List Entry) (os : List Opening) (fs fs' : List TurnFrame) (ts : List Track) (others : Known) (found : Option Finding) (ns ns' : List Need) (f : TurnFrame) → IsSession game →
+    IsPeer game me h os fs ts others found ns → next_made game me h ≡ Some f → h' ≡ h ++ Made f ∷ [] → fs' ≡ fs ++ f ∷ [] → ns' ≡ needs game me h' →
+    IsPeer game me h' os fs' ts others found ns'
+peer_made game me h h' os fs fs' ts others found ns ns' f is p next e m n =
+    let IsLog : List Entry → Type 0 = λ g. IsPeer game me g os fs' ts others found ns' in
     let tracks : List Opening → List Track = λ xs. tracks_from game (start_track game me) (map (λ o. o.mv) xs) in
-    subst IsLog (sym e) (peer_of game me (h ++ Made f ∷ []) os fs' ts others found ns' size is p.player (next_honest game me h f p.honest next)
+    subst IsLog (sym e) (peer_of game me (h ++ Made f ∷ []) os fs' ts others found ns' is p.player (next_honest game me h f p.honest next)
     (p.openings_are ∙ sym (chosen_made me h f)) (m ∙ ap (λ (xs : List TurnFrame). xs ++ f ∷ []) p.frames_are ∙ sym (frames_made h f))
-    (p.tracks_are ∙ ap tracks (sym (chosen_made me h f))) (others_made game me h f others p.others_are) (p.found_is ∙ found_made game h f) (n ∙ ap (needs game me) e) p.size_is)
+    (p.tracks_are ∙ ap tracks (sym (chosen_made me h f))) (others_made game me h f others p.others_are) (p.found_is ∙ found_made game h f) (n ∙ ap (needs game me) e))
 
 -- what is next in the log that is seen is next in the log inside
 pub next_inside : (v w : PeerState) (f : TurnFrame) → w ≡ v → next_made v.game v.me v.entries ≡ Some f → next_made w.game w.me w.entries ≡ Some f
@@ -198,22 +197,18 @@ tracks_made game me h f ts t =
     let tracks : List Opening → List Track = λ xs. tracks_from game (start_track game me) (map (λ o. o.mv) xs) in
     t ∙ ap tracks (sym (chosen_made me h f))
 
-pub standing : (game : Game) (me : ℕ) (h : List Entry) (os : List Opening) (fs : List TurnFrame) (ts : List Track) (others : Known) (found : Option Finding) (ns : List Need) (size : Size) → IsSession game →
-    IsPeer game me h os fs ts others found ns size → IsStanding (record { game = game; me = me; entries = h })
-standing game me h os fs ts others found ns size is p =
-    let counts = own_counts game me h (ahead game is) p.honest in
-    let plain = own_counts_plain game me h is.ahead p.honest in
-    let sum = counts.sum in
-    let ready = counts.ready in
-    let r = plain.0 in
-    let made_are = made_few game me h is p.honest in
+pub standing : (game : Game) (me : ℕ) (h : List Entry) (os : List Opening) (fs : List TurnFrame) (ts : List Track) (others : Known) (found : Option Finding) (ns : List Need) → IsSession game →
+    IsPeer game me h os fs ts others found ns → IsStanding (record { game = game; me = me; entries = h })
+standing game me h os fs ts others found ns is p =
+    let counts = own_counts game me h (ahead_least game is) p.honest in
+    let made_are = made_count_most game me h (ahead_least game is) p.honest in
     record {
       session = is;
       player = p.player;
       honest = p.honest;
       made_few = made_are;
       chosen_few = counts.few;
-      chosen_next = omega arith;
+      chosen_next = counts.ready;
     }
 
 -- a peer is its session, its player and its log
@@ -240,39 +235,39 @@ tracks_got game me q h f ts t =
 
 -- the tables after a frame was got
 pub peer_got : (game : Game) (me q : ℕ) (h h' : List Entry) (f : TurnFrame) (os : List Opening) (fs : List TurnFrame) (ts : List Track) (others others' : Known)
-    (found found' : Option Finding) (ns ns' : List Need) (size size' : Size) → IsSession game → IsPeer game me h os fs ts others found ns size → refusal game me h q f ≡ None →
-    h' ≡ h ++ Got q f ∷ [] → AreOthers game me h' others' → found' ≡ finding_of_log game h' → ns' ≡ needs game me h' → size' ≡ size → IsPeer game me h' os fs ts others' found' ns' size'
-peer_got game me q h h' f os fs ts others others' found found' ns ns' size size' is p none e all first g z =
-    let IsLog : List Entry → Type 0 = λ l. IsPeer game me l os fs ts others' found' ns' size' in
+    (found found' : Option Finding) (ns ns' : List Need) → IsSession game → IsPeer game me h os fs ts others found ns → refusal game me h q f ≡ None →
+    h' ≡ h ++ Got q f ∷ [] → AreOthers game me h' others' → found' ≡ finding_of_log game h' → ns' ≡ needs game me h' → IsPeer game me h' os fs ts others' found' ns'
+peer_got game me q h h' f os fs ts others others' found found' ns ns' is p none e all first g =
+    let IsLog : List Entry → Type 0 = λ l. IsPeer game me l os fs ts others' found' ns' in
     let Are : List Entry → Type 0 = λ l. AreOthers game me l others' in
-    subst IsLog (sym e) (peer_of game me (h ++ Got q f ∷ []) os fs ts others' found' ns' size' is p.player (log_stays_honest game me q h f p.honest none)
+    subst IsLog (sym e) (peer_of game me (h ++ Got q f ∷ []) os fs ts others' found' ns' is p.player (log_stays_honest game me q h f p.honest none)
     (p.openings_are ∙ sym (chosen_got me q h f)) (p.frames_are ∙ sym (made_got q h f)) (tracks_got game me q h f ts p.tracks_are) (subst Are e all)
-    (first ∙ ap (finding_of_log game) e) (g ∙ ap (needs game me) e) (z ∙ p.size_is))
+    (first ∙ ap (finding_of_log game) e) (g ∙ ap (needs game me) e))
 
 -- the tables after a frame was offered and refused
-pub peer_kept : (game : Game) (me : ℕ) (h : List Entry) (os : List Opening) (fs : List TurnFrame) (ts : List Track) (others others' : Known) (found : Option Finding) (ns : List Need) (size size' : Size) → IsSession game →
-    IsPeer game me h os fs ts others found ns size → AreOthers game me h others' → size' ≡ size → IsPeer game me h os fs ts others' found ns size'
-peer_kept game me h os fs ts others others' found ns size size' is p all z =
-    peer_of game me h os fs ts others' found ns size' is p.player p.honest p.openings_are p.frames_are p.tracks_are all p.found_is p.needs_are (z ∙ p.size_is)
+pub peer_kept : (game : Game) (me : ℕ) (h : List Entry) (os : List Opening) (fs : List TurnFrame) (ts : List Track) (others others' : Known) (found : Option Finding) (ns : List Need) → IsSession game →
+    IsPeer game me h os fs ts others found ns → AreOthers game me h others' → IsPeer game me h os fs ts others' found ns
+peer_kept game me h os fs ts others others' found ns is p all =
+    peer_of game me h os fs ts others' found ns is p.player p.honest p.openings_are p.frames_are p.tracks_are all p.found_is p.needs_are
 
 -- what the tables show of the owner itself
-pub player_me : (game : Game) (me : ℕ) (h : List Entry) (os : List Opening) (fs : List TurnFrame) (ts : List Track) (others : Known) (found : Option Finding) (ns : List Need) (size : Size) (n : ℕ) (t : Track) →
-    IsSession game → IsPeer game me h os fs ts others found ns size → n ≡ length fs → t ≡ get_or ts (n / 2) t → record { turns = n / 2; track = t; next = n } ≡ player_view game me h me
-player_me game me h os fs ts others found ns size n t is p e f =
-    let r : n / 2 ≡ resolved_count game me h me = ap (λ k. k / 2) e ∙ sym p.revealed in
-    let next : n ≡ next_place game me h me = e ∙ ap (λ (xs : List TurnFrame). length xs) p.frames_are ∙ sym (own_next game me h (ahead game is) p.honest) in
-    let counts = own_counts game me h (ahead game is) p.honest in
+pub player_me : (game : Game) (me : ℕ) (h : List Entry) (os : List Opening) (fs : List TurnFrame) (ts : List Track) (others : Known) (found : Option Finding) (ns : List Need) (n r : ℕ) (t : Track) →
+    IsSession game → IsPeer game me h os fs ts others found ns → n ≡ length fs → r ≡ reveals_below game n → t ≡ get_or ts r t → record { turns = r; track = t; next = n } ≡ player_view game me h me
+player_me game me h os fs ts others found ns n r t is p e g f =
+    let turns : r ≡ resolved_count game me h me = g ∙ ap (reveals_below game) e ∙ sym p.revealed in
+    let next : n ≡ next_place game me h me = e ∙ ap (λ (xs : List TurnFrame). length xs) p.frames_are ∙ sym (own_next game me h (ahead_least game is) p.honest) in
+    let counts = own_counts game me h (ahead_least game is) p.honest in
     let before = counts.before in
     let enough = counts.enough in
     let ms : List Move = map (λ o. o.mv) (chosen me h) in
     let lm = length-map (chosen me h) (λ o. o.mv) in
     let here : t ≡ track_after game me (known game me h me).moves
-    = f ∙ ap (λ k. get_or ts k t) r ∙ ap (λ (xs : List Track). get_or xs (resolved_count game me h me) t) p.tracks_are ∙
-    tracks-at game (start_track game me) ms (resolved_count game me h me) t (omega arith) ∙ ap (λ (xs : List Move). track_after game me xs) (sym (own_moves game me h (ahead game is) p.honest)) in
+    = f ∙ ap (λ k. get_or ts k t) turns ∙ ap (λ (xs : List Track). get_or xs (resolved_count game me h me) t) p.tracks_are ∙
+    tracks-at game (start_track game me) ms (resolved_count game me h me) t (omega arith) ∙ ap (λ (xs : List Move). track_after game me xs) (sym (own_moves game me h (ahead_least game is) p.honest)) in
     let with_turns : ℕ → PlayerView = λ k. record { turns = k; track = t; next = n } in
     let with_track : Track → PlayerView = λ k. record { turns = resolved_count game me h me; track = k; next = n } in
     let with_next : ℕ → PlayerView = λ k. record { turns = resolved_count game me h me; track = track_after game me (known game me h me).moves; next = k } in
-    ap with_turns r ∙ ap with_track here ∙ ap with_next next
+    ap with_turns turns ∙ ap with_track here ∙ ap with_next next
 
 -- one choice more
 pub chosen_chose : (me : ℕ) (h : List Entry) (t : ℕ) (m : Move) (n : Nonce) → chosen me (h ++ Chose t m n ∷ []) ≡ chosen me h ++ record { player = me; turn = t; mv = m; nonce = n } ∷ []
@@ -295,12 +290,12 @@ pub choice_honest : (game : Game) (me : ℕ) (h : List Entry) (k : ℕ) (m : Mov
 choice_honest game me h k m n is i may legal e =
     let Is : ℕ → Type 0 = λ t. IsHonest game me (h ++ Chose t m n ∷ []) in
     subst Is (sym e) (honest_push game me h (Chose (length (chosen me h)) m n) i
-    (may_choose_allowed game me h m n (ahead game is) i (is_legal_from game me (chosen_track game me h) m legal) ∙ may))
+    (may_choose_allowed game me h m n (ahead_least game is) i (is_legal_from game me (chosen_track game me h) m legal) ∙ may))
 
 -- there is a turn left where one may be chosen
 pub choice_room : (game : Game) (me : ℕ) (h : List Entry) (k : ℕ) (m : Move) (n : Nonce) → IsSession game → IsHonest game me (h ++ Chose k m n ∷ []) → length (chosen me h) < game.turns
 choice_room game me h k m n is i =
-    let counts = own_counts game me (h ++ Chose k m n ∷ []) (ahead game is) i in
+    let counts = own_counts game me (h ++ Chose k m n ∷ []) (ahead_least game is) i in
     let few = counts.few in
     let l = ap (λ (os : List Opening). length os) (chosen_chose me h k m n) in
     let one : Opening = record { player = me; turn = k; mv = m; nonce = n } in
@@ -317,15 +312,15 @@ tracks_chose game me h k m n ts ts' t are next e =
     sym (tracks-push game start (moves (chosen me h)) m) ∙ ap (λ (ms : List Move). tracks_from game start ms) (sym (ap moves (chosen_chose me h k m n) ∙ map-append (λ (o : Opening). o.mv) (chosen me h) (one ∷ [])))
 
 -- the tables after a choice
-pub peer_chose : (game : Game) (me : ℕ) (h h' : List Entry) (os os' : List Opening) (fs : List TurnFrame) (ts ts' : List Track) (others : Known) (found : Option Finding) (ns ns' : List Need) (size : Size) (k : ℕ) (m : Move) (n : Nonce) (t : Track) →
-    IsSession game → IsPeer game me h os fs ts others found ns size → IsHonest game me (h ++ Chose k m n ∷ []) → t ≡ next_track game (chosen_track game me h) m → h' ≡ h ++ Chose k m n ∷ [] →
-    os' ≡ os ++ record { player = me; turn = k; mv = m; nonce = n } ∷ [] → ts' ≡ ts ++ t ∷ [] → ns' ≡ needs game me h' → IsPeer game me h' os' fs ts' others found ns' size
-peer_chose game me h h' os os' fs ts ts' others found ns ns' size k m n t is p i next e o f g =
-    let IsLog : List Entry → Type 0 = λ l. IsPeer game me l os' fs ts' others found ns' size in
+pub peer_chose : (game : Game) (me : ℕ) (h h' : List Entry) (os os' : List Opening) (fs : List TurnFrame) (ts ts' : List Track) (others : Known) (found : Option Finding) (ns ns' : List Need) (k : ℕ) (m : Move) (n : Nonce) (t : Track) →
+    IsSession game → IsPeer game me h os fs ts others found ns → IsHonest game me (h ++ Chose k m n ∷ []) → t ≡ next_track game (chosen_track game me h) m → h' ≡ h ++ Chose k m n ∷ [] →
+    os' ≡ os ++ record { player = me; turn = k; mv = m; nonce = n } ∷ [] → ts' ≡ ts ++ t ∷ [] → ns' ≡ needs game me h' → IsPeer game me h' os' fs ts' others found ns'
+peer_chose game me h h' os os' fs ts ts' others found ns ns' k m n t is p i next e o f g =
+    let IsLog : List Entry → Type 0 = λ l. IsPeer game me l os' fs ts' others found ns' in
     let one : Opening = record { player = me; turn = k; mv = m; nonce = n } in
-    subst IsLog (sym e) (peer_of game me (h ++ Chose k m n ∷ []) os' fs ts' others found ns' size is p.player i
+    subst IsLog (sym e) (peer_of game me (h ++ Chose k m n ∷ []) os' fs ts' others found ns' is p.player i
     (o ∙ ap (λ (xs : List Opening). xs ++ one ∷ []) p.openings_are ∙ sym (chosen_chose me h k m n)) (p.frames_are ∙ sym (frames_chose h k m n))
-    (tracks_chose game me h k m n ts ts' t p.tracks_are next f) (others_chose game me k h m n others p.others_are) (p.found_is ∙ found_chose game h k m n) (g ∙ ap (needs game me) e) p.size_is)
+    (tracks_chose game me h k m n ts ts' t p.tracks_are next f) (others_chose game me k h m n others p.others_are) (p.found_is ∙ found_chose game h k m n) (g ∙ ap (needs game me) e))
 
 -- what a choice requires of the log that is seen, of the log inside
 pub may_inside : (v w : PeerState) → w ≡ v → may_choose v.game v.me v.entries ≡ true → may_choose w.game w.me w.entries ≡ true
@@ -340,8 +335,10 @@ track_inside v w m t e h = let Is : PeerState → Type 0 = λ p. t ≡ next_trac
 -- an honest log is short
 pub log_few : (game : Game) (me : ℕ) (h g : List Entry) → IsSession game → me < players_of game → IsHonest game me h → g ≡ h → length g < 4294967296
 log_few game me h g is my i same =
-    let few = logs_fit game me h (ahead game is) my i in
-    let small = room_small game is in
+    let few = logs_fit game me h (ahead_least game is) my i in
+    let turns = is.turns in
+    let players = is.players in
+    let small = room_small game turns.1 players.1 in
     let l = ap (λ (xs : List Entry). length xs) same in
     omega arith
 

@@ -22,11 +22,11 @@ use Rattle.definitions.specs.Advance.{next_made}
 use Rattle.definitions.specs.Steps.{is_taken_in}
 use Rattle.definition_laws.proofs.Advances.{next_made_allowed}
 use Rattle.definition_laws.proofs.Alike.{frame_eq_same, frame_eq_true}
-use Rattle.definition_laws.proofs.ForPeers.{honest_last, next_made_only, none_allowed}
+use Rattle.definition_laws.proofs.ForPeers.{honest_last, next_made_only}
 use Rattle.definition_laws.proofs.Waits.{may_choose_allowed}
-use Rattle.log_scan.proofs.Counted.{logs_fit, room_small}
+use Rattle.definition_laws.proofs.Room.{logs_fit, room_small}
 use Rattle.grid_world.specs.Sessions.{IsSession}
-use Rattle.peer_core.proofs.OwnTracks.{ahead}
+use Rattle.grid_world.proofs.Reveals.{ahead_least}
 use Rattle.peer_core.specs.Views.{PeerState}
 use Rattle.peer_core.specs.Resuming.{first_not_replayed, with_allowed, HasReplayed, IsFirstBreach}
 
@@ -68,10 +68,6 @@ this_turn game me h m n d i =
     go false (Some x) al p q = q refl
 
 -- ---- made frames
-
--- where no frame is next, none may come
-pub no_frame : (game : Game) (me : ℕ) (h : List Entry) (f : TurnFrame) → 1 ≤ game.ahead → IsHonest game me h → next_made game me h ≡ None → allowed game me h (Made f) ≡ false
-no_frame game me h f d i e = none_allowed game me h f d i e
 
 -- another frame than the next may not come
 pub other_frame : (game : Game) (me : ℕ) (h : List Entry) (f g : TurnFrame) → 1 ≤ game.ahead → IsHonest game me h → next_made game me h ≡ Some g → frame_eq g f ≡ false → allowed game me h (Made f) ≡ false
@@ -157,8 +153,10 @@ breach_first game me i es d lt honest t = record {
 -- the number of honest entries is small
 pub few_replayed : (game : Game) (me i : ℕ) (es : List Entry) → IsSession game → me < players_of game → i ≤ length es → IsHonest game me (take i es) → i < 2 ^ 32
 few_replayed game me i es is my le honest =
-    let few = logs_fit game me (take i es) (ahead game is) my honest in
-    let small = room_small game is in
+    let few = logs_fit game me (take i es) (ahead_least game is) my honest in
+    let turns = is.turns in
+    let players = is.players in
+    let small = room_small game turns.1 players.1 in
     let count = length-take-le i es le in
     omega arith
 

@@ -1,8 +1,8 @@
 -- Tables: what a peer keeps of the other players, as the log grows.
 use Rattle.std.proofs.Common.{◌≡◌, ℕ, zero, suc, ◌+◌, ◌<◌, List, [], ◌∷◌, ◌++◌, refl, Bool, true, false, sym, ◌∙◌, ap, subst, arith, length, get_or, set, length-set, get_or-set_same, get_or-set_other, replicate}
-use Rattle.std.specs.Prelude.{◌==◌, ◌&&◌, not, nat_lt, if◌then◌else◌, slice_get, is_some}
+use Rattle.std.specs.Prelude.{◌==◌, if◌then◌else◌}
 use Rattle.std.proofs.lemmas.List.{get_or-replicate, length-replicate}
-use Rattle.std.proofs.lemmas.Bool.{and_parts, ltb-true, eqb-true, eqb-false, ne_eqb, false≢true}
+use Rattle.std.proofs.lemmas.Bool.{eqb-true, eqb-false, ne_eqb, false≢true}
 use Rattle.definitions.specs.declared.world.Cell.{Cell}
 use Rattle.definitions.specs.declared.world.Move.{Move}
 use Rattle.definitions.specs.declared.openings.Nonce.{Nonce}
@@ -17,7 +17,7 @@ use Rattle.definitions.specs.Findings.{findings, is_clean}
 use Rattle.definitions.specs.Answers.{got_answer, is_of_another}
 use Rattle.definitions.specs.Steps.{is_taken_in}
 use Rattle.definitions.specs.declared.world.Track.{Track}
-use Rattle.definitions.specs.Logs.{got_of, player_of}
+use Rattle.definitions.specs.Logs.{got_of}
 use Rattle.definitions.specs.Held.{Known as Shown, known, places_in}
 use Rattle.definition_laws.proofs.ForPeers.{known_without_got}
 use Rattle.definition_laws.proofs.Windows.{known_made, known_chose, known_got_other}
@@ -35,11 +35,13 @@ use Rattle.wait_rule.specs.Waiting.{no_view}
 use Rattle.wait_rule.specs.Shown.{Standing, AreViews, AreLastCells, IsView}
 use Rattle.wait_rule.proofs.ForPeers.{last_cells_start, last_cells_set, last_cells_same}
 use Rattle.peer_core.specs.declared.views.PlayerView.{PlayerView}
-use Rattle.peer_core.specs.Choosing.{is_logged}
+use Rattle.peer_core.specs.Answers.{is_logged}
 use Rattle.peer_core.specs.Views.{player_view, with_got}
 use Rattle.peer_core.specs.Others.{Known, AreOthers, AreOpened, IsOpened, IsWindowOf, view_of}
 use Rattle.peer_core.proofs.Answering.{logged_is, caught_dirty}
-use Rattle.peer_core.proofs.OwnTracks.{known_open}
+use Rattle.definition_laws.proofs.Tracks.{known_open}
+use Rattle.definition_laws.proofs.Room.{other_player}
+use Rattle.grid_world.proofs.Facts.{seat_open}
 
 -- an item is the one that the list has at its place
 item_get : {X : Type 0} (xs : List X) (n : ℕ) (d : X) → item_or xs n d ≡ get_or xs n d
@@ -70,7 +72,7 @@ opened_view : (game : Game) (me q : ℕ) (w : Seen) → (q ≡ me → ⊥) → I
 unfolding got_of
 opened_view game me q w other o =
     let none : w.known ≡ record { digests = []; moves = [] } = window_known game me q [] w (opened_of game me q w other o) ∙ known_without_got game me q [] other refl in
-    let of_known : Shown → View = λ k. record { resolved = length k.moves; next = length k.digests + length k.moves; held = is_some (slice_get k.digests (length k.moves)) } in
+    let of_known : Shown → View = λ k. record { resolved = length k.moves; next = length k.digests + length k.moves; commits = length k.digests } in
     ap of_known (sym none)
 
 -- nothing came yet
@@ -243,7 +245,7 @@ others_offered game me p h f o d w a v cell rule lt other clean another seen all
 -- where the player of a window that is offered a frame stands is open
 pub cell_open : (game : Game) (me q : ℕ) (h : List Entry) (w : Seen) → IsSession game → q < players_of game → IsWindowOf game me h q w → is_open game.grid w.track.at ≡ true
 cell_open game me q h w is lt o =
-    subst (λ t. is_open game.grid t.at ≡ true) (sym (window_track game me q h w o)) (known_open game me q h is lt)
+    subst (λ t. is_open game.grid t.at ≡ true) (sym (window_track game me q h w o)) (known_open game me q h (seat_open game q is lt))
 
 -- the views are those of the log
 pub others_views : (game : Game) (me : ℕ) (h : List Entry) (o : Known) → AreOthers game me h o → AreViews game me h o.views
@@ -253,14 +255,14 @@ others_views game me h o a q lt other = view q lt other
     blank = record { player = 0; places = 0; frames = []; known = record { digests = []; moves = [] }; track = record { at = record { x = 0; y = 0 }; charge = 0 }; closed = false }
 
     of_known : Shown → View
-    of_known k = record { resolved = length k.moves; next = length k.digests + length k.moves; held = is_some (slice_get k.digests (length k.moves)) }
+    of_known k = record { resolved = length k.moves; next = length k.digests + length k.moves; commits = length k.digests }
 
     view : (q : ℕ) → q < players_of game → (q ≡ me → ⊥) → IsView game me h q (item_or o.views q no_view)
     view q lt other =
         let w = get_or o.windows q blank in
         let at : item_or o.views q no_view ≡ of_known (known game me h q) =
         item_get o.views q no_view ∙ a.views_are q blank no_view lt other ∙ ap of_known (window_known game me q h w (a.each q blank lt other)) in
-        subst (λ (v : View). IsView game me h q v) (sym at) (record { resolved_is = refl; next_is = refl; held_is = refl })
+        subst (λ (v : View). IsView game me h q v) (sym at) (record { resolved_is = refl; next_is = refl; commits_is = refl })
 
 -- what a window tells of its player
 pub window_view : (game : Game) (me q : ℕ) (h : List Entry) (w : Seen) → IsWindowOf game me h q w →
@@ -323,24 +325,13 @@ window_at game me p i h o d e lt other all = let Is : ℕ → Type 0 = λ k. IsW
 pub window_set : (i : ℕ) (ws : List Seen) (w d : Seen) → i < length ws → get_or (set ws i w) i d ≡ w
 window_set i ws w d lt = get_or-set_same ws i w d lt
 
--- a frame of another player is one of a player of the session
-pub another_from : (game : Game) (me q : ℕ) (f : TurnFrame) → is_of_another game me q f ≡ true → (q < players_of game) × (q ≡ me → ⊥)
-another_from game me q f from =
-    let player = (and_parts (nat_lt q (players_of game) && not (q == me)) (player_of f == q) from).0 in
-    let both = and_parts (nat_lt q (players_of game)) (not (q == me)) player in
-    (ltb-true q (players_of game) both.0, apart (q == me) refl both.1)
-  where
-    apart : (b : Bool) → (q == me) ≡ b → not b ≡ true → q ≡ me → ⊥
-    apart true e n same = absurd (false≢true n)
-    apart false e n same = eqb-false q me e same
-
 -- an offer to the window that was found at a place of the table
 pub offered_there : (game : Game) (me p i : ℕ) (h : List Entry) (f : TurnFrame) (o : Known) (old w : Seen) (a : Offer) (v : View) (cell : Cell) (rule : Standing) → i ≡ p → is_clean game h ≡ true → is_of_another game me p f ≡ true →
     length o.rule.cells ≡ players_of game → AreOthers game me h o → old ≡ get_or o.windows i old → a ≡ answer game old (record { entry = length h; frame = f }) → w.frames ≡ frames_after old (record { entry = length h; frame = f }) a →
     IsWindow game w → w.player ≡ old.player → w.closed ≡ is_conflict a → v ≡ view_of w → cell ≡ w.track.at → rule ≡ record o.rule { cells = set o.rule.cells p cell } →
     (answer_of_offer p a ≡ got_answer game me h p f) × AreOthers game me (with_got game me h p f) (record { windows = set o.windows i w; views = set o.views i v; rule = rule })
 offered_there game me p i h f o old w a v cell rule e clean another seen all there is frames window player closed view at told =
-    let from = another_from game me p f another in
+    let from = other_player game me p f another in
     let r : Received = record { entry = length h; frame = f } in
     others_offered_at game me p i h f o old w a v cell rule e from.0 from.1 clean another seen all (is ∙ ap (λ (x : Seen). answer game x r) there) (frames ∙ ap (λ (x : Seen). frames_after x r a) there) window
     (player ∙ ap (λ (x : Seen). x.player) there) closed view at told
@@ -350,7 +341,7 @@ pub offered_open : (game : Game) (me p i : ℕ) (h : List Entry) (f : TurnFrame)
     length o.rule.cells ≡ players_of game → AreOthers game me h o → old ≡ get_or o.windows i old → a ≡ answer game old (record { entry = length h; frame = f }) → w.frames ≡ frames_after old (record { entry = length h; frame = f }) a →
     IsWindow game w → w.player ≡ old.player → w.closed ≡ is_conflict a → x ≡ get_or (set o.windows i w) i x → t ≡ x.track → is_open game.grid t.at ≡ true
 offered_open game me p i h f o old w x a t is e clean another seen all there answered frames window player closed read track =
-    let from = another_from game me p f another in
+    let from = other_player game me p f another in
     let got = offered_there game me p i h f o old w a (view_of w) w.track.at (record o.rule { cells = set o.rule.cells p w.track.at }) e clean another seen all there answered frames window player closed refl refl refl in
     let shows = window_at game me p i (with_got game me h p f) (record { windows = set o.windows i w; views = set o.views i (view_of w); rule = record o.rule { cells = set o.rule.cells p w.track.at } }) x e from.0 from.1 got.1 in
     subst (λ (k : Track). is_open game.grid k.at ≡ true) (sym (track ∙ ap (λ (k : Seen). k.track) read)) (cell_open game me p (with_got game me h p f) (get_or (set o.windows i w) i x) is from.0 shows)
@@ -358,7 +349,7 @@ offered_open game me p i h f o old w x a t is e clean another seen all there ans
 -- what is read at the place of the window after the offer is that window
 pub offered_read : (game : Game) (me p i : ℕ) (h : List Entry) (f : TurnFrame) (o : Known) (w x : Seen) → i ≡ p → is_of_another game me p f ≡ true → AreOthers game me h o → x ≡ get_or (set o.windows i w) i x → x ≡ w
 offered_read game me p i h f o w x e another all read =
-    let from = another_from game me p f another in
+    let from = other_player game me p f another in
     let lt = from.0 in
     let count = all.count in
     read ∙ window_set i o.windows w x (omega arith)

@@ -1,5 +1,5 @@
 -- Others: what a peer's tables say of the other players.
-use Rattle.std.specs.Prelude.{◌≡◌, ◌≢◌, ℕ, ◌<◌, false, List, [], length, get_or, slice_get, is_some, IsTrue}
+use Rattle.std.specs.Prelude.{◌≡◌, ◌≢◌, ℕ, ◌<◌, false, List, [], length, get_or, IsTrue}
 use Rattle.definitions.specs.declared.logs.Entry.{Entry}
 use Rattle.definitions.specs.World.{Game, players_of}
 use Rattle.definitions.specs.Held.{places_in}
@@ -17,7 +17,7 @@ pub record Known : Type 0 where
 
 -- what the rule of waiting is told of a player's window
 abbrev pub view_of : Seen → View
-view_of w = record { resolved = length w.known.moves; next = places_in w.known; held = is_some (slice_get w.known.digests (length w.known.moves)) }
+view_of w = record { resolved = length w.known.moves; next = places_in w.known; commits = length w.known.digests }
 
 -- the window is the player's, and was offered what the log got from it; where the log has no finding it takes more
 pub record IsWindowOf (game : Game) (me : ℕ) (h : List Entry) (q : ℕ) (w : Seen) : Type 0 where

@@ -6,6 +6,7 @@
 //! made, and touches nothing outside.
 #![tactic(auto)]
 
+mod answers;
 mod choosing;
 mod frames;
 mod others;
@@ -16,9 +17,8 @@ mod sending;
 mod stages;
 mod views;
 
-pub use choosing::is_logged;
-pub use definitions::{Entry, Finding, GotAnswer, Need, OwnFault, Progress, What};
-pub use log_scan::place_of;
+pub use answers::is_logged;
+pub use definitions::{Entry, Finding, GotAnswer, Need, OwnFault, Place, Progress, What};
 pub use peer::Peer;
 pub use resuming::ResumeFault;
 pub use views::{Choice, PlayerView};

@@ -6,7 +6,6 @@ ghost use Rattle.definitions.specs.Findings.{is_clean};
 ghost use Rattle.definitions.specs.Answers.{got_answer, is_of_another};
 ghost use Rattle.definitions.specs.Honest.{IsHonest, made_count};
 ghost use Rattle.definitions.specs.Needs as N;
-ghost use Rattle.move_rules.specs.Verdicts.{size_of};
 ghost use Rattle.peer_window.specs.Logged.{answer_of_offer, finding_of_clash};
 ghost use Rattle.wait_rule.specs.Waiting.{no_view};
 ghost use Rattle.peer_core.specs.OwnTracks.{AreOwnTracks};
@@ -15,7 +14,7 @@ ghost use Rattle.peer_core.specs.Views as V;
 
 use crate::stages::next_stage;
 use crate::views::PlayerView;
-use definitions::{Entry, Finding, GotAnswer, PlayerId, Spot, Track, TurnFrame};
+use definitions::{Entry, Finding, GotAnswer, Place, PlayerId, Spot, Track, TurnFrame};
 use grid_world::Session;
 use move_rules::Walker;
 use peer_window::{Clash, Offer, Window};
@@ -30,7 +29,7 @@ fn view_of(window: &Window) -> View
     View {
         resolved: window.resolved(),
         next: window.next(),
-        held: window.held(window.resolved()).is_some(),
+        commits: window.commits(),
     }
 }
 
@@ -84,7 +83,7 @@ fn blank_views(alloc: Global, session: &Session) -> Result<Vec<View>, AllocError
     let blank = View {
         resolved: 0,
         next: 0,
-        held: false,
+        commits: 0,
     };
     vec![in alloc; blank; usize::from(session.players())]
 }
@@ -130,14 +129,12 @@ impl Others {
         from: PlayerId,
         frame: &TurnFrame,
     ) -> GotAnswer
-        requires size { walker.old ≡ size_of session.now.grid }
         requires others { AreOthers session.now _me entries.now self.old }
         requires clean { IsTrue (is_clean session.now entries.now) }
         requires from { IsTrue (is_of_another session.now _me from frame.now) }
         requires few { length entries.now < 2 ^ 32 }
         ensures answer { result ≡ got_answer session.now _me entries.now from frame.now }
         ensures others { AreOthers session.now _me (V.with_got session.now _me entries.now from frame.now) self.new }
-        ensures walker { walker.new ≡ walker.old }
     {
         session.facts();
         self.rule.facts();
@@ -156,7 +153,7 @@ impl Others {
         session: &Session,
         me: PlayerId,
         entries: &[Entry],
-        made: u32,
+        made: Place,
         tracks: &[Track],
         out: &mut NeedList,
     )

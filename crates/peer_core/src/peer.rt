@@ -14,19 +14,19 @@ ghost use Rattle.definitions.specs.Advance as A;
 ghost use Rattle.std.specs.Option.{is_some};
 ghost use Rattle.definitions.specs.Findings.{is_clean};
 ghost use Rattle.definitions.specs.Answers.{got_answer, is_of_another};
-ghost use Rattle.log_scan.specs.First.{finding_of_log};
+ghost use Rattle.definition_laws.specs.First.{finding_of_log};
 ghost use Rattle.peer_core.specs.Views as V;
 
-use crate::choosing::{caught_in, chooses, is_logged, next_of, progress_of};
+use crate::answers::{caught_in, is_logged, progress_of};
+use crate::choosing::{chooses, next_of};
 use crate::others::Others;
 use crate::room::add;
 use crate::views::{Choice, PlayerView};
 use definitions::{
-    Entry, Finding, GotAnswer, Move, MoveFault, Nonce, Opening, OwnFault, PlayerId, Progress,
-    Track, TurnFrame,
+    Entry, Finding, GotAnswer, Move, MoveFault, Nonce, Opening, OwnFault, Place, PlayerId,
+    Progress, Track, TurnFrame,
 };
 use grid_world::Session;
-use log_scan::is_of_another;
 use move_rules::{Walker, start_track};
 use std::alloc::{AllocError, Global};
 use std::marker::Model;
@@ -58,7 +58,7 @@ impl Model for Peer {
 
     ghost view = { λ p. record { game = p.session; me = p.me; entries = p.entries.items } };
 
-    ghost invariant = { λ p. IsPeer p.session p.me p.entries.items p.openings.items p.frames.items p.tracks.items p.others p.found p.needs p.walker
+    ghost invariant = { λ p. IsPeer p.session p.me p.entries.items p.openings.items p.frames.items p.tracks.items p.others p.found p.needs
         × HasRoom p.session (vec_capacity p.entries) (vec_capacity p.openings) (vec_capacity p.frames) (vec_capacity p.tracks) };
 }
 
@@ -146,14 +146,14 @@ impl Peer {
     }
 
     /// How many frames the peer made: the next one has this place in its stream.
-    pub fn made_count(&self) -> u32
+    pub fn made_count(&self) -> Place
         ensures { result ≡ made_count self.now.entries }
     {
         self.frames.len() as u32
     }
 
     /// The own frame at this place, counted from 0. None comes exactly from `made_count` on.
-    pub fn made(&self, place: u32) -> Option<TurnFrame>
+    pub fn made(&self, place: Place) -> Option<TurnFrame>
         ensures { result ≡ slice_get (L.made self.now.entries) place }
     {
         self.frames.as_slice().get(place as usize).copied()
@@ -163,7 +163,7 @@ impl Peer {
     pub fn turn(&self) -> u32
         ensures { result ≡ H.resolved_count self.now.game self.now.me self.now.entries self.now.me }
     {
-        (self.frames.len() / 2) as u32
+        self.session.reveals_below(self.frames.len() as u32)
     }
 
     /// The number of turns chosen, which is that of the turn to be chosen next, and the track after them.
@@ -185,11 +185,11 @@ impl Peer {
         let clean = self.found.is_none();
         let no_needs = self.needs.as_slice().is_empty();
         chooses(
+            &self.session,
             clean,
             no_needs,
-            self.frames.len(),
+            self.frames.len() as u32,
             self.openings.len(),
-            self.session.turns() as usize,
         )
     }
 
@@ -206,7 +206,7 @@ impl Peer {
             clean,
             no_needs,
             self.openings.as_slice(),
-            self.frames.len(),
+            self.frames.len() as u32,
         )
     }
 
@@ -354,7 +354,7 @@ impl Peer {
         if self.found.is_some() {
             return GotAnswer::Closed;
         }
-        if !is_of_another(&self.session, self.me, from, frame) {
+        if !self.session.is_of_another(self.me, from, frame) {
             return GotAnswer::Foreign;
         }
         self.hear(from, frame)
@@ -368,11 +368,12 @@ impl Peer {
     {
         self.session.facts();
         if player == self.me {
-            let turns = self.frames.len() / 2;
+            let made = self.frames.len() as u32;
+            let turns = self.session.reveals_below(made);
             return PlayerView {
-                turns: turns as u32,
-                track: self.tracks[turns],
-                next: self.frames.len() as u32,
+                turns,
+                track: self.tracks[turns as usize],
+                next: made,
             };
         }
         self.others

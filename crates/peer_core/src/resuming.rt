@@ -5,7 +5,7 @@ ghost use Rattle.definitions.specs.World.{players_of};
 ghost use Rattle.definitions.specs.Honest.{IsHonest, allowed};
 ghost use Rattle.peer_core.specs.Resuming as R;
 
-use crate::choosing::is_logged;
+use crate::answers::is_logged;
 use crate::frames::is_frame;
 use crate::peer::Peer;
 use definitions::{Entry, Move, Nonce, PlayerId, Turn, TurnFrame};

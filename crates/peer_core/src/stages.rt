@@ -7,7 +7,7 @@ ghost use Rattle.wait_rule.specs.Waiting.{IsStage};
 ghost use Rattle.wait_rule.specs.Shown.{IsStageOf};
 ghost use Rattle.peer_core.specs.OwnTracks.{AreOwnTracks};
 
-use definitions::{Entry, PlayerId, Track};
+use definitions::{Entry, Place, PlayerId, Track, What};
 use grid_world::Session;
 use wait_rule::Stage;
 
@@ -16,7 +16,7 @@ pub(crate) fn next_stage(
     session: &Session,
     _me: PlayerId,
     _entries: &[Entry],
-    made: u32,
+    made: Place,
     tracks: &[Track],
 ) -> Stage
     requires owner { _me < players_of session.now }
@@ -27,18 +27,17 @@ pub(crate) fn next_stage(
     ensures here { IsStageOf session.now _me _entries.now result }
 {
     session.facts();
-    let turn = made / 2;
-    if turn >= session.turns() {
-        Stage::After
-    } else if made % 2 == 1 {
-        Stage::Reveal {
-            turn,
-            at: tracks[turn as usize].at,
-        }
-    } else {
-        Stage::Commit {
-            turn,
-            last: tracks[(turn as usize).saturating_sub(1)].at,
-        }
+    match session.slot_at(made) {
+        None => Stage::After,
+        Some(slot) => match slot.what {
+            What::Commit => Stage::Commit {
+                turn: slot.turn,
+                last: tracks[slot.turn.saturating_sub(session.ahead()) as usize].at,
+            },
+            What::Reveal => Stage::Reveal {
+                turn: slot.turn,
+                at: tracks[slot.turn as usize].at,
+            },
+        },
     }
 }

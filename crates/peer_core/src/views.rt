@@ -1,6 +1,6 @@
 //! What a peer tells of a player and of its next choice.
 
-use definitions::{Track, Turn};
+use definitions::{Place, Track, Turn};
 
 /// What a peer is to choose next: the number of the turn, counted from 0, and the track that its moves so far give.
 #[derive(Clone, Copy, Debug, PartialEq, Eq)]
@@ -15,5 +15,5 @@ pub struct Choice {
 pub struct PlayerView {
     pub turns: u32,
     pub track: Track,
-    pub next: u32,
+    pub next: Place,
 }

@@ -4,14 +4,15 @@ use Rattle.definitions.specs.World.{Game, players_of, is_open}
 use Rattle.definitions.specs.declared.world.Track.{Track}
 use Rattle.peer_window.specs.Windows.{Seen}
 use Rattle.peer_core.specs.Others.{Known, AreOthers, view_of}
-use Rattle.peer_core.proofs.Tables.{another_from, window_at, offered_below, offered_there, offered_open, offered_read}
+use Rattle.peer_core.proofs.Tables.{window_at, offered_below, offered_there, offered_open, offered_read}
 use Rattle.peer_core.proofs.others.Others.offer.Goals as goal
+use Rattle.definition_laws.proofs.Room.{other_player}
 
 pub offer-offer-requires-clause-later : goal.offer-offer-requires-clause-later
 offer-offer-requires-clause-later c =
     let IsKnown : Known → Type 0 = λ o. AreOthers c.args.session.now c.args._me c.args.entries.now o in
     let all = subst IsKnown (sym c.self.view_is) c.requires.others in
-    let from = another_from c.args.session.now c.args._me c.args.from c.args.frame.now c.requires.from in
+    let from = other_player c.args.session.now c.args._me c.args.from c.args.frame.now c.requires.from in
     let at = window_at c.args.session.now c.args._me c.args.from c.from-at.result c.args.entries.now _ c.index_mut.result.now c.from-at.ensures from.0 from.1 all in
     let Below : Seen → Type 0 = λ w. EachIs (λ r. r.entry < length c.args.entries.now) w.frames in
     subst Below (sym c.index_mut.ensures.value) (offered_below c.args.session.now c.args._me c.args.from c.args.entries.now _ at)

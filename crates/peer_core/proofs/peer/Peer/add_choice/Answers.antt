@@ -85,9 +85,9 @@ invariant_of-self c =
     let honest = choice_honest c.self.inside.session c.self.inside.me c.self.inside.entries.items c.len-turn.result c.args.mv c.args.nonce c.facts.ensures inv.honest
     (may_inside _ _ c.self.view_is c.requires.chooses) (legal_inside _ _ _ c.self.view_is c.requires.legal) turn in
     let IsKnown : Known → Type 0 = λ o. IsPeer c.self.inside.session c.self.inside.me c.add.new.list.items c.add-2.new.list.items c.self.inside.frames.items c.add-3.new.list.items
-    o c.self.inside.found c.find_needs.new.out c.self.inside.walker in
+    o c.self.inside.found c.find_needs.new.out in
     let rooms = c.self.invariant.1 in (
-      subst IsKnown (sym c.find_needs.ensures.others) (peer_chose c.self.inside.session c.self.inside.me c.self.inside.entries.items _ _ _ _ _ _ _ _ _ _ _ c.len-turn.result c.args.mv c.args.nonce c.args.track c.facts.ensures inv honest
+      subst IsKnown (sym c.find_needs.ensures.others) (peer_chose c.self.inside.session c.self.inside.me c.self.inside.entries.items _ _ _ _ _ _ _ _ _ _ c.len-turn.result c.args.mv c.args.nonce c.args.track c.facts.ensures inv honest
           (track_inside _ _ _ _ c.self.view_is c.requires.track) c.add.ensures.items c.add-2.ensures.items c.add-3.ensures.items
           (c.find_needs.ensures.needs ∙ ap (λ (h : List Entry). needs c.self.inside.session c.self.inside.me h) c.as_slice.ensures.value)),
       record {

@@ -2,7 +2,7 @@ use Rattle.std.proofs.Common.{◌≡◌, ◌∙◌, List, ap, subst}
 use Rattle.definitions.specs.declared.answers.Need.{Need}
 use Rattle.definitions.specs.Lists.{is_empty}
 use Rattle.definitions.specs.Needs.{needs}
-use Rattle.log_scan.specs.First.{finding_of_log}
+use Rattle.definition_laws.specs.First.{finding_of_log}
 use Rattle.peer_core.specs.Views.{PeerState}
 use Rattle.peer_core.proofs.Choices.{progress_is, empty_is}
 use Rattle.peer_core.proofs.peer.Peer.advance.Goals as goal

@@ -3,7 +3,7 @@ use Rattle.std.specs.Prelude.{is_none, not}
 use Rattle.std.specs.Option.{is_some}
 use Rattle.definitions.specs.declared.findings.Finding.{Finding}
 use Rattle.definitions.specs.Findings.{is_clean}
-use Rattle.log_scan.proofs.First.{clean_is_none}
+use Rattle.definition_laws.proofs.FirstFinding.{clean_is_none}
 use Rattle.peer_core.specs.Views.{PeerState}
 use Rattle.peer_core.proofs.peer.Peer.finding.Goals as goal
 

@@ -5,8 +5,8 @@ use Rattle.definitions.specs.declared.logs.Entry.{Entry}
 use Rattle.definitions.specs.declared.logs.Entry.TheVariants.{Got}
 use Rattle.definitions.specs.Honest.{IsHonest, made_count}
 use Rattle.definitions.specs.Needs.{needs}
-use Rattle.log_scan.specs.First.{finding_of_log}
-use Rattle.log_scan.proofs.Received.{log_stays_honest}
+use Rattle.definition_laws.specs.First.{finding_of_log}
+use Rattle.definition_laws.proofs.Replied.{log_stays_honest}
 use Rattle.peer_core.specs.OwnTracks.{AreOwnTracks}
 use Rattle.peer_core.specs.Others.{Known, AreOthers}
 use Rattle.peer_core.proofs.Answering.{logged_none, caught_first}
@@ -69,9 +69,9 @@ invariant_of-self c =
     let first = c.caught_in-self-inside.ensures ∙ caught_first c.self.inside.session c.self.inside.me c.self.inside.entries.items c.args.from c.args.frame.now c.offer-answer.result answer logged ∙
     ap (λ (h : List Entry). finding_of_log c.self.inside.session h) (sym c.add.ensures.items) in (
       peer_got c.self.inside.session c.self.inside.me c.args.from c.self.inside.entries.items c.add.new.list.items c.args.frame.now c.self.inside.openings.items c.self.inside.frames.items c.self.inside.tracks.items
-          c.self.inside.others c.find_needs.new.self c.self.inside.found c.caught_in-self-inside.result c.self.inside.needs c.find_needs.new.out c.self.inside.walker c.offer-answer.new.walker c.facts.ensures inv none
+          c.self.inside.others c.find_needs.new.self c.self.inside.found c.caught_in-self-inside.result c.self.inside.needs c.find_needs.new.out c.facts.ensures inv none
           c.add.ensures.items (subst Are (sym c.find_needs.ensures.others) all) first
-          (c.find_needs.ensures.needs ∙ ap (λ (h : List Entry). needs c.self.inside.session c.self.inside.me h) c.as_slice-then-is_logged.ensures.value) c.offer-answer.ensures.walker,
+          (c.find_needs.ensures.needs ∙ ap (λ (h : List Entry). needs c.self.inside.session c.self.inside.me h) c.as_slice-then-is_logged.ensures.value),
       record {
         entries_fit = omega (arith, rooms.entries_fit, c.add.ensures.capacity);
         openings_fit = rooms.openings_fit;
@@ -86,7 +86,7 @@ invariant_of-self-else-is_logged c =
     let all = others_unlogged c.self.inside.session c.self.inside.me c.args.from c.self.inside.entries.items c.as_slice.result.now c.args.frame.now c.offer-answer.result c.offer-answer.new.self c.as_slice.ensures.value answer
     (sym c.is_logged.ensures ∙ c.if-is_logged.false) c.offer-answer.ensures.others in (
       peer_kept c.self.inside.session c.self.inside.me c.self.inside.entries.items c.self.inside.openings.items c.self.inside.frames.items c.self.inside.tracks.items c.self.inside.others c.offer-answer.new.self
-          c.self.inside.found c.self.inside.needs c.self.inside.walker c.offer-answer.new.walker c.facts.ensures c.self.invariant.0 all c.offer-answer.ensures.walker,
+          c.self.inside.found c.self.inside.needs c.facts.ensures c.self.invariant.0 all,
       c.self.invariant.1,
     )
 

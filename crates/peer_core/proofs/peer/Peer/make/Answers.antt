@@ -68,9 +68,9 @@ invariant_of-self c =
     let next : next_made c.self.inside.session c.self.inside.me c.self.inside.entries.items ≡ Some c.args.frame = next_inside _ _ _ c.self.view_is c.requires in
     let inv = c.self.invariant.0 in
     let IsKnown : Known → Type 0 = λ o. IsPeer c.self.inside.session c.self.inside.me c.add.new.list.items c.self.inside.openings.items c.add-2.new.list.items c.self.inside.tracks.items
-    o c.self.inside.found c.find_needs.new.out c.self.inside.walker in
+    o c.self.inside.found c.find_needs.new.out in
     let rooms = c.self.invariant.1 in (
-      subst IsKnown (sym c.find_needs.ensures.others) (peer_made _ _ _ _ _ _ _ _ _ _ _ _ _ c.args.frame c.facts.ensures inv next c.add.ensures.items c.add-2.ensures.items
+      subst IsKnown (sym c.find_needs.ensures.others) (peer_made _ _ _ _ _ _ _ _ _ _ _ _ c.args.frame c.facts.ensures inv next c.add.ensures.items c.add-2.ensures.items
           (c.find_needs.ensures.needs ∙ ap (λ (h : List Entry). needs c.self.inside.session c.self.inside.me h) c.as_slice.ensures.value)),
       record {
         entries_fit = omega (arith, rooms.entries_fit, c.add.ensures.capacity);

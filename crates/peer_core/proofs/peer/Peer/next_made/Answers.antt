@@ -6,7 +6,7 @@ use Rattle.definitions.specs.Lists.{is_empty}
 use Rattle.definitions.specs.Needs.{needs}
 use Rattle.definitions.specs.Honest.{made_count}
 use Rattle.definitions.specs.Advance.{next_made}
-use Rattle.log_scan.proofs.First.{clean_is_none}
+use Rattle.definition_laws.proofs.FirstFinding.{clean_is_none}
 use Rattle.peer_core.specs.Views.{PeerState}
 use Rattle.peer_core.proofs.Choices.{next_free, empty_is}
 use Rattle.peer_core.specs.Standing.{IsStanding}
@@ -28,4 +28,4 @@ returns-clause-frame c =
 pub returns-clause-facts : goal.returns-clause-facts
 returns-clause-facts c =
     let Is : PeerState → Type 0 = λ v. IsStanding v in
-    subst Is c.self.view_is (standing _ _ _ _ _ _ _ _ _ _ c.facts.ensures c.self.invariant.0)
+    subst Is c.self.view_is (standing _ _ _ _ _ _ _ _ _ c.facts.ensures c.self.invariant.0)

@@ -7,7 +7,7 @@ use Rattle.definitions.specs.Honest.{allowed}
 use Rattle.definitions.specs.Logs.{chosen}
 use Rattle.peer_core.specs.declared.views.Choice.{Choice}
 use Rattle.peer_core.specs.Views.{PeerState}
-use Rattle.peer_core.proofs.OwnTracks.{ahead}
+use Rattle.grid_world.proofs.Reveals.{ahead_least}
 use Rattle.peer_core.proofs.Replaying.{added, left_out, other_turn, this_turn}
 use Rattle.peer_core.proofs.peer.Peer.replay_choice.Goals as goal
 
@@ -22,14 +22,14 @@ taken : (c : goal.In-Ok) → allowed c.args.self.now.game c.args.self.now.me c.a
 taken c =
     let turn : c.args.turn ≡ length (chosen c.args.self.now.me c.args.self.now.entries) = c.if-turn-choice.false ∙ ap (λ (k : Choice). k.turn) c.choice.ensures in
     ap (λ n. allowed c.args.self.now.game c.args.self.now.me c.args.self.now.entries (Chose n c.args.mv c.args.nonce)) turn ∙
-    this_turn c.args.self.now.game c.args.self.now.me c.args.self.now.entries c.args.mv c.args.nonce (ahead c.args.self.now.game c.facts.ensures.session) c.facts.ensures.honest ∙
+    this_turn c.args.self.now.game c.args.self.now.me c.args.self.now.entries c.args.mv c.args.nonce (ahead_least c.args.self.now.game c.facts.ensures.session) c.facts.ensures.honest ∙
     ap (λ (o : Option OwnFault). is_none o) (sym c.in-Ok.ensures.fault)
 
 refused : (c : goal.In-Err) → allowed c.args.self.now.game c.args.self.now.me c.args.self.now.entries (Chose c.args.turn c.args.mv c.args.nonce) ≡ false
 refused c =
     let turn : c.args.turn ≡ length (chosen c.args.self.now.me c.args.self.now.entries) = c.if-turn-choice.false ∙ ap (λ (k : Choice). k.turn) c.choice.ensures in
     ap (λ n. allowed c.args.self.now.game c.args.self.now.me c.args.self.now.entries (Chose n c.args.mv c.args.nonce)) turn ∙
-    this_turn c.args.self.now.game c.args.self.now.me c.args.self.now.entries c.args.mv c.args.nonce (ahead c.args.self.now.game c.facts.ensures.session) c.facts.ensures.honest ∙
+    this_turn c.args.self.now.game c.args.self.now.me c.args.self.now.entries c.args.mv c.args.nonce (ahead_least c.args.self.now.game c.facts.ensures.session) c.facts.ensures.honest ∙
     ap (λ (o : Option OwnFault). is_none o) (sym c.in-Err.ensures.fault)
 
 pub returns-then-turn-choice-clause-allowed : goal.returns-then-turn-choice-clause-allowed

@@ -5,21 +5,22 @@ use Rattle.definitions.specs.declared.frames.TurnFrame.{TurnFrame}
 use Rattle.definitions.specs.Honest.{allowed}
 use Rattle.definition_laws.proofs.Alike.{frame_eq_true}
 use Rattle.peer_core.specs.Views.{PeerState}
-use Rattle.peer_core.proofs.OwnTracks.{ahead}
-use Rattle.peer_core.proofs.Replaying.{added, left_out, no_frame, other_frame, this_frame}
+use Rattle.grid_world.proofs.Reveals.{ahead_least}
+use Rattle.peer_core.proofs.Replaying.{added, left_out, other_frame, this_frame}
 use Rattle.peer_core.proofs.peer.Peer.replay_frame.Goals as goal
+use Rattle.definition_laws.proofs.ForPeers.{none_allowed}
 
 -- no frame may come where none is next
 none : (c : goal.In_default) → allowed c.args.self.now.game c.args.self.now.me c.args.self.now.entries (Made c.args.frame.now) ≡ false
 none c =
     let stands = c.next_made.ensures.facts in
-    no_frame c.args.self.now.game c.args.self.now.me c.args.self.now.entries c.args.frame.now (ahead c.args.self.now.game stands.session) stands.honest (sym c.next_made.ensures.frame ∙ c.in_default.is)
+    none_allowed c.args.self.now.game c.args.self.now.me c.args.self.now.entries c.args.frame.now (ahead_least c.args.self.now.game stands.session) stands.honest (sym c.next_made.ensures.frame ∙ c.in_default.is)
 
 -- another frame than the next may not come
 other : (c : goal.Then-not-is_frame) → allowed c.args.self.now.game c.args.self.now.me c.args.self.now.entries (Made c.args.frame.now) ≡ false
 other c =
     let stands = c.next_made.ensures.facts in
-    other_frame c.args.self.now.game c.args.self.now.me c.args.self.now.entries c.args.frame.now c.in-Some.next (ahead c.args.self.now.game stands.session) stands.honest
+    other_frame c.args.self.now.game c.args.self.now.me c.args.self.now.entries c.args.frame.now c.in-Some.next (ahead_least c.args.self.now.game stands.session) stands.honest
     (sym c.next_made.ensures.frame ∙ c.in-Some.is) (sym c.is_frame.ensures ∙ c.if-not-is_frame.true)
 
 pub returns-in_default-clause-allowed : goal.returns-in_default-clause-allowed

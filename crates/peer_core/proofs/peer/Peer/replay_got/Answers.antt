@@ -2,7 +2,7 @@ use Rattle.std.proofs.Common.{◌∙◌, [], ◌∷◌, ◌++◌, Bool, ap}
 use Rattle.std.specs.Prelude.{if◌then◌else◌}
 use Rattle.definitions.specs.declared.answers.GotAnswer.{GotAnswer}
 use Rattle.definitions.specs.declared.logs.Entry.TheVariants.{Got}
-use Rattle.peer_core.specs.Choosing.{is_logged}
+use Rattle.peer_core.specs.Answers.{is_logged}
 use Rattle.peer_core.specs.Views.{PeerState}
 use Rattle.peer_core.proofs.Answering.{logged_is}
 use Rattle.peer_core.proofs.Replaying.{got_allowed}
