@@ -5,11 +5,12 @@ ghost use Rattle.std.specs.Prelude.{◌≡◌, ◌<◌, IfOk};
 use crate::scripts::{Coming, Dice, Manner, any_coming, any_manner, next_of};
 use definitions::{Cell, Entry, GotAnswer, Kind, Move, Nonce, PlayerId, TurnFrame};
 use grid_world::{Session, read_session};
-use log_scan::{answer_taken, known_stream, refusal};
 use move_rules::Walker;
 use peer_core::Peer;
+use plain_peer::{answer_taken, refusal};
 use std::alloc::{AllocError, Global};
 use std::test::Fail;
+use streams::known_stream;
 
 static PATH: &[u8] =
     b"playout 1\ngrid 12 1\nrules 1 1 0\ncharge 1 2 1\nturns 12\nplayers 3\nplayer 0 0 0\nplayer 1 9 0\nplayer 2 5 0\nend\n";

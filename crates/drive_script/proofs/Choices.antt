@@ -22,7 +22,7 @@ use Rattle.definitions.specs.Findings.{findings, is_clean}
 use Rattle.definitions.specs.Answers.{got_answer, is_far, is_of_another, is_same, new_answer, place_of}
 use Rattle.definitions.specs.Steps.{after_choice, after_got, is_taken_in}
 use Rattle.peer_core.specs.Views.{with_got}
-use Rattle.peer_core.specs.Choosing.{is_logged}
+use Rattle.peer_core.specs.Answers.{is_logged}
 
 -- a choice without a fault is logged, and the owner advances
 pub choice_taken : (game : Game) (me : ℕ) (h : List Entry) (m : Move) (n : Nonce) → choice_fault game me h m ≡ None →

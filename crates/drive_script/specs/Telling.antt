@@ -14,7 +14,7 @@ use Rattle.definitions.specs.Needs.{choice_fault}
 use Rattle.definitions.specs.Findings.{findings}
 use Rattle.definitions.specs.Answers.{got_answer, place_of}
 use Rattle.definitions.specs.Advance.{next_made}
-use Rattle.peer_core.specs.Choosing.{is_logged}
+use Rattle.peer_core.specs.Answers.{is_logged}
 use Rattle.drive_script.specs.Lines.{choice_text, got_text, hello_text, want_text, bad_text, caught_text, made_text, end_text, log_text}
 
 -- what a part of a text is about

@@ -18,7 +18,7 @@ ghost use Rattle.text_io.specs.Inputs.{Input, Line};
 use crate::heard::{Answered, Found, Heard, Part, Reply};
 use crate::readers::Readers;
 use definitions::{GotAnswer, Move, Nonce, OwnFault, PlayerId, TurnFrame};
-use peer_core::{Peer, is_logged, place_of};
+use peer_core::{Peer, is_logged};
 use script_grammar::{DriveLine, read_line};
 use std::marker::Model;
 use wire_frames::{FedWhat, Frame};
@@ -144,7 +144,7 @@ impl Driver {
         ensures entries { result.entries ≡ length self.old.state.log }
         ensures after { self.new ≡ record self.old { state = with_log self.old.state (after_got self.old.game self.old.me self.old.state.log from frame.now) } }
     {
-        let place = place_of(self.peer.session(), frame);
+        let place = self.peer.session().place_of(frame);
         let entries = self.peer.entries().len();
         let answer = receive_and_advance(&mut self.peer, from, frame);
         Reply {

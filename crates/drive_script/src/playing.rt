@@ -3,7 +3,7 @@
 ghost use Rattle.std.specs.Prelude.{◌≡◌, ◌≤◌, ◌+◌, ◌++◌, [], false, length, IsTrue};
 ghost use Rattle.definitions.specs.Advance.{advance};
 ghost use Rattle.definitions.specs.Findings.{is_clean};
-ghost use Rattle.log_scan.specs.First.{finding_of_log};
+ghost use Rattle.definition_laws.specs.First.{finding_of_log};
 ghost use Rattle.text_io.specs.Inputs.{Input, Line, End};
 ghost use Rattle.text_io.specs.Frame.{Ends, after_text};
 ghost use Rattle.text_io.specs.Turns.{Plays, PlaysTurn, OnTurn};

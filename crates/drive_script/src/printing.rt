@@ -5,7 +5,7 @@ ghost use Rattle.definitions.specs.World.{players_of};
 ghost use Rattle.text_io.specs.Texts.{Puts};
 ghost use Rattle.drive_script.specs.Lines.{entry_text, need_text, needs_text, stand_text, players_text, last_text, end_text, choice_text, found_text, added_text};
 ghost use Rattle.drive_script.specs.Hearing.{reply_text, part_text, answered_text, HasAll, HasBefore};
-ghost use Rattle.log_scan.specs.First.{finding_of_log};
+ghost use Rattle.definition_laws.specs.First.{finding_of_log};
 
 use crate::heard::{Answered, Found, Reply};
 use crate::lines::{

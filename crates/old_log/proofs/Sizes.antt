@@ -9,7 +9,8 @@ use Rattle.session_log.specs.Writing.{Writing, all_written, fresh}
 use Rattle.session_log.specs.Laws.{AreBytes, EndsSo, IsLogOf}
 use Rattle.session_log.proofs.Found.{length-sha256}
 use Rattle.session_log.proofs.Logs.{log_ends, log_written}
-use Rattle.old_log.specs.Old.{longest, old_entries}
+use Rattle.old_log.specs.Old.{old_entries}
+use Rattle.definitions.specs.declared.limits.TheConstants.{LONGEST_LOG}
 
 -- how many bytes the entries have, whatever they are chained to
 abbrev sizes : List Entry → ℕ
@@ -58,8 +59,8 @@ no_more game bytes es (next.BadChain at) h = inr (no_more_by game.id bytes h.me 
 no_more game bytes es (next.BadEntry at) h = elim h [ inl s ↦ inr (no_more_by game.id bytes s.me es s.rest s.bytes_are) | inr a ↦ inl a.4 ]
 
 -- the log of the entries before one that was read isn't too long
-pub front_fits : (game : Game) (me i : ℕ) (bytes : List ℕ) (es : List Entry) → AreBytes bytes → length bytes ≤ longest → es ≡ old_entries game bytes → i < length es →
-    length (log_bytes game.id me (take i es)) ≤ longest
+pub front_fits : (game : Game) (me i : ℕ) (bytes : List ℕ) (es : List Entry) → AreBytes bytes → length bytes ≤ LONGEST_LOG → es ≡ old_entries game bytes → i < length es →
+    length (log_bytes game.id me (take i es)) ≤ LONGEST_LOG
 front_fits game me i bytes es are le e lt =
     let ends = log_ends game bytes are in
     let Ends : List Entry → Type 0 = λ l. EndsSo game bytes l ends.0 in

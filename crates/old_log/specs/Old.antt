@@ -10,10 +10,7 @@ use Rattle.session_log.specs.declared.reader.Next.TheVariants as next
 use Rattle.session_log.specs.Spelling.{entries_bytes, first_chain}
 use Rattle.session_log.specs.Reading.{read_log}
 use Rattle.peer_core.specs.Resuming.{first_not_replayed}
-
--- how many bytes a log may have at most
-abbrev pub longest : ℕ
-longest = 67108864
+use Rattle.definitions.specs.declared.limits.TheConstants.{LONGEST_LOG}
 
 -- whose log it is, where it has a first byte
 abbrev pub old_owner : Game → List ℕ → Option ℕ
@@ -68,6 +65,6 @@ breach game me entries (Some i) = Some (record { at = place_behind game.id me (t
 -- why a peer for this player can't go on from the log: the first cause, if there is one
 abbrev pub old_fault : Game → ℕ → List ℕ → Option Fault
 old_fault game me bytes =
-    if nat_lt longest (length bytes) then Some (record { at = longest; why = TooLong })
+    if nat_lt LONGEST_LOG (length bytes) then Some (record { at = LONGEST_LOG; why = TooLong })
     else if is_anothers me (old_owner game bytes) (old_entries game bytes) then Some (record { at = 1; why = NotReplayed })
     else breach game me (old_entries game bytes) (first_not_replayed game me [] (old_entries game bytes))

@@ -13,4 +13,4 @@ mod resuming;
 
 pub use definitions::LogWhy;
 pub use peer_core::Peer;
-pub use resuming::{LONGEST, OldFault, Resumed, resume_from};
+pub use resuming::{OldFault, Resumed, resume_from};

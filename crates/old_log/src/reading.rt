@@ -3,6 +3,7 @@
 ghost use Rattle.std.specs.Prelude.{◌≡◌, ◌≤◌, IfOk, length};
 ghost use Rattle.old_log.specs.Old as O;
 
+use definitions::limits::LONGEST_LOG;
 use definitions::{Entry, PlayerId};
 use grid_world::Session;
 use session_log::{LogReader, Next};
@@ -28,7 +29,7 @@ fn fault_place(answer: &Next) -> Option<u32>
 
 /// Reads a log up to its first fault.
 pub(crate) fn read_old(alloc: Global, session: &Session, bytes: &[u8]) -> Result<OldLog, AllocError>
-    requires { length bytes.now ≤ O.longest }
+    requires { length bytes.now ≤ LONGEST_LOG }
     ensures { IfOk result (λ log. O.IsOld session.now bytes.now log.owner log.entries.items log.dropped) }
 {
     let mut reader = LogReader::new(session);

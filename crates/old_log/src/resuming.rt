@@ -7,13 +7,11 @@ ghost use Rattle.old_log.specs.Resumed as R;
 
 use crate::places::place_behind;
 use crate::reading::{is_anothers, read_old};
+use definitions::limits::LONGEST_LOG;
 use definitions::{LogWhy, PlayerId};
 use grid_world::Session;
 use peer_core::{Peer, ResumeFault};
 use std::alloc::Global;
-
-/// How many bytes a log may have at most.
-pub const LONGEST: usize = 67_108_864;
 
 /// Why a peer can't go on from a log.
 #[derive(Clone, Copy, Debug, PartialEq, Eq)]
@@ -38,7 +36,7 @@ pub struct Resumed {
 /// A peer for this player of the session that goes on from the log with these bytes. The log's bytes from its first fault
 /// on are dropped, and the peer replays the entries before it; a log without a whole entry is gone on from as an empty one.
 ///
-/// These are refused, in this order: TooLong, at 67108864, where the log has more bytes than that; NotReplayed, at 1, where
+/// These are refused, in this order: TooLong, at `LONGEST_LOG`, where the log has more bytes than that; NotReplayed, at 1, where
 /// it has an entry and is another player's; NotReplayed, at the byte where the entry begins, where an entry may not follow
 /// those before it. Nothing else is refused, but that memory may run out.
 pub fn resume_from(
@@ -51,9 +49,9 @@ pub fn resume_from(
     ensures exact { R.Resumes session.now me bytes.now result }
     ensures honest { IfOk result (λ r. IsHonest session.now me r.peer.entries) }
 {
-    if bytes.len() > LONGEST {
+    if bytes.len() > LONGEST_LOG {
         return Err(OldFault::Bad {
-            at: LONGEST as u32,
+            at: LONGEST_LOG as u32,
             why: LogWhy::TooLong,
         });
     }

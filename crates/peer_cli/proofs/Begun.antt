@@ -8,8 +8,9 @@ use Rattle.definitions.specs.Honest.{IsHonest, allowed, honest_from}
 use Rattle.definition_laws.proofs.ForPeers.{honest_empty}
 use Rattle.text_io.specs.declared.statuses.Status.{Status}
 use Rattle.peer_core.specs.Resuming.{first_not_replayed}
-use Rattle.old_log.specs.Old.{Fault, breach, is_anothers, longest, old_entries, old_fault, old_owner}
+use Rattle.old_log.specs.Old.{Fault, breach, is_anothers, old_entries, old_fault, old_owner}
 use Rattle.peer_cli.specs.Games.{Beginning, begun, empty_beginning, log_front_of, old_beginning}
+use Rattle.definitions.specs.declared.limits.TheConstants.{LONGEST_LOG}
 
 -- entries of which none is the first that may not follow are honest
 all_allowed : (game : Game) (me : ℕ) (g es : List Entry) → first_not_replayed game me g es ≡ None → honest_from game me g es ≡ true
@@ -31,12 +32,12 @@ no_breach game me entries (Some i) e = cc
 old_honest : (game : Game) (me : ℕ) (bytes : List ℕ) → old_fault game me bytes ≡ None → IsHonest game me (old_entries game bytes)
 old_honest game me bytes e =
     all_allowed game me [] (old_entries game bytes)
-    (no_breach game me (old_entries game bytes) (first_not_replayed game me [] (old_entries game bytes)) (go (nat_lt longest (length bytes)) (is_anothers me (old_owner game bytes) (old_entries game bytes)) e))
+    (no_breach game me (old_entries game bytes) (first_not_replayed game me [] (old_entries game bytes)) (go (nat_lt LONGEST_LOG (length bytes)) (is_anothers me (old_owner game bytes) (old_entries game bytes)) e))
   where
     rest : Option Fault
     rest = breach game me (old_entries game bytes) (first_not_replayed game me [] (old_entries game bytes))
 
-    go : (a b : Bool) → (if a then Some (record { at = longest; why = TooLong }) else if b then Some (record { at = 1; why = NotReplayed }) else rest) ≡ None → rest ≡ None
+    go : (a b : Bool) → (if a then Some (record { at = LONGEST_LOG; why = TooLong }) else if b then Some (record { at = 1; why = NotReplayed }) else rest) ≡ None → rest ≡ None
     go true b e = cc
     go false true e = cc
     go false false e = e

@@ -3,6 +3,7 @@
 ghost use Rattle.std.specs.Prelude.{◌≡◌, ◌+◌, ◌≤◌, length};
 
 use crate::finding::{Found, entry_at, first_chain};
+use definitions::limits::LONGEST_LOG;
 use definitions::{Entry, PlayerId};
 use grid_world::Session;
 use std::marker::Model;
@@ -97,7 +98,7 @@ impl LogReader {
 
     /// The answer where nothing was read yet.
     fn first(&mut self, session: &Session, bytes: &[u8]) -> Next
-        requires few { length bytes.now ≤ 67108864 }
+        requires few { length bytes.now ≤ LONGEST_LOG }
         requires within { self.old.at ≤ length bytes.now }
         ensures reader { self.new ≡ (R.first_step session.now self.old bytes.now).reader }
         ensures answer { result ≡ (R.first_step session.now self.old bytes.now).answer }
@@ -123,7 +124,7 @@ impl LogReader {
 
     /// The answer where an entry was read.
     fn further(&mut self, session: &Session, owner: PlayerId, bytes: &[u8]) -> Next
-        requires few { length bytes.now ≤ 67108864 }
+        requires few { length bytes.now ≤ LONGEST_LOG }
         requires within { self.old.at ≤ length bytes.now }
         ensures reader { self.new ≡ (R.further_step session.now self.old owner bytes.now).reader }
         ensures answer { result ≡ (R.further_step session.now self.old owner bytes.now).answer }
@@ -145,7 +146,7 @@ impl LogReader {
     /// log of one byte is torn at 0, if it is a player's number. After End or a fault every call answers the same.
     #[tactic(auto, unfolding(crate::specs::Reading::next_step))]
     pub fn next(&mut self, session: &Session, bytes: &[u8]) -> Next
-        requires few { length bytes.now ≤ 67108864 }
+        requires few { length bytes.now ≤ LONGEST_LOG }
         requires within { self.old.at ≤ length bytes.now }
         ensures reader { self.new ≡ (R.next_step session.now bytes.now self.old).reader }
         ensures answer { result ≡ (R.next_step session.now bytes.now self.old).answer }

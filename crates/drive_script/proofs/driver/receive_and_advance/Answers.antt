@@ -4,7 +4,7 @@ use Rattle.definitions.specs.declared.logs.Entry.{Entry}
 use Rattle.definitions.specs.Answers.{got_answer}
 use Rattle.definitions.specs.Advance.{advance}
 use Rattle.peer_core.specs.Views.{PeerState}
-use Rattle.peer_core.specs.Choosing.{is_logged}
+use Rattle.peer_core.specs.Answers.{is_logged}
 use Rattle.drive_script.proofs.Choices.{got_logged, got_unlogged}
 use Rattle.drive_script.proofs.driver.receive_and_advance.Goals as goal
 

@@ -9,5 +9,5 @@ pub place_behind-requires : goal.place_behind-requires
 place_behind-requires c =
     let Names : ResumeFault → Type 0 = λ f. NamesTheFirst c.args.session.now c.args.me c.as_slice-entries.result.now f in
     let first : IsFirstBreach c.args.session.now c.args.me c.as_slice-entries.result.now c.in-Err-NotReplayed.i = subst Names c.in-Err-NotReplayed.field-0-is c.in-Err-NotReplayed.ensures.first in
-    front_fits c.args.session.now c.args.me c.in-Err-NotReplayed.i c.args.bytes.now c.as_slice-entries.result.now (are_bytes c.args.bytes.now c.type_inv.bytes) c.if-bytes-gt-LONGEST.false
+    front_fits c.args.session.now c.args.me c.in-Err-NotReplayed.i c.args.bytes.now c.as_slice-entries.result.now (are_bytes c.args.bytes.now c.type_inv.bytes) c.if-bytes-gt-LONGEST_LOG.false
     (c.as_slice-entries.ensures.value ∙ c.in-Ok.ensures.entries_are) first.within
