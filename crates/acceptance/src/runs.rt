@@ -2,7 +2,7 @@
 
 ghost use Rattle.std.specs.Prelude.{◌≡◌, ◌∷◌, [], false, bytes_eq, IfOk};
 
-use peer_cli::run;
+use peer_cli::{run, run_in_memory};
 use station::{MemoryShelf, MemorySink, MemorySource, ShelfFile};
 use std::alloc::{AllocError, Global};
 use text_io::Status;
@@ -157,7 +157,7 @@ pub fn run_files(
     let words = words_with_log(alloc, files.name, player)?;
     let mut input = source_of(alloc, script, fails.source)?;
     let mut out = sink_of(alloc, fails.sink)?;
-    let status = run(alloc, words.as_slice(), &mut input, &mut out, &mut shelf);
+    let status = run_in_memory(alloc, words.as_slice(), &mut input, &mut out, &mut shelf);
     Ok((status, Vec::from_slice(alloc, out.bytes())?))
 }
 

@@ -17,12 +17,20 @@ use std::io::{self, ErrorKind, Read, Seek, SeekFrom};
 use std::rt::Files;
 use std::{fs, str};
 
-/// An open file, its name, and the place that its next read begins at.
+/// An open file, its name, if there was memory for it, and the place that its next read begins at.
 #[derive(Drop)]
 struct OpenFile<F> {
-    name: Vec<u8>,
+    name: Option<Vec<u8>>,
     next: u64,
     file: F,
+}
+
+/// Whether a call for this name and place goes on in the file.
+fn goes_on<F>(open: &OpenFile<F>, name: &[u8], at: u64) -> bool {
+    match &open.name {
+        None => false,
+        Some(kept) => kept.as_slice() == name && open.next == at,
+    }
 }
 
 /// Reads the files of the machine by their paths.
@@ -58,15 +66,14 @@ fn open_at<R: Files>(files: &R, path: &[u8], at: u64) -> io::Result<R::File>
         Err(_) => Err(io::Error::from(ErrorKind::InvalidInput)),
         Ok(path) => {
             let mut file = fs::open(files, path)?;
-            if at > 0 {
-                file.seek(SeekFrom::Start(at))?;
-            }
+            file.seek(SeekFrom::Start(at))?;
             Ok(file)
         }
     }
 }
 
-/// The file that was read last, where this call goes on in it, and else one that is opened.
+/// The file that was read last, where this call goes on in it, and else one that is opened. Without memory for its name it is opened
+/// anew for each call.
 fn file_for<R: Files>(
     alloc: Global,
     files: &R,
@@ -74,15 +81,14 @@ fn file_for<R: Files>(
     name: &[u8],
     at: u64,
 ) -> io::Result<OpenFile<R::File>> {
-    if let Some(open) = last {
-        if open.name.as_slice() == name && open.next == at {
-            return Ok(open);
-        }
+    if let Some(open) = last
+        && goes_on(&open, name, at)
+    {
+        return Ok(open);
     }
     let file = open_at(files, name, at)?;
-    let name = Vec::from_slice(alloc, name)?;
     Ok(OpenFile {
-        name,
+        name: Vec::from_slice(alloc, name).ok(),
         next: at,
         file,
     })
