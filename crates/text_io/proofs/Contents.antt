@@ -21,10 +21,11 @@ behind_front name all [] front r is = tt
 behind_front name all (p ∷ ps) front r is =
     let given = bytes_given p.gave in
     let last : given ≡ [] → bytes_read ps ≡ [] = λ e. ap bytes_read (r.2 e) in
-    let here : GivesAt (Some all) p.at p.gave = subst (λ (n : ℕ). GivesAt (Some all) n p.gave) (sym r.1) (gives_so front (bytes_read ps) all p.gave is last) in
-    (here,
-     behind_front name all ps (front ++ given) (subst (λ (n : ℕ). IsReading name n ps) (sym (length-append front given)) r.3)
-     (is ∙ sym (append_assoc front given (bytes_read ps))))
+    let here : GivesAt (Some all) p.at p.gave = subst (λ (n : ℕ). GivesAt (Some all) n p.gave) (sym r.1) (gives_so front (bytes_read ps) all p.gave is last) in (
+      here,
+      behind_front name all ps (front ++ given) (subst (λ (n : ℕ). IsReading name n ps) (sym (length-append front given)) r.3)
+          (is ∙ sym (append_assoc front given (bytes_read ps))),
+    )
 
 -- the whole reading
 pub reading_fits : (name : List ℕ) (pieces : List Piece) → IsReading name 0 pieces → AllGive (Some (bytes_read pieces)) pieces

@@ -11,12 +11,12 @@ loop-entry-init c = record { count_is = refl; few = omega arith }
 
 pub loop-entry-preserved : goal.loop-entry-preserved
 loop-entry-preserved c = elim c.match-entry.branch [
-    in-Made w ↦
-        let e = made_count_more c.args.entries.now c.loop-entry.entry-index _ _ c.loop-entry-test.true w.in-Made.is in
-        let n = w.count-is in
-        record { count_is = omega arith; few = omega arith }
+  | in-Made w ↦
+      let e = made_count_more c.args.entries.now c.loop-entry.entry-index _ _ c.loop-entry-test.true w.in-Made.is in
+      let n = w.count-is in
+      record { count_is = omega arith; few = omega arith }
   | in_default w ↦
-        let e = made_count_same c.args.entries.now c.loop-entry.entry-index _ c.loop-entry-test.true w.in_default.not-Made in
-        let n = w.count-is in
-        record { count_is = omega arith; few = omega arith }
-  ]
+      let e = made_count_same c.args.entries.now c.loop-entry.entry-index _ c.loop-entry-test.true w.in_default.not-Made in
+      let n = w.count-is in
+      record { count_is = omega arith; few = omega arith }
+]
