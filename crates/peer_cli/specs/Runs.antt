@@ -29,15 +29,18 @@ pub record Run : Type 0 where
 abbrev pub read_by : Run → List ℕ
 read_by run = since run.before.input.seen run.after.input.seen
 
--- The input was read on: it has what it had, and gave more or nothing.
+-- The input was read on.
 pub record ReadsOn (before after : SourceState) : Type 0 where
+  -- where it tells all its bytes, they are the same
   pub same : after.whole ≡ before.whole
+  -- it gave more bytes or none
   pub grows : Grows before.seen after.seen
 
--- The files may hold this, and this may stand behind the bytes read of the input: the files give what was answered to the run's
--- calls, and nothing stands behind an input that answered its end.
+-- The files may hold this, and this may stand behind the bytes read of the input.
 pub record MayBe (run : Run) (calls : Calls) (contents : Contents) (behind : List ℕ) : Type 0 where
+  -- the files give what was answered to the run's calls
   pub given : AreContents contents calls
+  -- nothing stands behind an input that answered its end
   pub follows : MayFollow run.after.input.ended behind
 
 -- P of whatever the files may hold and may stand behind the bytes read
@@ -95,19 +98,23 @@ pub record TellsPlay (command : Option Command) : Type 0 where
 
 -- What the program promises of a run that ended with this status. `alone` says that the input was left alone.
 pub record Runs (run : Run) (alone : Type 0) (status : Status) : Type 0 where
-  -- it read these calls' answers of the files, and of its input nothing but what the input gave
+  -- its calls for the session's file and for the log's, as they were answered
   pub calls : Calls
+  -- it made these calls and no others, each where it was due
   pub files : ReadsFor run.command run.before.shelf run.after.shelf calls
+  -- it read the input on, and changed nothing of what the input tells of itself
   pub input : ReadsOn run.before.input run.after.input
+  -- there is something that the files may hold and that may stand behind the bytes read
   pub possible : IsPossible run calls
-  -- what it wrote is due by what it read
+  -- whatever they are, what it wrote is due by what it read
   pub text : ForAny run calls (Writes run alone status)
-  -- why it ended so
+  -- the status has its cause
   pub caused : IsCaused run calls status
+  -- a fault is counted exactly where it is told
   pub faults : CountsFaults run.before run.after status
-  -- what it left alone
+  -- the input is left alone where nothing is due by it
   pub untouched : LeavesAlone run calls alone status
-  -- it comes to its end
+  -- where all is good it comes to its end
   pub complete : Completes run calls status
   -- what it wrote tells a log of fair play
   pub play : TellsPlay run.command
