@@ -3,7 +3,6 @@ use Rattle.std.proofs.Common.{◌≡◌, ℕ, ◌*◌, ◌<◌, List, [], ◌∷
 use Rattle.std.specs.Prelude.{◌==◌, ◌||◌, option_to_list}
 use Rattle.std.specs.List.{list_any}
 use Rattle.std.proofs.lemmas.Bool.{cases_Bool, cond-false, cond-true, false_from_ne_true, false≢true}
-use Rattle.definitions.specs.declared.world.Track.{Track}
 use Rattle.definitions.specs.declared.frames.TurnFrame.{TurnFrame}
 use Rattle.definitions.specs.declared.frames.TurnFrame.TheVariants.{Commit, Reveal}
 use Rattle.definitions.specs.World.{Game}
@@ -18,13 +17,14 @@ use Rattle.peer_window.specs.declared.received.Received.{Received}
 use Rattle.peer_window.specs.declared.received.Clash.{Clash}
 use Rattle.peer_window.specs.declared.received.Offer.{Offer}
 use Rattle.peer_window.specs.declared.received.Offer.TheVariants.{Same, Far}
+use Rattle.peer_window.specs.declared.walk.Reach.{Reach}
 use Rattle.peer_window.specs.Clashes.{first_clash}
-use Rattle.peer_window.specs.Slots.{AreSlots, frames_in, in_order, place_of, slot}
+use Rattle.peer_window.specs.Slots.{AreSlots, frames_in, in_order, slot_of, slot}
 use Rattle.peer_window.specs.Windows.{IsHeld, IsWindow, Seen, answer, frames_after, is_far, is_same, new_answer, seen_of, with_frame}
 use Rattle.peer_window.proofs.Ordered.{AllBefore, each_in_order, in_order_set, slot_each}
 
 -- the place of a frame, where players commit one turn ahead
-pub place_plain : (game : Game) (f : TurnFrame) → game.ahead ≡ 1 → A.place_of game f ≡ place_of f
+pub place_plain : (game : Game) (f : TurnFrame) → game.ahead ≡ 1 → A.place_of game f ≡ slot_of f
 unfolding A.place_of
 place_plain game (Commit p t d) one = commit_place-plain game t one
 place_plain game (Reveal p t m n) one = reveal_place-plain game t one
@@ -33,8 +33,8 @@ pub frames_alone : (ss : List (Option Received)) (rival : Option Received) → r
 frames_alone ss rival e = ap (λ (o : Option Received). in_order ss ++ option_to_list o) e ∙ append_nil (in_order ss)
 
 -- what a window without a rival says of its slots
-pub window_held : (game : Game) (q n : ℕ) (ss : List (Option Received)) (rival : Option Received) (closed : Bool) (track : Track) → rival ≡ None → AreSlots q ss n → IsWindow game (seen_of q ss rival closed n track) → IsHeld game q ss n track
-window_held game q n ss rival closed track e slots w = record {
+pub window_held : (game : Game) (q : ℕ) (ss : List (Option Received)) (rival : Option Received) (closed : Bool) (at : Reach) → rival ≡ None → AreSlots q ss at.commits at.resolved → IsWindow game (seen_of q ss rival closed at) → IsHeld game q ss at
+window_held game q ss rival closed at e slots w = record {
   player = w.player;
   places = w.places;
   slots = slots;
@@ -42,9 +42,9 @@ window_held game q n ss rival closed track e slots w = record {
   leads = w.track;
 }
 
-pub window_clean : (game : Game) (q n : ℕ) (ss : List (Option Received)) (rival : Option Received) (closed : Bool) (track : Track) → rival ≡ None → closed ≡ false → IsWindow game (seen_of q ss rival closed n track) →
+pub window_clean : (game : Game) (q : ℕ) (ss : List (Option Received)) (rival : Option Received) (closed : Bool) (at : Reach) → rival ≡ None → closed ≡ false → IsWindow game (seen_of q ss rival closed at) →
     first_clash game q (in_order ss) ≡ None
-window_clean game q n ss rival closed track e f w = ap (first_clash game q) (sym (frames_alone ss rival e)) ∙ w.clean f
+window_clean game q ss rival closed at e f w = ap (first_clash game q) (sym (frames_alone ss rival e)) ∙ w.clean f
 
 -- the tests in turn
 pub answer_far : (game : Game) (w : Seen) (r : Received) → is_far game w r.frame ≡ true → Far ≡ answer game w r
@@ -76,11 +76,11 @@ same_there ss p g f e h = elim (cases_Bool (list_any (λ r. frame_eq r.frame f) 
 ]
 
 -- and in no other
-pub same_not_there : (q n p : ℕ) (ss : List (Option Received)) (f : TurnFrame) → AreSlots q ss n → p ≡ place_of f → ((g : Received) → slot ss p ≡ Some g → frame_eq g.frame f ≡ false) → list_any (λ r. frame_eq r.frame f) (in_order ss) ≡ false
-same_not_there q n p ss f w at h =
+pub same_not_there : (q c u p : ℕ) (ss : List (Option Received)) (f : TurnFrame) → AreSlots q ss c u → p ≡ slot_of f → ((g : Received) → slot ss p ≡ Some g → frame_eq g.frame f ≡ false) → list_any (λ r. frame_eq r.frame f) (in_order ss) ≡ false
+same_not_there q c u p ss f w at h =
     any_none (λ r. frame_eq r.frame f) (in_order ss) (each_in_order (λ r. frame_eq r.frame f ≡ false) ss (λ i r e. false_from_ne_true (frame_eq r.frame f) (λ same.
     let is = frame_eq_true r.frame f same in
-    let here : i ≡ p = sym (w.own i r e).0 ∙ ap place_of is ∙ sym at in
+    let here : i ≡ p = sym (w.own i r e).0 ∙ ap slot_of is ∙ sym at in
     false≢true (sym (h r (ap (slot ss) (sym here) ∙ e)) ∙ same))))
 
 -- a frame that joins the others

@@ -1,8 +1,8 @@
 -- Clashing: a frame in an empty slot makes a clash with the other frame of its turn, or leads to an illegal reveal.
-use Rattle.std.proofs.Common.{◌≡◌, ℕ, suc, ◌+◌, ◌-◌, ◌*◌, ◌<◌, List, refl, Bool, true, false, sym, ◌∙◌, ap, arith, Option, Some, None}
+use Rattle.std.proofs.Common.{◌≡◌, ℕ, suc, ◌+◌, ◌*◌, ◌<◌, ◌≤◌, List, refl, Bool, true, false, sym, ◌∙◌, ap, arith, inl, inr, Option, Some, None}
 use Rattle.std.specs.Prelude.{if◌then◌else◌, max, min}
 use Rattle.std.specs.Option.{option_or}
-use Rattle.std.proofs.lemmas.Bool.{eq-eqb, false≢true}
+use Rattle.std.proofs.lemmas.Bool.{cases_lt, eq-eqb, false≢true}
 use Rattle.definitions.specs.declared.findings.Kind.TheVariants.{BadOpening}
 use Rattle.definitions.specs.declared.world.Move.{Move}
 use Rattle.definitions.specs.declared.world.Track.{Track}
@@ -13,9 +13,10 @@ use Rattle.definitions.specs.declared.frames.TurnFrame.{TurnFrame}
 use Rattle.definitions.specs.declared.frames.TurnFrame.TheVariants.{Commit, Reveal}
 use Rattle.definitions.specs.World.{Game}
 use Rattle.definitions.specs.Moves.{move_fault}
-use Rattle.definitions.specs.Logs.{digest_eq, player_of}
+use Rattle.definitions.specs.Logs.{digest_eq}
 use Rattle.definitions.specs.Held.{digest_of, known_to, next_known, places_in}
 use Rattle.definition_laws.proofs.Knowing.{known_to_whole}
+use Rattle.definition_laws.proofs.Windows.{at_places}
 use Rattle.grid_world.specs.Sessions.{IsSession}
 use Rattle.move_rules.specs.Verdicts.{judged}
 use Rattle.reveal_check.specs.declared.judging.Verdict.TheVariants as V
@@ -24,40 +25,50 @@ use Rattle.peer_window.specs.declared.received.Received.{Received}
 use Rattle.peer_window.specs.declared.received.Clash.{Clash}
 use Rattle.peer_window.specs.declared.walk.Reach.{Reach}
 use Rattle.peer_window.specs.declared.walk.Step.{Step}
-use Rattle.peer_window.specs.declared.walk.Step.TheVariants.{On, Halt, Illegal}
+use Rattle.peer_window.specs.declared.walk.Step.TheVariants.{Committed, Resolved, Halt, Illegal}
 use Rattle.peer_window.specs.Clashes.{clash_in, first_clash, same_digest}
-use Rattle.peer_window.specs.Steps.{IsReach, frame_step, judged_step, slot_step, step_from, stop_of}
-use Rattle.peer_window.specs.Slots.{frames_in, in_order, place_of, shown, slot}
+use Rattle.peer_window.specs.Steps.{IsReach, commit_step, judged_step, slot_step, step_from, stop_of}
+use Rattle.peer_window.specs.Slots.{frames_in, in_order, shown, slot}
 use Rattle.peer_window.specs.Windows.{IsHeld}
-use Rattle.peer_window.proofs.Grown.{at_places}
 use Rattle.peer_window.proofs.Lookups.{count_places}
 use Rattle.peer_window.proofs.Pairs.{digest_sym, or_none, range_none}
-use Rattle.peer_window.proofs.Reached.{slots_further, step_on, step_revealed}
-use Rattle.peer_window.proofs.Stretches.{commitment_at, slot_within}
+use Rattle.peer_window.proofs.Reached.{by_commit, by_reveal, commit_next, next_slot, reveal_next, slots_committed, slots_resolved, step_committed, step_resolved, step_revealed}
+use Rattle.peer_window.proofs.Stretches.{commitment_at, is_reveal, slot_within}
 use Rattle.peer_window.proofs.Turns.{end_clash, pair_clash, turn_value}
 
--- the places of a window are reached
-pub held_reach : (game : Game) (q : ℕ) (ss : List (Option Received)) (at : Reach) → IsHeld game q ss at.next at.track → IsReach game q ss at
+-- what a window holds is reached
+pub held_reach : (game : Game) (q : ℕ) (ss : List (Option Received)) (at : Reach) → IsHeld game q ss at → IsReach game q ss at
 held_reach game q ss at h =
-    let places : places_in (known_to game q (frames_in (in_order ss)) (2 * game.turns)) ≡ at.next = ap places_in h.known ∙ sym (count_places q at.next ss (shown ss at.next) refl h.slots) in
+    let places : places_in (known_to game q (frames_in (in_order ss)) (2 * game.turns)) ≡ at.commits + at.resolved = ap places_in h.known ∙ sym (count_places q at.commits at.resolved ss (shown ss at.commits at.resolved) refl h.slots) in
     record {
       known = ap (known_to game q (frames_in (in_order ss))) (sym places) ∙ at_places game q (frames_in (in_order ss)) (2 * game.turns) ∙ h.known;
       track = h.leads;
     }
 
--- no step leads on from the next place
-never_on : (game : Game) (q : ℕ) (ss : List (Option Received)) (at : Reach) (track : Track) → IsSession game → IsHeld game q ss at.next at.track → step_from game ss at ≡ On track → ⊥
+-- what is known after one frame more is no more
+stays : (game : Game) (q n : ℕ) (ss : List (Option Received)) (at : Reach) → IsHeld game q ss at → n ≡ suc (at.commits + at.resolved) → known_to game q (frames_in (in_order ss)) n ≡ shown ss at.commits at.resolved
 unfolding known_to
-never_on game q ss at track is h e =
+stays game q n ss at h e =
     let reach = held_reach game q ss at h in
-    let on = step_on game q ss at track is h.player h.places h.slots reach e in
-    let more : at.next + 1 ≡ suc at.next = omega arith in
-    let still : known_to game q (frames_in (in_order ss)) (at.next + 1) ≡ shown ss at.next =
-    ap (known_to game q (frames_in (in_order ss))) more ∙ ap (next_known game q (frames_in (in_order ss))) (reach.known ∙ sym h.known) ∙ known_to_whole game q (frames_in (in_order ss)) ∙ h.known in
-    let slots = slots_further game q ss at track h.slots e in
-    let a = count_places q (at.next + 1) ss (shown ss (at.next + 1)) refl slots in
-    let b = count_places q at.next ss (shown ss at.next) refl h.slots in
-    let c = ap places_in (sym on.0.known ∙ still) in
+    ap (known_to game q (frames_in (in_order ss))) e ∙ ap (next_known game q (frames_in (in_order ss))) (reach.known ∙ sym h.known) ∙ known_to_whole game q (frames_in (in_order ss)) ∙ h.known
+
+-- no step leads on from what is held
+never_committed : (game : Game) (q : ℕ) (ss : List (Option Received)) (at : Reach) → IsSession game → IsHeld game q ss at → step_from game ss at ≡ Committed → ⊥
+never_committed game q ss at is h e =
+    let on = step_committed game q ss at h.slots (held_reach game q ss at h) e in
+    let slots = slots_committed game q ss at h.places h.slots e in
+    let a = count_places q (at.commits + 1) at.resolved ss (shown ss (at.commits + 1) at.resolved) refl slots in
+    let b = count_places q at.commits at.resolved ss (shown ss at.commits at.resolved) refl h.slots in
+    let c = ap places_in (sym on.known ∙ stays game q (at.commits + 1 + at.resolved) ss at h (omega arith)) in
+    omega arith
+
+never_resolved : (game : Game) (q : ℕ) (ss : List (Option Received)) (at : Reach) (track : Track) → IsSession game → IsHeld game q ss at → step_from game ss at ≡ Resolved track → ⊥
+never_resolved game q ss at track is h e =
+    let on = step_resolved game q ss at track is h.places h.slots (held_reach game q ss at h) e in
+    let slots = slots_resolved game q ss at track is h.places h.slots e in
+    let a = count_places q at.commits (at.resolved + 1) ss (shown ss at.commits (at.resolved + 1)) refl slots in
+    let b = count_places q at.commits at.resolved ss (shown ss at.commits at.resolved) refl h.slots in
+    let c = ap places_in (sym on.known ∙ stays game q (at.commits + (at.resolved + 1)) ss at h (omega arith)) in
     omega arith
 
 halts_apart : (game : Game) (track : Track) (m : Move) (c g : Received) (b : Bool) (o : Option MoveFault) → judged_step c g (if b then by_rules (judged game track m o) else V.BadOpening) ≡ Halt → b ≡ false
@@ -75,49 +86,52 @@ pair_same game t c g h = go (same_digest game c g) h
 some_not : (x : Clash) → Some x ≡ None → ⊥
 some_not x h = cc
 
--- in a window without a clash nothing stands at the next place
-pub next_empty : (game : Game) (q : ℕ) (ss : List (Option Received)) (at : Reach) → IsSession game → IsHeld game q ss at.next at.track → first_clash game q (in_order ss) ≡ None → slot ss at.next ≡ None
+-- in a window without a clash the next frame's slot is empty
+pub next_empty : (game : Game) (q : ℕ) (ss : List (Option Received)) (at : Reach) → IsSession game → IsHeld game q ss at → first_clash game q (in_order ss) ≡ None → slot ss (next_slot game at) ≡ None
 unfolding first_clash digest_of
-next_empty game q ss at is h clean = go (slot ss at.next) refl
+next_empty game q ss at is h clean = elim (cases_lt at.commits (min (at.resolved + game.ahead) game.turns)) [
+  | inl lt ↦ ap (slot ss) (commit_next game at lt) ∙ commits lt (slot ss (2 * at.commits)) refl
+  | inr ge ↦ ap (slot ss) (reveal_next game at ge) ∙ reveals ge (slot ss (2 * at.resolved + 1)) refl
+]
   where
-    none_at : (t : ℕ) (x : Option Clash) → t < game.turns → stop_of (step_from game ss at) ≡ Some x → option_or (pair_clash game t (slot ss (2 * t)) (slot ss (2 * t + 1))) (end_clash t at.next x) ≡ None
-    none_at t x lt stop = sym (turn_value game q t ss at x h.slots (held_reach game q ss at h) stop h.known) ∙ range_none (clash_in game q (in_order ss)) 0 game.turns t clean (omega arith) (omega arith)
+    commits : at.commits < min (at.resolved + game.ahead) game.turns → (o : Option Received) → slot ss (2 * at.commits) ≡ o → slot ss (2 * at.commits) ≡ None
+    commits lt None e = e
+    commits lt (Some g) e = absurd (never_committed game q ss at is h (by_commit game ss at lt ∙ ap commit_step e))
 
-    by_step : (g : Received) (t : ℕ) (m : Move) (o : Nonce) (c : Received) (d : Digest) → slot ss (2 * t) ≡ Some c → c.frame ≡ Commit q t d → t < game.turns → 2 * t + 1 ≡ at.next → slot ss (2 * t + 1) ≡ Some g → g.frame ≡ Reveal q t m o →
-        step_from game ss at ≡ judged_step c g (if digest_eq (digest_of game (Reveal q t m o)) d then by_rules (judged game at.track m (move_fault game q at.track m)) else V.BadOpening) →
+    none_at : (x : Option Clash) → at.resolved < game.turns → stop_of (step_from game ss at) ≡ Some x →
+        option_or (pair_clash game at.resolved (slot ss (2 * at.resolved)) (slot ss (2 * at.resolved + 1))) (end_clash at.resolved (next_slot game at) x) ≡ None
+    none_at x lt stop =
+        sym (turn_value game q at.resolved ss at x is h.places h.slots (held_reach game q ss at h) stop h.known)
+        ∙ range_none (clash_in game q (in_order ss)) 0 game.turns at.resolved clean (omega arith) (omega arith)
+
+    by_step : min (at.resolved + game.ahead) game.turns ≤ at.commits → (g : Received) (m : Move) (o : Nonce) (c : Received) (d : Digest) → slot ss (2 * at.resolved) ≡ Some c → c.frame ≡ Commit q at.resolved d → at.resolved < game.turns →
+        slot ss (2 * at.resolved + 1) ≡ Some g → g.frame ≡ Reveal q at.resolved m o →
+        step_from game ss at ≡ judged_step c g (if digest_eq (digest_of game (Reveal q at.resolved m o)) d then by_rules (judged game at.track m (move_fault game q at.track m)) else V.BadOpening) →
         (s : Step) → step_from game ss at ≡ s → ⊥
-    by_step g t m o c d e f lt n i j is_step (On track) s = never_on game q ss at track is h s
-    by_step g t m o c d e f lt n i j is_step Halt s =
-        let apart = halts_apart game at.track m c g (digest_eq (digest_of game (Reveal q t m o)) d) (move_fault game q at.track m) (sym is_step ∙ s) in
-        let none = (or_none _ _ (none_at t None lt (ap stop_of s))).0 in
-        let same = pair_same game t c g (ap (λ (x : Option Received). pair_clash game t x (Some g)) (sym e) ∙ ap (pair_clash game t (slot ss (2 * t))) (sym i) ∙ none) in
-        let digests : digest_eq d (digest_of game (Reveal q t m o)) ≡ true = ap (λ (x : TurnFrame). digest_eq (digest_of game x) (digest_of game (Reveal q t m o))) (sym f) ∙ ap (λ (x : TurnFrame). digest_eq (digest_of game c.frame) (digest_of game x)) (sym j) ∙ same in
-        false≢true (sym apart ∙ digest_sym (digest_of game (Reveal q t m o)) d ∙ digests)
-    by_step g t m o c d e f lt n i j is_step (Illegal x) s =
-        let none = (or_none _ _ (none_at t (Some x) lt (ap stop_of s))).1 in
-        let some : end_clash t at.next (Some x) ≡ Some x = ap (λ (b : Bool). if b then Some x else None) (eq-eqb (2 * t + 1) at.next n) in
+    by_step ge g m o c d e f lt i j is_step Committed s = never_committed game q ss at is h s
+    by_step ge g m o c d e f lt i j is_step (Resolved track) s = never_resolved game q ss at track is h s
+    by_step ge g m o c d e f lt i j is_step Halt s =
+        let apart = halts_apart game at.track m c g (digest_eq (digest_of game (Reveal q at.resolved m o)) d) (move_fault game q at.track m) (sym is_step ∙ s) in
+        let none = (or_none _ _ (none_at None lt (ap stop_of s))).0 in
+        let same = pair_same game at.resolved c g (ap (λ (x : Option Received). pair_clash game at.resolved x (Some g)) (sym e) ∙ ap (pair_clash game at.resolved (slot ss (2 * at.resolved))) (sym i) ∙ none) in
+        let digests : digest_eq d (digest_of game (Reveal q at.resolved m o)) ≡ true =
+        ap (λ (x : TurnFrame). digest_eq (digest_of game x) (digest_of game (Reveal q at.resolved m o))) (sym f) ∙ ap (λ (x : TurnFrame). digest_eq (digest_of game c.frame) (digest_of game x)) (sym j) ∙ same in
+        false≢true (sym apart ∙ digest_sym (digest_of game (Reveal q at.resolved m o)) d ∙ digests)
+    by_step ge g m o c d e f lt i j is_step (Illegal x) s =
+        let none = (or_none _ _ (none_at (Some x) lt (ap stop_of s))).1 in
+        let some : end_clash at.resolved (next_slot game at) (Some x) ≡ Some x = ap (λ (b : Bool). if b then Some x else None) (eq-eqb (2 * at.resolved + 1) (next_slot game at) (sym (reveal_next game at ge))) in
         some_not x (sym some ∙ none)
 
-    reveals : (g : Received) (t : ℕ) (m : Move) (o : Nonce) → slot ss at.next ≡ Some g → 2 * t + 1 ≡ at.next → g.frame ≡ Reveal q t m o → ⊥
-    reveals g t m o e n f =
-        let within = slot_within ss at.next g e in
+    reveals : min (at.resolved + game.ahead) game.turns ≤ at.commits → (o : Option Received) → slot ss (2 * at.resolved + 1) ≡ o → slot ss (2 * at.resolved + 1) ≡ None
+    reveals ge None e = e
+    reveals ge (Some g) e =
+        let within = slot_within ss (2 * at.resolved + 1) g e in
         let places = h.places in
-        let here : slot ss (2 * t + 1) ≡ Some g = ap (slot ss) n ∙ e in
-        let c = commitment_at q t at.next ss h.slots (omega arith) in
-        let back : at.next - 1 ≡ 2 * t = omega arith in
-        let lt : t < game.turns = omega arith in
-        let is_step : step_from game ss at ≡ judged_step c.0 g (if digest_eq (digest_of game (Reveal q t m o)) c.1 then by_rules (judged game at.track m (move_fault game q at.track m)) else V.BadOpening) =
-        ap (slot_step game at.track (slot ss (at.next - 1))) e ∙ step_revealed game at.track c.0 g q t c.1 m o (slot ss (at.next - 1)) (ap (slot ss) back ∙ c.2) c.3 f in
-        by_step g t m o c.0 c.1 c.2 c.3 lt n here f is_step (step_from game ss at) refl
-
-    frame : (g : Received) (f : TurnFrame) → slot ss at.next ≡ Some g → g.frame ≡ f → ⊥
-    frame g (Commit p t d) e f = never_on game q ss at at.track is h (ap (slot_step game at.track (slot ss (at.next - 1))) e ∙ ap (frame_step game at.track (slot ss (at.next - 1)) g) f)
-    frame g (Reveal p t m o) e f =
-        let own = h.slots.own at.next g e in
-        let place : 2 * t + 1 ≡ at.next = ap place_of (sym f) ∙ own.0 in
-        let player : p ≡ q = ap player_of (sym f) ∙ own.1 in
-        reveals g t m o e place (f ∙ ap (λ (x : ℕ). Reveal x t m o) player)
-
-    go : (o : Option Received) → slot ss at.next ≡ o → slot ss at.next ≡ None
-    go None e = e
-    go (Some g) e = absurd (frame g g.frame e refl)
+        let one = is.ahead in
+        let lt : at.resolved < game.turns = omega arith in
+        let own = h.slots.own (2 * at.resolved + 1) g e in
+        let f = is_reveal g.frame q at.resolved own.0 own.1 in
+        let c = commitment_at q at.resolved at.commits at.resolved ss h.slots (omega arith) in
+        let is_step : step_from game ss at ≡ judged_step c.0 g (if digest_eq (digest_of game (Reveal q at.resolved f.0 f.1)) c.1 then by_rules (judged game at.track f.0 (move_fault game q at.track f.0)) else V.BadOpening) =
+        by_reveal game ss at ge ∙ ap (slot_step game at.track (slot ss (2 * at.resolved))) e ∙ step_revealed game at.track c.0 g q at.resolved c.1 f.0 f.1 (slot ss (2 * at.resolved)) c.2 c.3 f.2 in
+        absurd (by_step ge g f.0 f.1 c.0 c.1 c.2 c.3 lt e f.2 is_step (step_from game ss at) refl)

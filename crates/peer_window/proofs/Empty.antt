@@ -1,6 +1,5 @@
 -- Empty: a window of which no frame came.
-use Rattle.std.proofs.Common.{◌≡◌, ℕ, zero, suc, ◌+◌, ◌*◌, ◌<◌, ◌≤◌, List, [], ◌++◌, length, refl, Bool, true, false, sym, ◌∙◌, ap, arith, Option, Some, None}
-use Rattle.std.specs.Prelude.{min, nat_lt, if◌then◌else◌}
+use Rattle.std.proofs.Common.{◌≡◌, ℕ, zero, suc, ◌+◌, ◌*◌, ◌<◌, ◌≤◌, List, [], ◌++◌, length, refl, false, sym, ◌∙◌, ap, arith, Option, Some, None}
 use Rattle.std.specs.List.{range_with_len}
 use Rattle.std.specs.Option.{option_or}
 use Rattle.std.proofs.Math.ListN.{replicate}
@@ -10,7 +9,8 @@ use Rattle.definitions.specs.Lists.{first_of}
 use Rattle.definitions.specs.World.{Game, players_of}
 use Rattle.definitions.specs.Moves.{start_track, track_after}
 use Rattle.definitions.specs.Findings.{first_pair}
-use Rattle.definitions.specs.Held.{Known, known_to, next_known}
+use Rattle.definitions.specs.Held.{Known, known_to}
+use Rattle.definition_laws.proofs.ForPeers.{known_of_none}
 use Rattle.peer_window.specs.declared.received.Received.{Received}
 use Rattle.peer_window.specs.Clashes.{clash_among, clash_in, first_clash}
 use Rattle.peer_window.specs.Slots.{AreSlots, digests_to, frames_in, in_order, moves_to, shown, slot}
@@ -28,17 +28,7 @@ none_in_slot zero p = refl
 none_in_slot (suc n) zero = refl
 none_in_slot (suc n) (suc p) = none_in_slot n p
 
-known_nothing : (game : Game) (q n : ℕ) → known_to game q [] n ≡ record { digests = []; moves = [] }
-unfolding known_to next_known
-known_nothing game q zero = refl
-known_nothing game q (suc n) = ap (next_known game q []) (known_nothing game q n) ∙ go (nat_lt 0 (min (0 + game.ahead) game.turns)) (nat_lt 0 game.turns)
-  where
-    go : (a b : Bool) → (let k : Known = record { digests = []; moves = [] } in if a then k else if b then k else k) ≡ record { digests = []; moves = [] }
-    go true b = refl
-    go false true = refl
-    go false false = refl
-
-shows_nothing : (ss : List (Option Received)) → shown ss 0 ≡ record { digests = []; moves = [] }
+shows_nothing : (ss : List (Option Received)) → shown ss 0 0 ≡ record { digests = []; moves = [] }
 unfolding digests_to moves_to
 shows_nothing ss = refl
 
@@ -54,12 +44,14 @@ pub none_clash : (game : Game) (q : ℕ) → first_clash game q [] ≡ None
 unfolding first_clash
 none_clash game q = nowhere (clash_in game q []) 0 game.turns (no_clash_in game q)
 
-empty_slots : (q n : ℕ) → n ≤ 8192 → AreSlots q (no_slots n) 0
+empty_slots : (q n : ℕ) → n ≤ 8192 → AreSlots q (no_slots n) 0 0
 empty_slots q n few =
     let len = length-replicate {A = Option Received} n None in
     record {
       own = λ p r e. absurd (let none : None ≡ Some r = sym (none_in_slot n p) ∙ e in cc);
-      there = λ p lt. absurd (omega arith);
+      committed = λ t lt. absurd (omega arith);
+      revealed = λ t lt. absurd (omega arith);
+      before = omega arith;
       within = omega arith;
       few = omega arith;
     }
@@ -68,13 +60,13 @@ pub empty_frames : (n : ℕ) (ss : List (Option Received)) → ss ≡ replicate 
 empty_frames n ss e = ap (λ (xs : List (Option Received)). in_order xs ++ []) e ∙ ap (λ (xs : List Received). xs ++ []) (none_in_order n)
 
 pub empty_window : (game : Game) (q n : ℕ) (ss : List (Option Received)) (track : Track) → q < players_of game → n ≡ 2 * game.turns → ss ≡ replicate n None → track ≡ start_track game q →
-    IsWindow game (seen_of q ss None false 0 track)
+    IsWindow game (seen_of q ss None false (record { commits = 0; resolved = 0; track = track }))
 empty_window game q n ss track lt len e at =
     let frames = empty_frames n ss e in
     record {
       player = lt;
       places = ap length e ∙ length-replicate {A = Option Received} n None ∙ len;
-      known = shows_nothing ss ∙ sym (known_nothing game q (2 * game.turns)) ∙ ap (λ (rs : List Received). known_to game q (frames_in rs) (2 * game.turns)) (sym frames);
+      known = shows_nothing ss ∙ sym (known_of_none game q (2 * game.turns)) ∙ ap (λ (rs : List Received). known_to game q (frames_in rs) (2 * game.turns)) (sym frames);
       track = at ∙ ap (λ (k : Known). track_after game q k.moves) (sym (shows_nothing ss));
       clean = λ h. ap (first_clash game q) frames ∙ none_clash game q;
     }

@@ -8,7 +8,7 @@ use Rattle.definitions.specs.Lists.{EachIs}
 use Rattle.definitions.specs.Logs.{turn_of}
 use Rattle.peer_window.specs.declared.received.Received.{Received}
 use Rattle.peer_window.specs.Clashes.{of_turn}
-use Rattle.peer_window.specs.Slots.{AreSlots, in_order, insert, insert_some, place_of, slot}
+use Rattle.peer_window.specs.Slots.{AreSlots, in_order, insert, insert_some, slot_of, slot}
 use Rattle.peer_window.proofs.Ordered.{each_in_order, insert_each}
 
 -- each came no later than those behind it
@@ -103,19 +103,19 @@ filter_two p (Some x ∷ ss) (suc a) out one two =
     ∙ filter_two p ss a (λ i r e x y. out (suc i) r e (λ k. x (omega arith)) (λ k. y (omega arith))) one (λ r e. two r (ap (slot (Some x ∷ ss)) next ∙ e))
     ∙ ap (λ (o : Option Received). in_order (slot ss a ∷ o ∷ [])) (ap (slot (Some x ∷ ss)) (sym next))
 
-turn_elsewhere : (f : TurnFrame) (t i : ℕ) → place_of f ≡ i → (i ≡ 2 * t → ⊥) → (i ≡ 2 * t + 1 → ⊥) → (turn_of f == t) ≡ false
+turn_elsewhere : (f : TurnFrame) (t i : ℕ) → slot_of f ≡ i → (i ≡ 2 * t → ⊥) → (i ≡ 2 * t + 1 → ⊥) → (turn_of f == t) ≡ false
 turn_elsewhere (Commit p u d) t i e x y = ne_eqb u t (λ k. x (omega arith))
 turn_elsewhere (Reveal p u m n) t i e x y = ne_eqb u t (λ k. y (omega arith))
 
-turn_commit : (f : TurnFrame) (t : ℕ) → place_of f ≡ 2 * t → (turn_of f == t) ≡ true
+turn_commit : (f : TurnFrame) (t : ℕ) → slot_of f ≡ 2 * t → (turn_of f == t) ≡ true
 turn_commit (Commit p u d) t e = eq-eqb u t (omega arith)
 turn_commit (Reveal p u m n) t e = absurd (omega arith)
 
-turn_reveal : (f : TurnFrame) (t : ℕ) → place_of f ≡ 2 * t + 1 → (turn_of f == t) ≡ true
+turn_reveal : (f : TurnFrame) (t : ℕ) → slot_of f ≡ 2 * t + 1 → (turn_of f == t) ≡ true
 turn_reveal (Commit p u d) t e = absurd (omega arith)
 turn_reveal (Reveal p u m n) t e = eq-eqb u t (omega arith)
 
 -- the frames of a turn
-pub turn_slots : (q n t : ℕ) (ss : List (Option Received)) → AreSlots q ss n → of_turn t (in_order ss) ≡ in_order (slot ss (2 * t) ∷ slot ss (2 * t + 1) ∷ [])
-turn_slots q n t ss w =
+pub turn_slots : (q c u t : ℕ) (ss : List (Option Received)) → AreSlots q ss c u → of_turn t (in_order ss) ≡ in_order (slot ss (2 * t) ∷ slot ss (2 * t + 1) ∷ [])
+turn_slots q c u t ss w =
     filter_two (λ r. turn_of r.frame == t) ss (2 * t) (λ i r e x y. turn_elsewhere r.frame t i (w.own i r e).0 x y) (λ r e. turn_commit r.frame t (w.own (2 * t) r e).0) (λ r e. turn_reveal r.frame t (w.own (2 * t + 1) r e).0)

@@ -16,7 +16,7 @@ use Rattle.peer_window.specs.declared.received.Offer.{Offer}
 use Rattle.peer_window.specs.declared.received.Offer.TheVariants.{Same, Far, Conflict}
 use Rattle.peer_window.specs.declared.walk.Reach.{Reach}
 use Rattle.peer_window.specs.Clashes.{first_clash, rival_clash}
-use Rattle.peer_window.specs.Slots.{in_order, other_place, place_of, shown, slot}
+use Rattle.peer_window.specs.Slots.{in_order, other_slot, slot_of, shown, slot}
 use Rattle.peer_window.specs.Windows.{AreParts, IsHeld, IsWindow, Seen, answer, frames_after, is_far, is_same, new_answer, seen_of, with_frame}
 use Rattle.peer_window.proofs.Answered.{after_new, answer_far, answer_new, answer_same, frames_alone, frames_joined, place_plain, same_not_there, same_there, window_clean, window_held}
 use Rattle.peer_window.proofs.Lookups.{count_places}
@@ -27,45 +27,45 @@ use Rattle.definitions.specs.declared.limits.TheConstants.{WINDOW}
 
 -- a window that is open still, in its parts
 pub record IsOpen (game : Game) (w : Seen) (ss : List (Option Received)) (rival : Option Received) (closed : Bool) (at : Reach) (entry : ℕ) : Type 0 where
-  pub view : seen_of w.player ss rival closed at.next at.track ≡ w
-  pub held : IsHeld game w.player ss at.next at.track
+  pub view : seen_of w.player ss rival closed at ≡ w
+  pub held : IsHeld game w.player ss at
   pub clean : first_clash game w.player (in_order ss) ≡ None
   pub alone : rival ≡ None
   pub later : AllBefore entry (in_order ss)
 
-pub opened : (game : Game) (w : Seen) (q : ℕ) (ss : List (Option Received)) (rival : Option Received) (closed : Bool) (at : Reach) (entry : ℕ) → seen_of q ss rival closed at.next at.track ≡ w → IsWindow game w → w.closed ≡ false →
-    EachIs (λ r. r.entry < entry) w.frames → AreParts q ss rival closed at.next → IsOpen game w ss rival closed at entry
+pub opened : (game : Game) (w : Seen) (q : ℕ) (ss : List (Option Received)) (rival : Option Received) (closed : Bool) (at : Reach) (entry : ℕ) → seen_of q ss rival closed at ≡ w → IsWindow game w → w.closed ≡ false →
+    EachIs (λ r. r.entry < entry) w.frames → AreParts q ss rival closed at → IsOpen game w ss rival closed at entry
 opened game w q ss rival closed at entry view window still later parts =
     let P : Seen → Type 0 = λ x. IsWindow game x in
     let player : q ≡ w.player = ap (λ (x : Seen). x.player) view in
     let on_view = subst P (sym view) window in
     let shut : closed ≡ false = ap (λ (x : Seen). x.closed) view ∙ still in
     let alone = parts.alone shut in
-    let Q : ℕ → Type 0 = λ n. IsHeld game n ss at.next at.track in
+    let Q : ℕ → Type 0 = λ n. IsHeld game n ss at in
     let R : List Received → Type 0 = λ rs. AllBefore entry rs in
     record {
-      view = ap (λ (n : ℕ). seen_of n ss rival closed at.next at.track) (sym player) ∙ view;
-      held = subst Q player (window_held game q at.next ss rival closed at.track alone parts.slots on_view);
-      clean = ap (λ (n : ℕ). first_clash game n (in_order ss)) (sym player) ∙ window_clean game q at.next ss rival closed at.track alone shut on_view;
+      view = ap (λ (n : ℕ). seen_of n ss rival closed at) (sym player) ∙ view;
+      held = subst Q player (window_held game q ss rival closed at alone parts.slots on_view);
+      clean = ap (λ (n : ℕ). first_clash game n (in_order ss)) (sym player) ∙ window_clean game q ss rival closed at alone shut on_view;
       alone = alone;
       later = subst R (sym (ap (λ (x : Seen). x.frames) view) ∙ frames_alone ss rival alone) later;
     }
 
 -- the test of a far frame, at the window
-far_of : (game : Game) (w : Seen) (ss : List (Option Received)) (rival : Option Received) (closed : Bool) (at : Reach) (r : Received) (far : Bool) → IsOpen game w ss rival closed at r.entry → far ≡ A.is_beyond game at.next r.frame → is_far game w r.frame ≡ far
+far_of : (game : Game) (w : Seen) (ss : List (Option Received)) (rival : Option Received) (closed : Bool) (at : Reach) (r : Received) (far : Bool) → IsOpen game w ss rival closed at r.entry → far ≡ A.is_beyond game (at.commits + at.resolved) r.frame → is_far game w r.frame ≡ far
 far_of game w ss rival closed at r far o test =
-    ap (λ (x : Seen). is_far game x r.frame) (sym o.view) ∙ ap (λ (n : ℕ). A.is_beyond game n r.frame) (sym (count_places w.player at.next ss (shown ss at.next) refl o.held.slots)) ∙ sym test
+    ap (λ (x : Seen). is_far game x r.frame) (sym o.view) ∙ ap (λ (n : ℕ). A.is_beyond game n r.frame) (sym (count_places w.player at.commits at.resolved ss (shown ss at.commits at.resolved) refl o.held.slots)) ∙ sym test
 
-pub offer_far : (game : Game) (w : Seen) (ss : List (Option Received)) (rival : Option Received) (closed : Bool) (at : Reach) (r : Received) (place : ℕ) (far : Bool) → IsSession game → IsOpen game w ss rival closed at r.entry →
-    place ≡ place_of r.frame → far ≡ A.is_beyond game at.next r.frame → far ≡ true → Far ≡ answer game w r
-offer_far game w ss rival closed at r place far is o place_is test holds = answer_far game w r (far_of game w ss rival closed at r far o test ∙ holds)
+pub offer_far : (game : Game) (w : Seen) (ss : List (Option Received)) (rival : Option Received) (closed : Bool) (at : Reach) (r : Received) (far : Bool) → IsOpen game w ss rival closed at r.entry →
+    far ≡ A.is_beyond game (at.commits + at.resolved) r.frame → far ≡ true → Far ≡ answer game w r
+offer_far game w ss rival closed at r far o test holds = answer_far game w r (far_of game w ss rival closed at r far o test ∙ holds)
 
 same_of : (game : Game) (w : Seen) (ss : List (Option Received)) (rival : Option Received) (closed : Bool) (at : Reach) (r : Received) (b : Bool) → IsOpen game w ss rival closed at r.entry →
     list_any (λ x. frame_eq x.frame r.frame) (in_order ss) ≡ b → is_same w r.frame ≡ b
 same_of game w ss rival closed at r b o e = ap (λ (x : Seen). is_same x r.frame) (sym o.view) ∙ ap (list_any (λ x. frame_eq x.frame r.frame)) (frames_alone ss rival o.alone) ∙ e
 
 pub offer_same : (game : Game) (w : Seen) (ss : List (Option Received)) (rival : Option Received) (closed : Bool) (at : Reach) (r h : Received) (place : ℕ) (far same : Bool) → IsSession game → IsOpen game w ss rival closed at r.entry →
-    place ≡ place_of r.frame → far ≡ A.is_beyond game at.next r.frame → far ≡ false → Some h ≡ slot ss place → same ≡ frame_eq h.frame r.frame → same ≡ true → Same ≡ answer game w r
+    place ≡ slot_of r.frame → far ≡ A.is_beyond game (at.commits + at.resolved) r.frame → far ≡ false → Some h ≡ slot ss place → same ≡ frame_eq h.frame r.frame → same ≡ true → Same ≡ answer game w r
 offer_same game w ss rival closed at r h place far same is o place_is test fails there is_same holds =
     answer_same game w r (far_of game w ss rival closed at r far o test ∙ fails) (same_of game w ss rival closed at r true o (same_there ss place h r.frame (sym there) (sym is_same ∙ holds)))
 
@@ -74,32 +74,31 @@ or_parts false b e = (refl, sym e)
 or_parts true b e = absurd (false≢true e)
 
 -- a frame that is not far has a slot
-pub within_slots : (game : Game) (n : ℕ) (ss : List (Option Received)) (f : TurnFrame) (far : Bool) → game.ahead ≡ 1 → length ss ≡ 2 * game.turns → far ≡ A.is_beyond game n f → far ≡ false → place_of f < length ss
+pub within_slots : (game : Game) (n : ℕ) (ss : List (Option Received)) (f : TurnFrame) (far : Bool) → game.ahead ≡ 1 → length ss ≡ 2 * game.turns → far ≡ A.is_beyond game n f → far ≡ false → slot_of f < length ss
 within_slots game n ss f far one places test fails =
     let both = or_parts (nat_lt (n + WINDOW) (A.place_of game f)) (nat_le (2 * game.turns) (A.place_of game f)) (sym fails ∙ test) in
     let lt = leb-false (2 * game.turns) (A.place_of game f) both.1 in
     let plain = place_plain game f one in
     omega arith
 
-next_test : (game : Game) (w : Seen) (ss : List (Option Received)) (rival : Option Received) (closed : Bool) (at : Reach) (r : Received) → IsSession game → IsOpen game w ss rival closed at r.entry →
-    (place_of r.frame == at.next) ≡ (A.place_of game r.frame == places_in w.known)
-next_test game w ss rival closed at r is o =
-    ap (λ (n : ℕ). n == at.next) (sym (place_plain game r.frame is.ahead))
-    ∙ ap (λ (n : ℕ). A.place_of game r.frame == n) (count_places w.player at.next ss (shown ss at.next) refl o.held.slots ∙ ap (λ (x : Seen). places_in x.known) o.view)
+next_test : (game : Game) (w : Seen) (ss : List (Option Received)) (rival : Option Received) (closed : Bool) (at : Reach) (r : Received) → IsOpen game w ss rival closed at r.entry →
+    (A.place_of game r.frame == at.commits + at.resolved) ≡ (A.place_of game r.frame == places_in w.known)
+next_test game w ss rival closed at r o =
+    ap (λ (n : ℕ). A.place_of game r.frame == n) (count_places w.player at.commits at.resolved ss (shown ss at.commits at.resolved) refl o.held.slots ∙ ap (λ (x : Seen). places_in x.known) o.view)
 
 pub offer_new : (game : Game) (w : Seen) (ss new : List (Option Received)) (rival : Option Received) (closed : Bool) (at : Reach) (r : Received) (place q : ℕ) (far : Bool) (a : Offer) → IsSession game → IsOpen game w ss rival closed at r.entry →
-    place ≡ place_of r.frame → far ≡ A.is_beyond game at.next r.frame → far ≡ false → None ≡ slot ss place → q ≡ w.player → new ≡ set ss (place_of r.frame) (Some r) →
-    a ≡ new_answer (first_clash game q (in_order new)) (place_of r.frame == at.next) → a ≡ answer game w r
+    place ≡ slot_of r.frame → far ≡ A.is_beyond game (at.commits + at.resolved) r.frame → far ≡ false → None ≡ slot ss place → q ≡ w.player → new ≡ set ss (slot_of r.frame) (Some r) →
+    a ≡ new_answer (first_clash game q (in_order new)) (A.place_of game r.frame == at.commits + at.resolved) → a ≡ answer game w r
 offer_new game w ss new rival closed at r place q far a is o place_is test fails empty player new_is a_is =
-    let lt = within_slots game at.next ss r.frame far is.ahead o.held.places test fails in
-    let none : slot ss (place_of r.frame) ≡ None = ap (slot ss) (sym place_is) ∙ sym empty in
+    let lt = within_slots game (at.commits + at.resolved) ss r.frame far is.ahead o.held.places test fails in
+    let none : slot ss (slot_of r.frame) ≡ None = ap (slot ss) (sym place_is) ∙ sym empty in
     let frames : in_order new ≡ with_frame w r =
-    ap in_order new_is ∙ in_order_set ss (place_of r.frame) r lt none o.later ∙ ap (λ (rs : List Received). rs ++ r ∷ []) (sym (frames_alone ss rival o.alone) ∙ ap (λ (x : Seen). x.frames) o.view) in
+    ap in_order new_is ∙ in_order_set ss (slot_of r.frame) r lt none o.later ∙ ap (λ (rs : List Received). rs ++ r ∷ []) (sym (frames_alone ss rival o.alone) ∙ ap (λ (x : Seen). x.frames) o.view) in
     answer_new game w r a (far_of game w ss rival closed at r far o test ∙ fails)
-    (same_of game w ss rival closed at r false o (same_not_there w.player at.next place ss r.frame o.held.slots place_is (λ g e. absurd (let no : None ≡ Some g = empty ∙ e in cc))))
-    (a_is ∙ ap (λ (n : ℕ). new_answer (first_clash game n (in_order new)) (place_of r.frame == at.next)) player
-    ∙ ap (λ (rs : List Received). new_answer (first_clash game w.player rs) (place_of r.frame == at.next)) frames
-    ∙ ap (new_answer (first_clash game w.player (with_frame w r))) (next_test game w ss rival closed at r is o))
+    (same_of game w ss rival closed at r false o (same_not_there w.player at.commits at.resolved place ss r.frame o.held.slots place_is (λ g e. absurd (let no : None ≡ Some g = empty ∙ e in cc))))
+    (a_is ∙ ap (λ (n : ℕ). new_answer (first_clash game n (in_order new)) (A.place_of game r.frame == at.commits + at.resolved)) player
+    ∙ ap (λ (rs : List Received). new_answer (first_clash game w.player rs) (A.place_of game r.frame == at.commits + at.resolved)) frames
+    ∙ ap (new_answer (first_clash game w.player (with_frame w r))) (next_test game w ss rival closed at r o))
 
 drop_whole : {X : Type 0} (n : ℕ) (xs : List X) → length xs ≤ n → drop n xs ≡ []
 drop_whole zero [] h = refl
@@ -118,36 +117,36 @@ written_back : (len : ℕ) (ss new : List (Option Received)) → len ≡ length 
 written_back len ss new e f = ap (λ (xs : List (Option Received)). take len (new ++ xs)) (drop_whole (length new) ss (omega arith)) ∙ take_whole len new (omega arith)
 
 pub offer_frames : (game : Game) (w : Seen) (ss new : List (Option Received)) (rival : Option Received) (closed : Bool) (at : Reach) (r : Received) (place count : ℕ) (far : Bool) (a : Offer) (clash : Option Clash) (next : Bool) → IsSession game → IsOpen game w ss rival closed at r.entry →
-    count ≡ length ss → place ≡ place_of r.frame → far ≡ A.is_beyond game at.next r.frame → far ≡ false → None ≡ slot ss place → new ≡ set ss (place_of r.frame) (Some r) → a ≡ new_answer clash next →
+    count ≡ length ss → place ≡ slot_of r.frame → far ≡ A.is_beyond game (at.commits + at.resolved) r.frame → far ≡ false → None ≡ slot ss place → new ≡ set ss (slot_of r.frame) (Some r) → a ≡ new_answer clash next →
     in_order (take count (new ++ drop (length new) ss)) ++ option_to_list rival ≡ frames_after w r a
 offer_frames game w ss new rival closed at r place count far a clash next is o count_is place_is test fails empty new_is a_is =
-    let lt = within_slots game at.next ss r.frame far is.ahead o.held.places test fails in
-    let none : slot ss (place_of r.frame) ≡ None = ap (slot ss) (sym place_is) ∙ sym empty in
-    ap (λ (xs : List (Option Received)). in_order xs ++ option_to_list rival) (written_back count ss new count_is (ap length new_is ∙ length-set ss (place_of r.frame) (Some r)) ∙ new_is)
-    ∙ ap (λ (x : Option Received). in_order (set ss (place_of r.frame) (Some r)) ++ option_to_list x) o.alone
-    ∙ frames_joined ss rival (place_of r.frame) r o.alone lt none o.later
+    let lt = within_slots game (at.commits + at.resolved) ss r.frame far is.ahead o.held.places test fails in
+    let none : slot ss (slot_of r.frame) ≡ None = ap (slot ss) (sym place_is) ∙ sym empty in
+    ap (λ (xs : List (Option Received)). in_order xs ++ option_to_list rival) (written_back count ss new count_is (ap length new_is ∙ length-set ss (slot_of r.frame) (Some r)) ∙ new_is)
+    ∙ ap (λ (x : Option Received). in_order (set ss (slot_of r.frame) (Some r)) ++ option_to_list x) o.alone
+    ∙ frames_joined ss rival (slot_of r.frame) r o.alone lt none o.later
     ∙ ap (λ (x : Seen). with_frame x r) o.view ∙ after_new w r clash next a a_is
 
 -- beside another frame of its place
 pub offer_rival : (game : Game) (w : Seen) (ss : List (Option Received)) (rival : Option Received) (closed : Bool) (at : Reach) (r h : Received) (place : ℕ) (far same : Bool) (clash : Clash) (other : Option Received) → IsSession game → IsOpen game w ss rival closed at r.entry →
-    player_of r.frame ≡ w.player → place ≡ place_of r.frame → far ≡ A.is_beyond game at.next r.frame → far ≡ false → Some h ≡ slot ss place → same ≡ frame_eq h.frame r.frame → same ≡ false →
-    other ≡ slot ss (other_place r.frame) → clash ≡ rival_clash game h other r → Conflict clash ≡ answer game w r
+    player_of r.frame ≡ w.player → place ≡ slot_of r.frame → far ≡ A.is_beyond game (at.commits + at.resolved) r.frame → far ≡ false → Some h ≡ slot ss place → same ≡ frame_eq h.frame r.frame → same ≡ false →
+    other ≡ slot ss (other_slot r.frame) → clash ≡ rival_clash game h other r → Conflict clash ≡ answer game w r
 offer_rival game w ss rival closed at r h place far same clash other is o player place_is test fails there is_same apart other_is clash_is =
-    let lt = within_slots game at.next ss r.frame far is.ahead o.held.places test fails in
-    let here : slot ss (place_of r.frame) ≡ Some h = ap (slot ss) (sym place_is) ∙ sym there in
+    let lt = within_slots game (at.commits + at.resolved) ss r.frame far is.ahead o.held.places test fails in
+    let here : slot ss (slot_of r.frame) ≡ Some h = ap (slot ss) (sym place_is) ∙ sym there in
     let differ : frame_eq h.frame r.frame ≡ false = sym is_same ∙ apart in
     let found = rival_first_clash game w.player ss at r h is o.held o.clean player lt here differ in
     answer_new game w r (Conflict clash) (far_of game w ss rival closed at r far o test ∙ fails)
-    (same_of game w ss rival closed at r false o (same_not_there w.player at.next place ss r.frame o.held.slots place_is (λ g e. let some : Some h ≡ Some g = there ∙ e in let it : h ≡ g = cc in ap (λ (x : Received). frame_eq x.frame r.frame) (sym it) ∙ differ)))
+    (same_of game w ss rival closed at r false o (same_not_there w.player at.commits at.resolved place ss r.frame o.held.slots place_is (λ g e. let some : Some h ≡ Some g = there ∙ e in let it : h ≡ g = cc in ap (λ (x : Received). frame_eq x.frame r.frame) (sym it) ∙ differ)))
     (ap (λ (x : Option Clash). new_answer x (A.place_of game r.frame == places_in w.known))
     (ap (λ (x : Clash). Some x) (clash_is ∙ ap (λ (x : Option Received). rival_clash game h x r) other_is) ∙ found
     ∙ ap (λ (rs : List Received). first_clash game w.player (rs ++ r ∷ [])) (sym (frames_alone ss rival o.alone) ∙ ap (λ (x : Seen). x.frames) o.view)))
 
 pub rival_window : (game : Game) (w : Seen) (q : ℕ) (ss : List (Option Received)) (rival : Option Received) (closed : Bool) (at : Reach) (r h : Received) (place : ℕ) → IsSession game → IsOpen game w ss rival closed at r.entry → q ≡ w.player →
-    place ≡ place_of r.frame → Some h ≡ slot ss place → IsWindow game (seen_of q ss (Some r) true at.next at.track)
+    place ≡ slot_of r.frame → Some h ≡ slot ss place → IsWindow game (seen_of q ss (Some r) true at)
 rival_window game w q ss rival closed at r h place is o player place_is there =
-    let here : slot ss (place_of r.frame) ≡ Some h = ap (slot ss) (sym place_is) ∙ sym there in
-    let P : ℕ → Type 0 = λ n. IsWindow game (seen_of n ss (Some r) true at.next at.track) in
+    let here : slot ss (slot_of r.frame) ≡ Some h = ap (slot ss) (sym place_is) ∙ sym there in
+    let P : ℕ → Type 0 = λ n. IsWindow game (seen_of n ss (Some r) true at) in
     subst P (sym player) (record {
       player = o.held.player;
       places = o.held.places;

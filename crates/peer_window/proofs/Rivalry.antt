@@ -21,7 +21,7 @@ use Rattle.peer_window.specs.declared.received.Received.{Received}
 use Rattle.peer_window.specs.declared.received.Clash.{Clash}
 use Rattle.peer_window.specs.declared.walk.Reach.{Reach}
 use Rattle.peer_window.specs.Clashes.{clash_among, clash_in, clash_of, first_clash, lower_entry, of_turn, rival_clash, rival_first, rival_kind, same_digest}
-use Rattle.peer_window.specs.Slots.{in_order, other_place, place_of, shown, slot}
+use Rattle.peer_window.specs.Slots.{in_order, other_slot, slot_of, shown, slot}
 use Rattle.peer_window.specs.Windows.{IsHeld}
 use Rattle.peer_window.proofs.Clashing.{pair_same}
 use Rattle.peer_window.proofs.Holding.{pairs_agree, turn_low}
@@ -171,70 +171,70 @@ commits_differ game h r q t d e a b apart =
     ∙ sym (ap (λ (c : Bool). c && (t == t) && digest_eq d e) (eq-eqb q q refl) ∙ ap (λ (c : Bool). c && digest_eq d e) (eq-eqb t t refl)) ∙ frames
 
 -- the first clash with a frame that comes beside a different one of its place
-pub rival_first_clash : (game : Game) (q : ℕ) (ss : List (Option Received)) (at : Reach) (r h : Received) → IsSession game → IsHeld game q ss at.next at.track → first_clash game q (in_order ss) ≡ None →
-    player_of r.frame ≡ q → place_of r.frame < length ss → slot ss (place_of r.frame) ≡ Some h → frame_eq h.frame r.frame ≡ false →
-    Some (rival_clash game h (slot ss (other_place r.frame)) r) ≡ first_clash game q (in_order ss ++ r ∷ [])
+pub rival_first_clash : (game : Game) (q : ℕ) (ss : List (Option Received)) (at : Reach) (r h : Received) → IsSession game → IsHeld game q ss at → first_clash game q (in_order ss) ≡ None →
+    player_of r.frame ≡ q → slot_of r.frame < length ss → slot ss (slot_of r.frame) ≡ Some h → frame_eq h.frame r.frame ≡ false →
+    Some (rival_clash game h (slot ss (other_slot r.frame)) r) ≡ first_clash game q (in_order ss ++ r ∷ [])
 unfolding first_clash clash_in digest_of
 rival_first_clash game q ss at r h is w clean own lt e apart = go r.frame refl
   where
-    among : (t : ℕ) → clash_in game q (in_order ss ++ r ∷ []) t ≡ first_of (clash_among game q t (shown ss at.next) (of_turn t (in_order ss ++ r ∷ []))) kinds
+    among : (t : ℕ) → clash_in game q (in_order ss ++ r ∷ []) t ≡ first_of (clash_among game q t (shown ss at.commits at.resolved) (of_turn t (in_order ss ++ r ∷ []))) kinds
     among t = ap (λ (x : Known). first_of (clash_among game q t x (of_turn t (in_order ss ++ r ∷ []))) kinds) (rival_known game q ss at r h is w clean e)
 
-    was : (t : ℕ) → clash_in game q (in_order ss) t ≡ first_of (clash_among game q t (shown ss at.next) (of_turn t (in_order ss))) kinds
+    was : (t : ℕ) → clash_in game q (in_order ss) t ≡ first_of (clash_among game q t (shown ss at.commits at.resolved) (of_turn t (in_order ss))) kinds
     was t = ap (λ (x : Known). first_of (clash_among game q t x (of_turn t (in_order ss))) kinds) w.known
 
     before : (t : ℕ) → t < turn_of r.frame → t < game.turns → clash_in game q (in_order ss ++ r ∷ []) t ≡ None
     before t lower below =
         among t
-        ∙ ap (λ (rs : List Received). first_of (clash_among game q t (shown ss at.next) rs) kinds) (turn_append t (in_order ss) r false (ne_eqb (turn_of r.frame) t (λ x. omega arith)) ∙ append_nil (of_turn t (in_order ss)))
+        ∙ ap (λ (rs : List Received). first_of (clash_among game q t (shown ss at.commits at.resolved) rs) kinds) (turn_append t (in_order ss) r false (ne_eqb (turn_of r.frame) t (λ x. omega arith)) ∙ append_nil (of_turn t (in_order ss)))
         ∙ sym (was t) ∙ range_none (clash_in game q (in_order ss)) 0 game.turns t clean (omega arith) (omega arith)
 
-    found : (x : Clash) → first_of (clash_among game q (turn_of r.frame) (shown ss at.next) (in_order (slot ss (2 * turn_of r.frame) ∷ slot ss (2 * turn_of r.frame + 1) ∷ []) ++ r ∷ [])) kinds ≡ Some x → Some x ≡ first_of (clash_in game q (in_order ss ++ r ∷ [])) (range_with_len 0 game.turns)
+    found : (x : Clash) → first_of (clash_among game q (turn_of r.frame) (shown ss at.commits at.resolved) (in_order (slot ss (2 * turn_of r.frame) ∷ slot ss (2 * turn_of r.frame + 1) ∷ []) ++ r ∷ [])) kinds ≡ Some x → Some x ≡ first_of (clash_in game q (in_order ss ++ r ∷ [])) (range_with_len 0 game.turns)
     found x f =
         let low = turn_low r.frame in
         let places = w.places in
         sym (range_at (clash_in game q (in_order ss ++ r ∷ [])) 0 game.turns (turn_of r.frame) x (omega arith) (omega arith) (λ t le lower. before t lower (omega arith))
         (among (turn_of r.frame)
-        ∙ ap (λ (rs : List Received). first_of (clash_among game q (turn_of r.frame) (shown ss at.next) rs) kinds)
-        (turn_append (turn_of r.frame) (in_order ss) r true (eq-eqb (turn_of r.frame) (turn_of r.frame) refl) ∙ ap (λ (rs : List Received). rs ++ r ∷ []) (turn_slots q at.next (turn_of r.frame) ss w.slots)) ∙ f))
+        ∙ ap (λ (rs : List Received). first_of (clash_among game q (turn_of r.frame) (shown ss at.commits at.resolved) rs) kinds)
+        (turn_append (turn_of r.frame) (in_order ss) r true (eq-eqb (turn_of r.frame) (turn_of r.frame) refl) ∙ ap (λ (rs : List Received). rs ++ r ∷ []) (turn_slots q at.commits at.resolved (turn_of r.frame) ss w.slots)) ∙ f))
 
     reveals : (p t : ℕ) (m : Move) (o : Nonce) → r.frame ≡ Reveal p t m o → turn_of r.frame ≡ t → slot ss (2 * t + 1) ≡ Some h → t < game.turns → is_reveal h.frame ≡ true → is_reveal r.frame ≡ true →
         ((c : Received) → slot ss (2 * t) ≡ Some c → (is_reveal c.frame ≡ false) × (same_digest game c h ≡ true)) → (b : Bool) → same_digest game h r ≡ b →
-        Some (rival_clash game h (slot ss (other_place r.frame)) r) ≡ first_of (clash_in game q (in_order ss ++ r ∷ [])) (range_with_len 0 game.turns)
+        Some (rival_clash game h (slot ss (other_slot r.frame)) r) ≡ first_of (clash_in game q (in_order ss ++ r ∷ [])) (range_with_len 0 game.turns)
     reveals p t m o f at_turn here below a b c s i =
         ap (λ (x : Clash). Some x)
-        (ap (λ (x : TurnFrame). let k : Clash = record { turn = turn_of x; kind = rival_kind game h r x; first = rival_first game h (slot ss (other_place x)) r x; second = r.entry } in k) f
+        (ap (λ (x : TurnFrame). let k : Clash = record { turn = turn_of x; kind = rival_kind game h r x; first = rival_first game h (slot ss (other_slot x)) r x; second = r.entry } in k) f
         ∙ ap (λ (x : Bool). let k : Clash = record { turn = t; kind = if x then Collision else BadOpening; first = if x then h.entry else lower_entry h (slot ss (2 * t)); second = r.entry } in k) i)
         ∙ by_digest s i
       where
-        at_slots : (x : Clash) → first_of (clash_among game q t (shown ss at.next) (in_order (slot ss (2 * t) ∷ Some h ∷ []) ++ r ∷ [])) kinds ≡ Some x → Some x ≡ first_of (clash_in game q (in_order ss ++ r ∷ [])) (range_with_len 0 game.turns)
+        at_slots : (x : Clash) → first_of (clash_among game q t (shown ss at.commits at.resolved) (in_order (slot ss (2 * t) ∷ Some h ∷ []) ++ r ∷ [])) kinds ≡ Some x → Some x ≡ first_of (clash_in game q (in_order ss ++ r ∷ [])) (range_with_len 0 game.turns)
         at_slots x v =
             found x
-            (ap (λ (n : ℕ). first_of (clash_among game q n (shown ss at.next) (in_order (slot ss (2 * n) ∷ slot ss (2 * n + 1) ∷ []) ++ r ∷ [])) kinds) at_turn
-            ∙ ap (λ (y : Option Received). first_of (clash_among game q t (shown ss at.next) (in_order (slot ss (2 * t) ∷ y ∷ []) ++ r ∷ [])) kinds) here ∙ v)
+            (ap (λ (n : ℕ). first_of (clash_among game q n (shown ss at.commits at.resolved) (in_order (slot ss (2 * n) ∷ slot ss (2 * n + 1) ∷ []) ++ r ∷ [])) kinds) at_turn
+            ∙ ap (λ (y : Option Received). first_of (clash_among game q t (shown ss at.commits at.resolved) (in_order (slot ss (2 * t) ∷ y ∷ []) ++ r ∷ [])) kinds) here ∙ v)
 
         by_digest : (x : Bool) → same_digest game h r ≡ x → Some (record { turn = t; kind = if x then Collision else BadOpening; first = if x then h.entry else lower_entry h (slot ss (2 * t)); second = r.entry })
             ≡ first_of (clash_in game q (in_order ss ++ r ∷ [])) (range_with_len 0 game.turns)
-        by_digest true j = at_slots _ (rival_collides game q t (shown ss at.next) h r (slot ss (2 * t)) a b j apart c)
-        by_digest false j = at_slots _ (rival_opens game q t (shown ss at.next) h r (slot ss (2 * t)) a b j c)
+        by_digest true j = at_slots _ (rival_collides game q t (shown ss at.commits at.resolved) h r (slot ss (2 * t)) a b j apart c)
+        by_digest false j = at_slots _ (rival_opens game q t (shown ss at.commits at.resolved) h r (slot ss (2 * t)) a b j c)
 
-    go : (f : TurnFrame) → r.frame ≡ f → Some (rival_clash game h (slot ss (other_place r.frame)) r) ≡ first_of (clash_in game q (in_order ss ++ r ∷ [])) (range_with_len 0 game.turns)
+    go : (f : TurnFrame) → r.frame ≡ f → Some (rival_clash game h (slot ss (other_slot r.frame)) r) ≡ first_of (clash_in game q (in_order ss ++ r ∷ [])) (range_with_len 0 game.turns)
     go (Commit p t d) f =
         let player : p ≡ q = ap player_of (sym f) ∙ own in
-        let at_place : place_of r.frame ≡ 2 * t = ap place_of f in
+        let at_place : slot_of r.frame ≡ 2 * t = ap slot_of f in
         let at_turn : turn_of r.frame ≡ t = ap turn_of f in
         let here : slot ss (2 * t) ≡ Some h = ap (slot ss) (sym at_place) ∙ e in
         let mine = w.slots.own (2 * t) h here in
         let hc = is_commitment h.frame q t mine.0 mine.1 in
         let differ = commits_differ game h r q t hc.0 d hc.1 (f ∙ ap (λ (x : ℕ). Commit x t d) player) apart in
-        let value = rival_commits game q t (shown ss at.next) h r (slot ss (2 * t + 1)) (commits_at h.frame q t hc.0 hc.1) (commits_at r.frame p t d f) differ
+        let value = rival_commits game q t (shown ss at.commits at.resolved) h r (slot ss (2 * t + 1)) (commits_at h.frame q t hc.0 hc.1) (commits_at r.frame p t d f) differ
         (λ g i. let k = S.is_reveal g.frame q t (w.slots.own (2 * t + 1) g i).0 (w.slots.own (2 * t + 1) g i).1 in reveals_at g.frame q t k.0 k.1 k.2) in
-        ap (λ (x : Clash). Some x) (ap (λ (x : TurnFrame). let c : Clash = record { turn = turn_of x; kind = rival_kind game h r x; first = rival_first game h (slot ss (other_place x)) r x; second = r.entry } in c) f)
+        ap (λ (x : Clash). Some x) (ap (λ (x : TurnFrame). let c : Clash = record { turn = turn_of x; kind = rival_kind game h r x; first = rival_first game h (slot ss (other_slot x)) r x; second = r.entry } in c) f)
         ∙ found (clash_of t TwoCommits (h, r))
-        (ap (λ (n : ℕ). first_of (clash_among game q n (shown ss at.next) (in_order (slot ss (2 * n) ∷ slot ss (2 * n + 1) ∷ []) ++ r ∷ [])) kinds) at_turn
-        ∙ ap (λ (o : Option Received). first_of (clash_among game q t (shown ss at.next) (in_order (o ∷ slot ss (2 * t + 1) ∷ []) ++ r ∷ [])) kinds) here ∙ value)
+        (ap (λ (n : ℕ). first_of (clash_among game q n (shown ss at.commits at.resolved) (in_order (slot ss (2 * n) ∷ slot ss (2 * n + 1) ∷ []) ++ r ∷ [])) kinds) at_turn
+        ∙ ap (λ (o : Option Received). first_of (clash_among game q t (shown ss at.commits at.resolved) (in_order (o ∷ slot ss (2 * t + 1) ∷ []) ++ r ∷ [])) kinds) here ∙ value)
     go (Reveal p t m o) f =
-        let at_place : place_of r.frame ≡ 2 * t + 1 = ap place_of f in
+        let at_place : slot_of r.frame ≡ 2 * t + 1 = ap slot_of f in
         let at_turn : turn_of r.frame ≡ t = ap turn_of f in
         let here : slot ss (2 * t + 1) ≡ Some h = ap (slot ss) (sym at_place) ∙ e in
         let mine = w.slots.own (2 * t + 1) h here in

@@ -1,5 +1,5 @@
--- Slots: the frames of a player's stream by their places, and the list of them in the order in which they came.
-use Rattle.std.specs.Prelude.{◌≡◌, ℕ, zero, suc, ◌+◌, ◌*◌, ◌/◌, ◌<◌, ◌≤◌, true, List, [], ◌∷◌, ◌++◌, length, map, Option, Some, None, is_some, nat_lt, if◌then◌else◌, slice_index_or}
+-- Slots: the frames of a player's stream by their turns, and the list of them in the order in which they came.
+use Rattle.std.specs.Prelude.{◌≡◌, ℕ, zero, suc, ◌+◌, ◌*◌, ◌<◌, ◌≤◌, true, List, [], ◌∷◌, ◌++◌, length, map, Option, Some, None, is_some, nat_lt, if◌then◌else◌, slice_index_or}
 use Rattle.definitions.specs.declared.world.Move.{Move}
 use Rattle.definitions.specs.declared.openings.Digest.{Digest}
 use Rattle.definitions.specs.declared.frames.TurnFrame.{TurnFrame}
@@ -9,17 +9,17 @@ use Rattle.definitions.specs.Logs.{player_of}
 use Rattle.definitions.specs.Held.{Known}
 use Rattle.peer_window.specs.declared.received.Received.{Received}
 
--- the place of a frame, where players commit one turn ahead
-abbrev pub place_of : TurnFrame → ℕ
-place_of (Commit p t d) = 2 * t
-place_of (Reveal p t m n) = 2 * t + 1
+-- the slot of a frame: two a turn, that of the commitment and then that of the reveal
+abbrev pub slot_of : TurnFrame → ℕ
+slot_of (Commit p t d) = 2 * t
+slot_of (Reveal p t m n) = 2 * t + 1
 
--- the place of the turn's other frame
-abbrev pub other_place : TurnFrame → ℕ
-other_place (Commit p t d) = 2 * t + 1
-other_place (Reveal p t m n) = 2 * t
+-- the slot of the turn's other frame
+abbrev pub other_slot : TurnFrame → ℕ
+other_slot (Commit p t d) = 2 * t + 1
+other_slot (Reveal p t m n) = 2 * t
 
--- what is held at the place; past the last, nothing
+-- what the slot holds; past the last, nothing
 abbrev pub slot : List (Option Received) → ℕ → Option Received
 slot ss p = slice_index_or ss p None
 
@@ -69,13 +69,15 @@ unfoldable pub moves_to : List (Option Received) → ℕ → List Move
 moves_to ss zero = []
 moves_to ss (suc t) = moves_to ss t ++ move_in (slot ss (2 * t + 1))
 
--- what the frames of the places below this one show
-abbrev pub shown : List (Option Received) → ℕ → Known
-shown ss n = record { digests = digests_to ss ((n + 1) / 2); moves = moves_to ss (n / 2) }
+-- what the slots of so many commitments and reveals show
+abbrev pub shown : List (Option Received) → (commits resolved : ℕ) → Known
+shown ss c u = record { digests = digests_to ss c; moves = moves_to ss u }
 
--- each slot holds a frame of its own place and of the player, and those below the next place are all filled
-pub record AreSlots (player : ℕ) (ss : List (Option Received)) (next : ℕ) : Type 0 where
-  pub own : (p : ℕ) (r : Received) → slot ss p ≡ Some r → (place_of r.frame ≡ p) × (player_of r.frame ≡ player)
-  pub there : (p : ℕ) → p < next → is_some (slot ss p) ≡ true
-  pub within : next ≤ length ss
+-- each slot holds a frame of its own and of the player; so many turns are committed, and so many resolved
+pub record AreSlots (player : ℕ) (ss : List (Option Received)) (commits resolved : ℕ) : Type 0 where
+  pub own : (p : ℕ) (r : Received) → slot ss p ≡ Some r → (slot_of r.frame ≡ p) × (player_of r.frame ≡ player)
+  pub committed : (t : ℕ) → t < commits → is_some (slot ss (2 * t)) ≡ true
+  pub revealed : (t : ℕ) → t < resolved → is_some (slot ss (2 * t + 1)) ≡ true
+  pub before : resolved ≤ commits
+  pub within : 2 * commits ≤ length ss
   pub few : length ss ≤ 2 * MOST_TURNS

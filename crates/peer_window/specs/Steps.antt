@@ -1,5 +1,5 @@
--- Steps: what stands at the next place of a stream, and how far a walk over the slots comes.
-use Rattle.std.specs.Prelude.{◌≡◌, ℕ, ◌-◌, List, Option, Some, None}
+-- Steps: what stands next in a stream, and how far a walk over the slots comes.
+use Rattle.std.specs.Prelude.{◌≡◌, ℕ, ◌+◌, ◌*◌, List, Option, Some, None, Bool, min, nat_lt, if◌then◌else◌}
 use Rattle.definitions.specs.declared.world.Track.{Track}
 use Rattle.definitions.specs.declared.openings.Opening.{Opening}
 use Rattle.definitions.specs.declared.frames.TurnFrame.{TurnFrame}
@@ -14,48 +14,60 @@ use Rattle.peer_window.specs.declared.received.Received.{Received}
 use Rattle.peer_window.specs.declared.received.Clash.{Clash}
 use Rattle.peer_window.specs.declared.walk.Reach.{Reach}
 use Rattle.peer_window.specs.declared.walk.Step.{Step}
-use Rattle.peer_window.specs.declared.walk.Step.TheVariants.{On, Halt, Illegal}
+use Rattle.peer_window.specs.declared.walk.Step.TheVariants.{Committed, Resolved, Halt, Illegal}
 use Rattle.peer_window.specs.declared.walk.Walked.{Walked}
 use Rattle.peer_window.specs.Clashes.{illegal_clash}
 use Rattle.peer_window.specs.Slots.{slot, in_order, frames_in, shown}
 
+-- the step over a commitment: one stands there, or none
+abbrev pub commit_step : Option Received → Step
+commit_step None = Halt
+commit_step (Some r) = Committed
+
 -- the step over a reveal, by its judgement
 abbrev pub judged_step : Received → Received → Verdict → Step
-judged_step a b (V.Good track) = On track
+judged_step a b (V.Good track) = Resolved track
 judged_step a b V.BadOpening = Halt
 judged_step a b (V.Illegal fault) = Illegal (illegal_clash a b)
 
--- the step over a reveal, by what stands before it
+-- the step over a reveal, by the commitment that is held of its turn
 abbrev pub reveal_step : Game → Track → Option Received → Received → Opening → Step
 reveal_step game track None b o = Halt
 reveal_step game track (Some a) b o = judged_step a b (judgement game track (digest_of game a.frame) o)
 
--- the step over a frame
+-- the step over what stands in a reveal's slot
 abbrev pub frame_step : Game → Track → Option Received → Received → TurnFrame → Step
-frame_step game track before r (Commit p t d) = On track
+frame_step game track before r (Commit p t d) = Halt
 frame_step game track before r (Reveal p t m n) = reveal_step game track before r (record { player = p; turn = t; mv = m; nonce = n })
 
 abbrev pub slot_step : Game → Track → Option Received → Option Received → Step
 slot_step game track before None = Halt
 slot_step game track before (Some r) = frame_step game track before r r.frame
 
--- the step from the next place on
+-- the next frame is a commitment, as many turns ahead as players commit
+abbrev pub is_commit_next : Game → Reach → Bool
+is_commit_next game at = nat_lt at.commits (min (at.resolved + game.ahead) game.turns)
+
+-- the step over the next frame
 abbrev pub step_from : Game → List (Option Received) → Reach → Step
-step_from game ss at = slot_step game at.track (slot ss (at.next - 1)) (slot ss at.next)
+step_from game ss at =
+    if is_commit_next game at then commit_step (slot ss (2 * at.commits))
+    else slot_step game at.track (slot ss (2 * at.resolved)) (slot ss (2 * at.resolved + 1))
 
 -- what a step says where the walk ends with it
 abbrev pub stop_of : Step → Option (Option Clash)
-stop_of (On track) = None
+stop_of Committed = None
+stop_of (Resolved track) = None
 stop_of Halt = Some None
 stop_of (Illegal clash) = Some (Some clash)
 
--- so many places of the player's stream are there, and lead to this track
+-- so much of the player's stream is there, and leads to this track
 pub record IsReach (game : Game) (q : ℕ) (ss : List (Option Received)) (at : Reach) : Type 0 where
-  pub known : known_to game q (frames_in (in_order ss)) at.next ≡ shown ss at.next
-  pub track : at.track ≡ track_after game q (shown ss at.next).moves
+  pub known : known_to game q (frames_in (in_order ss)) (at.commits + at.resolved) ≡ shown ss at.commits at.resolved
+  pub track : at.track ≡ track_after game q (shown ss at.commits at.resolved).moves
 
--- the places that are there, and no more of them
+-- what is there, and no more of it
 pub record IsWalked (game : Game) (q : ℕ) (ss : List (Option Received)) (w : Walked) : Type 0 where
   pub reach : IsReach game q ss w.reach
-  pub whole : next_known game q (frames_in (in_order ss)) (shown ss w.reach.next) ≡ shown ss w.reach.next
+  pub whole : next_known game q (frames_in (in_order ss)) (shown ss w.reach.commits w.reach.resolved) ≡ shown ss w.reach.commits w.reach.resolved
   pub stop : stop_of (step_from game ss w.reach) ≡ Some w.illegal

@@ -1,31 +1,34 @@
-//! How far a player's stream goes: over the slots from the next place on, until one is empty or doesn't fit.
+//! How far a player's stream goes: over the slots of its next frames, until one is empty or doesn't fit.
 
-ghost use Rattle.std.specs.Prelude.{◌≡◌, ◌<◌, ◌≤◌, ◌*◌, length, IsTrue};
+ghost use Rattle.std.specs.Prelude.{◌≡◌, ◌<◌, ◌≤◌, ◌*◌, ◌+◌, length, IsTrue};
 ghost use Rattle.definitions.specs.World.{players_of, is_open};
 ghost use Rattle.definitions.specs.Logs.{player_of};
-ghost use Rattle.peer_window.specs.Slots.{AreSlots};
+ghost use Rattle.peer_window.specs.Slots.{AreSlots, slot};
 ghost use Rattle.peer_window.specs.Steps as W;
 
 use crate::clashes::illegal_clash;
-use crate::places::slot;
 use crate::received::{Clash, Received};
-use definitions::{Opening, PlayerId, Track, TurnFrame};
+use crate::slots::{commitment_slot, reveal_slot, slot};
+use definitions::{Opening, PlayerId, Track, Turn, TurnFrame};
 use grid_world::Session;
 use move_rules::Walker;
 use reveal_check::{Verdict, check, frame_digest};
 
-/// How many places of the stream are there, and the track after them.
+/// How many turns are committed and how many resolved, and the track after these.
 #[derive(Clone, Copy, Debug, PartialEq, Eq)]
 pub(crate) struct Reach {
-    pub next: u32,
+    pub commits: u32,
+    pub resolved: u32,
     pub track: Track,
 }
 
-/// What stands at the next place.
+/// What stands where the next frame should.
 #[derive(Clone, Copy, Debug, PartialEq, Eq)]
 pub(crate) enum Step {
-    /// A frame that fits: the track after it.
-    On(Track),
+    /// A commitment.
+    Committed,
+    /// A reveal that opens the commitment and is legal: the track after it.
+    Resolved(Track),
     /// Nothing, or a reveal that doesn't open the commitment.
     Halt,
     /// A reveal that opens the commitment and isn't legal.
@@ -39,7 +42,7 @@ pub(crate) struct Walked {
     pub illegal: Option<Clash>,
 }
 
-/// The step over a reveal, by the commitment that stands before it.
+/// The step over a reveal, by the commitment that is held of its turn.
 fn reveal_step(
     session: &Session,
     walker: &mut Walker,
@@ -57,13 +60,13 @@ fn reveal_step(
     };
     let digest = frame_digest(session, &commitment.frame);
     match check(walker, session, track, &digest, opening) {
-        Verdict::Good(next) => Step::On(next),
+        Verdict::Good(next) => Step::Resolved(next),
         Verdict::BadOpening => Step::Halt,
         Verdict::Illegal(_) => Step::Illegal(illegal_clash(commitment, reveal)),
     }
 }
 
-/// The step over a frame that stands at the next place.
+/// The step over what stands in a reveal's slot.
 fn frame_step(
     session: &Session,
     walker: &mut Walker,
@@ -76,7 +79,7 @@ fn frame_step(
     ensures step { result ≡ W.frame_step session.now track.now before.now received.now received.now.frame }
 {
     match received.frame {
-        TurnFrame::Commit { .. } => Step::On(*track),
+        TurnFrame::Commit { .. } => Step::Halt,
         TurnFrame::Reveal {
             player,
             turn,
@@ -94,7 +97,39 @@ fn frame_step(
     }
 }
 
-/// The step from the next place on.
+/// The step over the commitment of a turn.
+fn commit_step(slots: &[Option<Received>], turn: Turn) -> Step
+    ensures { result ≡ W.commit_step (slot slots.now (2 * turn)) }
+{
+    match slot(slots, commitment_slot(turn)) {
+        None => Step::Halt,
+        Some(_) => Step::Committed,
+    }
+}
+
+/// The step over the reveal of a turn.
+fn turn_step(
+    session: &Session,
+    walker: &mut Walker,
+    player: PlayerId,
+    slots: &[Option<Received>],
+    reach: &Reach,
+) -> Step
+    requires player { player < players_of session.now }
+    requires slots { AreSlots player slots.now reach.now.commits reach.now.resolved }
+    requires track { IsTrue (is_open session.now.grid reach.now.track.at) }
+    ensures step { result ≡ W.slot_step session.now reach.now.track (slot slots.now (2 * reach.now.resolved)) (slot slots.now (2 * reach.now.resolved + 1)) }
+{
+    match slot(slots, reveal_slot(reach.resolved)) {
+        None => Step::Halt,
+        Some(received) => {
+            let before = slot(slots, commitment_slot(reach.resolved));
+            frame_step(session, walker, &reach.track, &before, &received)
+        }
+    }
+}
+
+/// The step over the next frame: a commitment as many turns ahead as players commit, and otherwise a reveal.
 fn next_step(
     session: &Session,
     walker: &mut Walker,
@@ -103,20 +138,20 @@ fn next_step(
     reach: &Reach,
 ) -> Step
     requires player { player < players_of session.now }
-    requires slots { AreSlots player slots.now reach.now.next }
+    requires slots { AreSlots player slots.now reach.now.commits reach.now.resolved }
+    requires reach { reach.now.resolved ≤ session.now.turns }
     requires track { IsTrue (is_open session.now.grid reach.now.track.at) }
     ensures step { result ≡ W.step_from session.now slots.now reach.now }
 {
-    match slot(slots, u64::from(reach.next)) {
-        None => Step::Halt,
-        Some(received) => {
-            let before = slot(slots, u64::from(reach.next).saturating_sub(1));
-            frame_step(session, walker, &reach.track, &before, &received)
-        }
+    session.facts();
+    if reach.commits < (reach.resolved + session.ahead()).min(session.turns()) {
+        commit_step(slots, reach.commits)
+    } else {
+        turn_step(session, walker, player, slots, reach)
     }
 }
 
-/// Goes on from the next place as long as the frames fit.
+/// Goes on over the next frames as long as they fit.
 pub(crate) fn walk(
     session: &Session,
     walker: &mut Walker,
@@ -126,19 +161,28 @@ pub(crate) fn walk(
 ) -> Walked
     requires player { player < players_of session.now }
     requires length { length slots.now ≡ 2 * session.now.turns }
-    requires slots { AreSlots player slots.now from.now.next }
+    requires slots { AreSlots player slots.now from.now.commits from.now.resolved }
     requires reach { W.IsReach session.now player slots.now from.now }
     ensures walked { W.IsWalked session.now player slots.now result }
-    ensures slots { AreSlots player slots.now result.reach.next }
-    ensures further { from.now.next ≤ result.reach.next }
+    ensures slots { AreSlots player slots.now result.reach.commits result.reach.resolved }
+    ensures further { from.now.commits ≤ result.reach.commits }
+    ensures later { from.now.resolved ≤ result.reach.resolved }
 {
     session.facts();
     let mut reach = *from;
     loop {
         match next_step(session, walker, player, slots, &reach) {
-            Step::On(track) => {
+            Step::Committed => {
                 reach = Reach {
-                    next: reach.next + 1,
+                    commits: reach.commits + 1,
+                    resolved: reach.resolved,
+                    track: reach.track,
+                };
+            }
+            Step::Resolved(track) => {
+                reach = Reach {
+                    commits: reach.commits,
+                    resolved: reach.resolved + 1,
                     track,
                 };
             }

@@ -6,16 +6,17 @@ ghost use Rattle.definitions.specs.World.{players_of};
 ghost use Rattle.definitions.specs.Lists.{EachIs};
 ghost use Rattle.definitions.specs.Logs.{frame_eq, player_of};
 ghost use Rattle.definitions.specs.Held.{places_in};
-ghost use Rattle.peer_window.specs.Slots.{AreSlots, in_order, slot, place_of};
+ghost use Rattle.definitions.specs.Answers.{place_of};
+ghost use Rattle.peer_window.specs.Slots.{AreSlots, in_order, slot, slot_of};
 ghost use Rattle.peer_window.specs.Clashes.{first_clash};
 ghost use Rattle.peer_window.specs.Windows.{IsWindow, IsHeld, answer, frames_after, new_answer};
 ghost use Rattle.peer_window.specs.Windows as W;
 
 use crate::clashes::{opening_clash, rival_clash};
-use crate::places::{commit_place, other_place, place_of, reveal_place, slot};
 use crate::received::{Clash, Offer, Received};
+use crate::slots::{commitment_slot, other_slot, reveal_slot, slot, slot_of};
 use crate::walk::{Reach, walk};
-use definitions::{Digest, Move, PlayerId, Track, Turn, TurnFrame};
+use definitions::{Digest, FramePlace, Move, Place, PlayerId, Track, Turn, TurnFrame};
 use grid_world::Session;
 use move_rules::{Walker, start_track};
 use std::alloc::{AllocError, Global};
@@ -25,13 +26,13 @@ use std::marker::Model;
 #[derive(Drop)]
 pub struct Window {
     player: PlayerId,
-    // one for each place of the stream
+    // two for each turn
     slots: Vec<Option<Received>>,
-    // the last frame, where the slot of its place holds a different one
+    // the last frame, where its slot holds a different one
     rival: Option<Received>,
     // a frame came that makes a clash
     closed: bool,
-    // the places below are there
+    // how much of the stream is there
     reach: Reach,
 }
 
@@ -40,9 +41,9 @@ impl Model for Window {
 
     ghost Value = { Seen };
 
-    ghost view = { λ w. seen_of w.player w.slots.items w.rival w.closed w.reach.next w.reach.track };
+    ghost view = { λ w. seen_of w.player w.slots.items w.rival w.closed w.reach };
 
-    ghost invariant = { λ w. AreParts w.player w.slots.items w.rival w.closed w.reach.next };
+    ghost invariant = { λ w. AreParts w.player w.slots.items w.rival w.closed w.reach };
 }
 
 /// How far the frames that are held lead, and what became of the last.
@@ -53,10 +54,10 @@ pub(crate) struct Held {
 }
 
 /// So many empty slots.
-fn empty_slots(alloc: Global, places: usize) -> Result<Vec<Option<Received>>, AllocError>
-    ensures { IfOk result (λ v. v.items ≡ replicate places None) }
+fn empty_slots(alloc: Global, count: usize) -> Result<Vec<Option<Received>>, AllocError>
+    ensures { IfOk result (λ v. v.items ≡ replicate count None) }
 {
-    vec![in alloc; None; places]
+    vec![in alloc; None; count]
 }
 
 /// The answer to a new frame, by the first clash that it makes, if it makes one.
@@ -95,7 +96,7 @@ fn is_conflict(offer: &Offer) -> bool
     }
 }
 
-/// Puts a frame into the empty slot of its place, and goes on from the next place as far as the frames lead.
+/// Puts a frame into its empty slot, and goes on from the next one as far as the frames lead.
 fn hold(
     session: &Session,
     walker: &mut Walker,
@@ -104,21 +105,22 @@ fn hold(
     from: &Reach,
     received: &Received,
 ) -> Held
-    requires held { IsHeld session.now player slots.old from.now.next from.now.track }
+    requires held { IsHeld session.now player slots.old from.now }
     requires own { player_of received.now.frame ≡ player }
-    requires place { place_of received.now.frame < length slots.old }
-    requires empty { slot slots.old (place_of received.now.frame) ≡ None }
+    requires place { slot_of received.now.frame < length slots.old }
+    requires empty { slot slots.old (slot_of received.now.frame) ≡ None }
     requires later { EachIs (λ r. r.entry < received.now.entry) (in_order slots.old) }
     requires clean { first_clash session.now player (in_order slots.old) ≡ None }
-    ensures slots { slots.new ≡ slice_set slots.old (place_of received.now.frame) (Some received.now) }
-    ensures held { IsHeld session.now player slots.new result.reach.next result.reach.track }
-    ensures offer { result.offer ≡ new_answer (first_clash session.now player (in_order slots.new)) (place_of received.now.frame == from.now.next) }
+    ensures slots { slots.new ≡ slice_set slots.old (slot_of received.now.frame) (Some received.now) }
+    ensures held { IsHeld session.now player slots.new result.reach }
+    ensures offer { result.offer ≡ new_answer (first_clash session.now player (in_order slots.new)) (place_of session.now received.now.frame == from.now.commits + from.now.resolved) }
 {
     session.facts();
-    let place = place_of(&received.frame);
-    let was_next = place == u64::from(from.next);
-    let other = slot(slots, other_place(&received.frame));
-    slots[place as usize] = Some(*received);
+    let next = FramePlace::from(from.commits + from.resolved);
+    let was_next = session.place_of(&received.frame) == next;
+    let other = slot(slots, other_slot(&received.frame));
+    let at = slot_of(&received.frame);
+    slots[at as usize] = Some(*received);
     let walked = walk(session, walker, player, slots, from);
     let clash = opening_clash(session, &other, received).or(walked.illegal);
     Held {
@@ -147,7 +149,8 @@ impl Window {
             rival: None,
             closed: false,
             reach: Reach {
-                next: 0,
+                commits: 0,
+                resolved: 0,
                 track: start_track(session, player),
             },
         })
@@ -180,15 +183,15 @@ impl Window {
         ensures unchanged { (result ≡ Offer.Far) ⊎ (result ≡ Offer.Same) → self.new ≡ self.old }
     {
         session.facts();
-        let place = place_of(frame);
-        if session.is_beyond(self.reach.next, frame) {
+        if session.is_beyond(self.reach.commits + self.reach.resolved, frame) {
             return Offer::Far;
         }
+        let at = slot_of(frame);
         let received = Received {
             entry,
             frame: *frame,
         };
-        match slot(&self.slots, place) {
+        match slot(&self.slots, at) {
             None => {
                 let held = hold(
                     session,
@@ -206,7 +209,7 @@ impl Window {
                 if is_frame(&held, frame) {
                     return Offer::Same;
                 }
-                let other = slot(&self.slots, other_place(frame));
+                let other = slot(&self.slots, other_slot(frame));
                 self.rival = Some(received);
                 self.closed = true;
                 Offer::Conflict(rival_clash(session, &held, &other, &received))
@@ -218,11 +221,10 @@ impl Window {
     pub fn held(&self, turn: Turn) -> Option<Digest>
         ensures { result ≡ slice_get self.now.known.digests turn }
     {
-        let place = commit_place(turn);
-        if place >= u64::from(self.reach.next) {
+        if turn >= self.reach.commits {
             return None;
         }
-        match slot(&self.slots, place) {
+        match slot(&self.slots, commitment_slot(turn)) {
             None => None,
             Some(received) => match received.frame {
                 TurnFrame::Commit { digest, .. } => Some(digest),
@@ -235,11 +237,10 @@ impl Window {
     pub fn move_at(&self, turn: Turn) -> Option<Move>
         ensures { result ≡ slice_get self.now.known.moves turn }
     {
-        let place = reveal_place(turn);
-        if place >= u64::from(self.reach.next) {
+        if turn >= self.reach.resolved {
             return None;
         }
-        match slot(&self.slots, place) {
+        match slot(&self.slots, reveal_slot(turn)) {
             None => None,
             Some(received) => match received.frame {
                 TurnFrame::Commit { .. } => None,
@@ -252,21 +253,21 @@ impl Window {
     pub fn resolved(&self) -> u32
         ensures { result ≡ length self.now.known.moves }
     {
-        self.reach.next / 2
+        self.reach.resolved
     }
 
     /// How many commitments are held.
     pub fn commits(&self) -> u32
         ensures { result ≡ length self.now.known.digests }
     {
-        (self.reach.next + 1) / 2
+        self.reach.commits
     }
 
     /// The least place of the player's stream that is not there, counted from 0.
-    pub fn next(&self) -> u32
+    pub fn next(&self) -> Place
         ensures { result ≡ places_in self.now.known }
     {
-        self.reach.next
+        self.reach.commits + self.reach.resolved
     }
 
     /// Where the player stands after the turns that are resolved, and its charge.

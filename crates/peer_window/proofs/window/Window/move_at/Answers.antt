@@ -5,17 +5,16 @@ use Rattle.peer_window.specs.Windows.{Seen}
 use Rattle.peer_window.proofs.Lookups.{never_commitment, no_move, the_move}
 use Rattle.peer_window.proofs.window.Window.move_at.Goals as goal
 
-pub returns-then-place-from : goal.returns-then-place-from
-returns-then-place-from c =
-    no_move c.self.inside.player c.self.inside.reach.next c.args.turn c.reveal_place-place.result c.self.inside.slots.items c.args.self.now.known (ap (λ (w : Seen). w.known) (sym c.self.view_is)) c.self.invariant.slots
-    c.reveal_place-place.ensures (omega arith)
+pub returns-then-turn-self : goal.returns-then-turn-self
+returns-then-turn-self c =
+    no_move c.self.inside.player c.self.inside.reach.commits c.self.inside.reach.resolved c.args.turn c.self.inside.slots.items c.args.self.now.known (ap (λ (w : Seen). w.known) (sym c.self.view_is)) c.self.invariant.slots (omega arith)
 
 pub returns-in-Reveal : goal.returns-in-Reveal
 returns-in-Reveal c =
-    the_move c.self.inside.player c.self.inside.reach.next c.args.turn c.reveal_place-place.result c.in-Reveal.player c.in-Reveal.turn c.self.inside.slots.items c.args.self.now.known c.in-Some.received c.in-Reveal.mv c.in-Reveal.nonce
-    (ap (λ (w : Seen). w.known) (sym c.self.view_is)) c.self.invariant.slots c.reveal_place-place.ensures (omega arith) (c.in-Some.ensures ∙ ap (λ (xs : List (Option Received)). slot xs c.reveal_place-place.result) c.deref.ensures.value) c.in-Reveal.is
+    the_move c.self.inside.player c.self.inside.reach.commits c.self.inside.reach.resolved c.args.turn c.reveal_slot.result c.in-Reveal.player c.in-Reveal.turn c.self.inside.slots.items c.args.self.now.known c.in-Some.received c.in-Reveal.mv c.in-Reveal.nonce
+    (ap (λ (w : Seen). w.known) (sym c.self.view_is)) c.self.invariant.slots c.reveal_slot.ensures (omega arith) (c.in-Some.ensures ∙ ap (λ (xs : List (Option Received)). slot xs c.reveal_slot.result) c.deref.ensures.value) c.in-Reveal.is
 
 pub returns-in-Commit : goal.returns-in-Commit
 returns-in-Commit c =
-    never_commitment c.self.inside.player c.self.inside.reach.next c.args.turn c.reveal_place-place.result c.in-Commit.player c.in-Commit.turn c.self.inside.slots.items c.in-Some.received c.in-Commit.digest
-    c.self.invariant.slots c.reveal_place-place.ensures (c.in-Some.ensures ∙ ap (λ (xs : List (Option Received)). slot xs c.reveal_place-place.result) c.deref.ensures.value) c.in-Commit.is
+    never_commitment c.self.inside.player c.self.inside.reach.commits c.self.inside.reach.resolved c.args.turn c.reveal_slot.result c.in-Commit.player c.in-Commit.turn c.self.inside.slots.items c.in-Some.received c.in-Commit.digest
+    c.self.invariant.slots c.reveal_slot.ensures (c.in-Some.ensures ∙ ap (λ (xs : List (Option Received)). slot xs c.reveal_slot.result) c.deref.ensures.value) c.in-Commit.is
