@@ -9,10 +9,10 @@ use Rattle.definitions.specs.Walk.{Walk, is_step, reach_of, walked}
 use Rattle.definitions.specs.Sphere.{sphere_of}
 use Rattle.definitions.specs.Held.{resolved_count}
 use Rattle.definitions.specs.Meets.{cell_before, cells_before, meets}
-use Rattle.definitions.proofs.Cells.{any-cell, any-from, cell_eq-same, cell_eq-true}
+use Rattle.definitions.proofs.Cells.{any-cell, any-from, cell_eq-same, one_has}
+use Rattle.definitions.proofs.Nearness.{has_spread}
 use Rattle.definitions.proofs.Walks.{has-begun, has-stepped}
 use Rattle.definition_laws.specs.Distances.{IsInSphere, IsMeeting, last_cell}
-use Rattle.definition_laws.proofs.Meetings.{has_spread}
 
 -- the walked cells are those to which a walk leads from one of the list
 pub walked_is_walk : (grid : Ground) (k : ℕ) (cells : List Cell) (c : Cell) → has_cell (walked grid k cells) c ≡ true → (b : Cell) × (has_cell cells b ≡ true) × Walk grid k b c
@@ -54,9 +54,6 @@ walk_cut grid m (suc n) a c w =
     let v : Walk grid (suc (n + m)) a c = subst P (suc-add n m) w in
     let far = walk_cut grid m n a v.0 v.1 in
     (far.0, far.1, (v.0, far.2, v.2))
-
-one_has : (a b : Cell) → has_cell (a ∷ []) b ≡ true → b ≡ a
-one_has a b h = let same : cell_eq b a ≡ true = grind arith in cell_eq-true b a same
 
 has_one : (a : Cell) → has_cell (a ∷ []) a ≡ true
 has_one a = let s = cell_eq-same a in grind arith

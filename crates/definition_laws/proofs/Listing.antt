@@ -122,11 +122,6 @@ pub first_false : {X : Type 0} (b : Bool) (x : X) (o : Option X) → b ≡ false
 first_false false x o h = refl
 first_false true x o h = absurd (false≢true (sym h))
 
-pub same_test : (a b : Bool) → (a ≡ true → b ≡ true) → (b ≡ true → a ≡ true) → a ≡ b
-same_test true b f g = sym (f refl)
-same_test false true f g = g refl
-same_test false false f g = refl
-
 pub either_kept : (a b a' b' : Bool) → (a ≡ true → a' ≡ true) → (b ≡ true → b' ≡ true) → (a || b) ≡ true → (a' || b') ≡ true
 either_kept true b a' b' f g h = or_left _ _ (f refl)
 either_kept false b a' b' f g h = or_right a' b' (g h)

@@ -16,7 +16,8 @@ use Rattle.definitions.specs.Held.{Known, known, resolved_count}
 use Rattle.definitions.specs.Logs.{frames_of}
 use Rattle.definitions.specs.declared.logs.Entry.{Entry}
 use Rattle.definitions.proofs.Walks.{Walk-from, has-begun, has-stepped}
-use Rattle.definitions.proofs.Cells.{any-cell, any-from, has-cells, has-filter}
+use Rattle.definitions.proofs.Cells.{any-cell, any-from}
+use Rattle.definitions.proofs.Nearness.{has_spread}
 use Rattle.definition_laws.proofs.Tracks.{AreKnownLegal, are_legal_from_append, known_to_legal, legal_in_reach, legal_walked, track_from_append, walked_walked}
 use Rattle.definition_laws.proofs.Grows.{known_grows}
 
@@ -33,12 +34,6 @@ walked_within grid (suc k) xs ys w c h =
     let found = any-cell (λ b. is_step grid b c) (walked grid k xs) (sym (has-stepped grid (walked grid k xs) c) ∙ h) in
     has-stepped grid (walked grid k ys) c ∙
     any-from (λ b. is_step grid b c) (walked grid k ys) found.0 (walked_within grid k xs ys w found.0 found.1) found.2
-
-pub has_spread : (grid : Ground) (r : ℕ) (xs : List Cell) (c : Cell) → has_cell (spread grid r xs) c ≡ (list_any (λ b. nat_le (distance b c) r) xs && is_inside grid c)
-unfolding spread
-has_spread grid r xs c =
-    has-filter (λ e. list_any (λ b. nat_le (distance b e) r) xs) (cells_of grid) c ∙
-    ap (λ (b : Bool). list_any (λ b. nat_le (distance b c) r) xs && b) (has-cells grid c)
 
 spread_within : (grid : Ground) (r : ℕ) (xs ys : List Cell) → IsWithin xs ys → IsWithin (spread grid r xs) (spread grid r ys)
 spread_within grid r xs ys w c h =

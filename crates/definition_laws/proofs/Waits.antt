@@ -24,7 +24,8 @@ use Rattle.definitions.specs.World.{Game}
 use Rattle.definitions.proofs.Streams.{slot_at-commit}
 use Rattle.definitions.proofs.Slots.{slot_at_commit_is, slot_at_reveal_is}
 use Rattle.definition_laws.proofs.OwnStream.{IsOwn}
-use Rattle.definition_laws.proofs.Listing.{none_past, same_test}
+use Rattle.definition_laws.proofs.Listing.{none_past}
+use Rattle.plain_lemmas.proofs.Tests.{same_tests}
 use Rattle.definition_laws.proofs.Order.{commit_turn}
 use Rattle.definition_laws.proofs.Alike.{digest_eq_same, move_eq_same, nonce_eq_same}
 use Rattle.definition_laws.proofs.Chosen.{find_chosen}
@@ -65,7 +66,7 @@ pub may_choose_allowed : (game : Game) (me : ℕ) (h : List Entry) (m : Move) (n
     is_legal game me (chosen_track game me h) m ≡ true →
     allowed game me h (Chose (length (chosen me h)) m n) ≡ may_choose game me h
 unfolding allows allows_choice may_choose
-may_choose_allowed game me h m n d i legal = same_test _ _ there back
+may_choose_allowed game me h m n d i legal = same_tests _ _ there back
   where
     w : IsOwn game me (made h) (chosen me h)
     w = own_honest game me h d i

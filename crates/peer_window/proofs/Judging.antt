@@ -2,6 +2,7 @@
 use Rattle.std.proofs.Common.{◌≡◌, ℕ, zero, suc, ◌+◌, ◌*◌, ◌<◌, ◌≤◌, List, [], ◌∷◌, length, refl, Bool, true, false, sym, ◌∙◌, ap, arith, Option, Some, None, take}
 use Rattle.std.specs.Prelude.{not, ◌&&◌, if◌then◌else◌, is_none, min, nat_le, slice_get}
 use Rattle.std.proofs.lemmas.Bool.{and_parts, le-leb, lt-leb}
+use Rattle.std.proofs.lemmas.List.{take_all}
 use Rattle.definitions.specs.declared.world.Move.{Move}
 use Rattle.definitions.specs.declared.world.Track.{Track}
 use Rattle.definitions.specs.declared.world.MoveFault.{MoveFault}
@@ -31,12 +32,6 @@ legal_at : (game : Game) (q t : ℕ) (track : Track) (ms : List Move) (m : Move)
 legal_at game q t track [] m h e = absurd (let none : None ≡ Some m = e in cc)
 legal_at game q zero track (x ∷ ms) m h e = let same : x ≡ m = cc in ap (is_legal game q track) (sym same) ∙ (and_parts _ _ h).0
 legal_at game q (suc t) track (x ∷ ms) m h e = legal_at game q t (next_track game track x) ms m (and_parts _ _ h).1 e
-
-take_all : {X : Type 0} (n : ℕ) (xs : List X) → length xs ≤ n → take n xs ≡ xs
-take_all zero [] h = refl
-take_all (suc n) [] h = refl
-take_all zero (x ∷ xs) h = absurd (omega arith)
-take_all {X} (suc n) (x ∷ xs) h = ap (λ (ys : List X). x ∷ ys) (take_all n xs (omega arith))
 
 no_more : (a b : Bool) → (a && false && b) ≡ false
 no_more true b = refl

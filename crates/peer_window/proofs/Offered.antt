@@ -1,7 +1,8 @@
 -- Offered: what an offer does with a window that is still open.
-use Rattle.std.proofs.Common.{◌≡◌, ℕ, zero, suc, ◌+◌, ◌<◌, ◌≤◌, List, [], ◌∷◌, ◌++◌, length, length-set, take, drop, set, refl, Bool, true, false, sym, ◌∙◌, ap, subst, arith, Option, Some, None, ◌*◌}
+use Rattle.std.proofs.Common.{◌≡◌, ℕ, zero, suc, ◌+◌, ◌<◌, ◌≤◌, List, [], ◌∷◌, ◌++◌, append-nil, length, length-set, take, drop, set, refl, Bool, true, false, sym, ◌∙◌, ap, subst, arith, Option, Some, None, ◌*◌}
 use Rattle.std.specs.Prelude.{◌==◌, ◌||◌, nat_le, nat_lt, option_to_list}
 use Rattle.std.proofs.lemmas.Bool.{false≢true, leb-false}
+use Rattle.std.proofs.lemmas.List.{drop_all, take_all}
 use Rattle.std.specs.List.{list_any}
 use Rattle.definitions.specs.declared.frames.TurnFrame.{TurnFrame}
 use Rattle.definitions.specs.World.{Game}
@@ -100,21 +101,9 @@ offer_new game w ss new rival closed at r place q far a is o place_is test fails
     ∙ ap (λ (rs : List Received). new_answer (first_clash game w.player rs) (A.place_of game r.frame == at.commits + at.resolved)) frames
     ∙ ap (new_answer (first_clash game w.player (with_frame w r))) (next_test game w ss rival closed at r o))
 
-drop_whole : {X : Type 0} (n : ℕ) (xs : List X) → length xs ≤ n → drop n xs ≡ []
-drop_whole zero [] h = refl
-drop_whole (suc n) [] h = refl
-drop_whole zero (x ∷ xs) h = absurd (omega arith)
-drop_whole (suc n) (x ∷ xs) h = drop_whole n xs (omega arith)
-
-take_whole : {X : Type 0} (n : ℕ) (xs : List X) → length xs ≤ n → take n (xs ++ []) ≡ xs
-take_whole zero [] h = refl
-take_whole (suc n) [] h = refl
-take_whole zero (x ∷ xs) h = absurd (omega arith)
-take_whole {X} (suc n) (x ∷ xs) h = ap (λ (ys : List X). x ∷ ys) (take_whole n xs (omega arith))
-
 -- slots that were written through a slice
 written_back : (len : ℕ) (ss new : List (Option Received)) → len ≡ length ss → length new ≡ length ss → take len (new ++ drop (length new) ss) ≡ new
-written_back len ss new e f = ap (λ (xs : List (Option Received)). take len (new ++ xs)) (drop_whole (length new) ss (omega arith)) ∙ take_whole len new (omega arith)
+written_back len ss new e f = ap (λ (xs : List (Option Received)). take len (new ++ xs)) (drop_all (length new) ss (omega arith)) ∙ ap (take len) (append-nil new) ∙ take_all len new (omega arith)
 
 pub offer_frames : (game : Game) (w : Seen) (ss new : List (Option Received)) (rival : Option Received) (closed : Bool) (at : Reach) (r : Received) (place count : ℕ) (far : Bool) (a : Offer) (clash : Option Clash) (next : Bool) → IsSession game → IsOpen game w ss rival closed at r.entry →
     count ≡ length ss → place ≡ slot_of r.frame → far ≡ A.is_beyond game (at.commits + at.resolved) r.frame → far ≡ false → None ≡ slot ss place → new ≡ set ss (slot_of r.frame) (Some r) → a ≡ new_answer clash next →

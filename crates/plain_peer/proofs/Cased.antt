@@ -12,7 +12,7 @@ use Rattle.definitions.specs.Moves.{track_after}
 use Rattle.definitions.specs.Logs.{got_of}
 use Rattle.definitions.specs.Held.{Known, known_to, next_known, places_in, with_commit, with_move, first_commit, opened}
 use Rattle.definitions.specs.Findings.{got_known, is_illegal_after, is_illegal_at, opens, sightings_from}
-use Rattle.definition_laws.proofs.Grows.{IsBeginning, IsBeginning_refl, IsBeginning_trans}
+use Rattle.definition_laws.proofs.Grows.{IsBeginning, IsBeginning_refl, IsBeginning_trans, next_grows}
 use Rattle.definition_laws.proofs.Listing.{append_nil, none_past, slice_get_front}
 use Rattle.definition_laws.proofs.Knowing.{known_to_stuck, places_in_le, places_or_stuck}
 use Rattle.grid_world.specs.Sessions.{IsSession}
@@ -23,31 +23,12 @@ use Rattle.plain_peer.specs.Cases.{IsCase, commit_entry, due_for, is_illegal_fro
 use Rattle.streams.proofs.Shown.{stream_facts, known_open}
 
 -- what is known of more places begins with what is known of fewer
-commit_begins : (k : Known) (o : Option Digest) → IsBeginning k (with_commit k o)
-commit_begins k None = IsBeginning_refl k
-commit_begins k (Some d) = record { digests_after = d ∷ []; moves_after = []; digests_are = refl; moves_are = sym (append_nil k.moves) }
-
-move_begins : (k : Known) (o : Option Move) → IsBeginning k (with_move k o)
-move_begins k None = IsBeginning_refl k
-move_begins k (Some m) = record { digests_after = []; moves_after = m ∷ []; digests_are = sym (append_nil k.digests); moves_are = refl }
-
-next_begins : (game : Game) (q : ℕ) (fs : List TurnFrame) (k : Known) → IsBeginning k (next_known game q fs k)
-unfolding next_known
-next_begins game q fs k =
-    go (nat_lt (length k.digests) (min (length k.moves + game.ahead) game.turns)) (nat_lt (length k.moves) game.turns)
-    (first_commit fs (length k.digests)) (opened game q k.moves fs (length k.moves) (slice_get k.digests (length k.moves)))
-  where
-    go : (x y : Bool) (d : Option Digest) (m : Option Move) → IsBeginning k (if x then with_commit k d else if y then with_move k m else k)
-    go true y d m = commit_begins k d
-    go false true d m = move_begins k m
-    go false false d m = IsBeginning_refl k
-
 known_begins : (game : Game) (q : ℕ) (fs : List TurnFrame) (n m : ℕ) → IsBeginning (known_to game q fs n) (known_to game q fs (m + n))
 unfolding known_to
 known_begins game q fs n zero = subst (λ (j : ℕ). IsBeginning (known_to game q fs n) (known_to game q fs j)) (sym (zero-add n)) (IsBeginning_refl _)
 known_begins game q fs n (suc m) =
     subst (λ (j : ℕ). IsBeginning (known_to game q fs n) (known_to game q fs j)) (sym (suc-add m n))
-    (IsBeginning_trans _ _ _ (known_begins game q fs n m) (next_begins game q fs (known_to game q fs (m + n))))
+    (IsBeginning_trans _ _ _ (known_begins game q fs n m) (next_grows game q fs (known_to game q fs (m + n))))
 
 -- a place that is not there of the first n is not there of more
 known_stays : (game : Game) (q : ℕ) (fs : List TurnFrame) (n m : ℕ) → n ≤ m → (places_in (known_to game q fs n) ≡ n → ⊥) → known_to game q fs m ≡ known_to game q fs n

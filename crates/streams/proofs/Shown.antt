@@ -13,24 +13,15 @@ use Rattle.definitions.specs.declared.logs.Entry.{Entry}
 use Rattle.definitions.specs.Logs.{frames_of}
 use Rattle.definitions.specs.Lists.{first_of}
 use Rattle.definitions.specs.Held.{Known, known, known_to, next_known, first_commit, opened, places_in, with_commit, with_move}
-use Rattle.definitions.proofs.Walks.{walked_open}
-use Rattle.definition_laws.proofs.Listing.{none_past}
+use Rattle.definition_laws.proofs.Listing.{none_past, slice_get_last}
 use Rattle.definition_laws.proofs.Knowing.{known_to_orderly, known_to_stuck, next_place_or, places_or_stuck, next_commit, next_reveal, next_end}
-use Rattle.definition_laws.proofs.Tracks.{AreKnownLegal, known_to_legal, legal_in_reach, track_from_append}
+use Rattle.definition_laws.proofs.Tracks.{AreKnownLegal, known_to_legal, moves_open, track_from_append}
 use Rattle.grid_world.specs.Sessions.{IsSession}
 use Rattle.grid_world.proofs.Facts.{seat_open}
 use Rattle.streams.specs.declared.stream.Stream.{Stream}
 use Rattle.streams.specs.Frames.{opening_at}
 use Rattle.streams.specs.Streams.{stream_of, places_of, IsReadFrom, IsStream}
 use Rattle.streams.proofs.Opened.{first_opening_at}
-
--- legal moves lead from an open cell to an open cell
-moves_open : (game : Game) (q : ℕ) (track : Track) (ms : List Move) → is_open game.grid track.at ≡ true → are_legal_from game q track ms ≡ true →
-    is_open game.grid (track_from game track ms).at ≡ true
-moves_open game q track [] o h = o
-moves_open game q track (m ∷ ms) o h =
-    let both = and_parts (is_legal game q track m) (are_legal_from game q (next_track game track m) ms) h in
-    moves_open game q (next_track game track m) ms (walked_open game.grid _ _ _ (legal_in_reach game q track m both.0)) both.1
 
 -- where a player stands after the moves that are known of it is open
 pub known_open : (game : Game) (q n : ℕ) (fs : List TurnFrame) → IsSession game → q < players_of game → is_open game.grid (track_after game q (known_to game q fs n).moves).at ≡ true
@@ -91,10 +82,6 @@ stream_from s r a b c d =
     let at_due : Option Digest → Stream = λ x. record { commits = r.commits; resolved = r.resolved; track = r.track; due = x } in
     ap at_commits a ∙ ap at_resolved b ∙ ap at_track c ∙ ap at_due d
 
-slice_last : {X : Type 0} (xs : List X) (x : X) → slice_get (xs ++ x ∷ []) (length xs) ≡ Some x
-slice_last [] x = refl
-slice_last (y ∷ xs) x = slice_last xs x
-
 -- the stream with one commitment more, and with one move more
 stream_committed : (game : Game) (q : ℕ) (k : Known) (d : Digest) → IsStream game (stream_of game q k) → slice_get k.digests (length k.moves) ≡ None →
     stream_of game q (with_commit k (Some d)) ≡ record { commits = length k.digests + 1; resolved = length k.moves; track = track_after game q k.moves; due = Some d }
@@ -102,7 +89,7 @@ stream_committed game q k d s none =
     let past = none_past k.digests (length k.moves) (ap is_none none) in
     let before = s.before in
     let same : length k.moves ≡ length k.digests = omega arith in
-    stream_from _ _ (length-append k.digests (d ∷ [])) refl refl (ap (slice_get (k.digests ++ d ∷ [])) same ∙ slice_last k.digests d)
+    stream_from _ _ (length-append k.digests (d ∷ [])) refl refl (ap (slice_get (k.digests ++ d ∷ [])) same ∙ slice_get_last k.digests d)
 
 stream_revealed : (game : Game) (q : ℕ) (k : Known) (m : Move) (d : Digest) → IsStream game (stream_of game q k) → slice_get k.digests (length k.moves) ≡ Some d →
     stream_of game q (with_move k (Some m)) ≡ record { commits = length k.digests; resolved = length k.moves + 1; track = next_track game (track_after game q k.moves) m; due = None }
