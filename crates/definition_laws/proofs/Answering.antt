@@ -3,6 +3,7 @@ use Rattle.std.proofs.Common.{Bool, List, None, Some, [], ap, arith, false, inl,
 use Rattle.std.specs.Prelude.{if◌then◌else◌, is_some, nat_le, nat_lt, not, ◌&&◌, ◌||◌, ◌==◌, ◌↔◌}
 use Rattle.std.specs.List.{list_any}
 use Rattle.std.proofs.lemmas.Bool.{and_from, and_parts, cases_lt, cond-false, cond-true, eq-eqb, eqb-true, false≢true, le-leb, leb-true, lt-ltb, ltb-true, ne_eqb, or_cases, or_left, or_right}
+use Rattle.plain_lemmas.proofs.Options.{some_of}
 use Rattle.definitions.specs.declared.frames.TurnFrame.{TurnFrame}
 use Rattle.definitions.specs.declared.frames.TurnFrame.TheVariants.{Commit, Reveal}
 use Rattle.definitions.specs.declared.logs.Entry.{Entry}
@@ -74,10 +75,6 @@ another_is_not : (game : Game) (me q : ℕ) (f : TurnFrame) → is_of_another ga
 another_is_not game me q f e same =
     let other = (and_parts _ _ (and_parts _ _ e).0).1 in
     false≢true (sym (ap not (eq-eqb q me same)) ∙ other)
-
-some_of : {X : Type 0} (o : Option X) → is_some o ≡ true → (x : X) × (o ≡ Some x)
-some_of None e = absurd (false≢true e)
-some_of (Some x) e = (x, refl)
 
 -- a log that is well formed has a frame at each place below the next
 pub place_is_had : (game : Game) (me q : ℕ) (h : List Entry) (f : TurnFrame) → 1 ≤ game.ahead → AreWellFormed game me h → (q ≡ me → ⊥) → turn_of f < game.turns →

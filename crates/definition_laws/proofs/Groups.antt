@@ -3,6 +3,7 @@ use Rattle.std.proofs.Common.{Bool, List, None, Some, [], ap, arith, false, inl,
 use Rattle.std.specs.Prelude.{cond, filter, if◌then◌else◌, is_some, map, nat_lt, not, take, ◌&&◌, ◌||◌, ◌==◌}
 use Rattle.std.specs.List.{range_with_len}
 use Rattle.std.proofs.lemmas.Bool.{and_from, cases_lt, cond-true, eq-eqb, false≢true, ltb-false, ltb-true}
+use Rattle.plain_lemmas.proofs.Options.{some_of}
 use Rattle.definitions.specs.declared.world.Move.{Move}
 use Rattle.definitions.specs.declared.openings.Digest.{Digest}
 use Rattle.definitions.specs.declared.openings.Opening.{Opening}
@@ -228,10 +229,6 @@ done_where_still game logs p h d i still none = go (stands_one_way game p h d i 
     go (inr (inl w)) = absurd (w.1 none)
     go (inr (inr w)) = w.2
 
-has_some : (o : Option (List Entry)) → is_some o ≡ true → (h : List Entry) × (o ≡ Some h)
-has_some None e = absurd (false≢true e)
-has_some (Some h) e = (h, refl)
-
 -- no player with fewer made frames than this waits
 none_waits : (game : Game) (logs : Logs) (most p : ℕ) (h : List Entry) → 1 ≤ game.ahead → AreHonest game logs → AreAuthentic logs → NoneLacks logs →
     ((p : ℕ) (h : List Entry) → log_of logs p ≡ Some h → IsStill game logs p h) → log_of logs p ≡ Some h → made_count h < most → needs game p h ≡ []
@@ -244,7 +241,7 @@ none_waits game logs (suc most) p h d honest authentic whole still at few =
     never n m ih =
         let behind = needed_is_behind game p h n d (honest p h at) m in
         let w = still p h at in
-        let own = has_some (log_of logs n.player) (Has_each (λ n. has_log logs n.player ≡ true) (needs game p h) n w.waits m) in
+        let own = some_of (log_of logs n.player) (Has_each (λ n. has_log logs n.player ≡ true) (needs game p h) n w.waits m) in
         let other = other_is_not game p n.player behind.0 in
         let counts = all_counts game p n.player own.0 h d (honest n.player own.0 own.1) other (authentic p n.player h own.0 at own.1) (whole p n.player h own.0 at own.1 other) in
         let next = behind.1 in

@@ -13,7 +13,7 @@ use Rattle.definitions.specs.declared.places.Slot.{Slot}
 use Rattle.definitions.specs.World.{Game}
 use Rattle.definitions.specs.Answers.{place_of}
 use Rattle.definitions.specs.Places.{commit_place, reveal_place, slot_at, slot_or}
-use Rattle.definitions.proofs.Streams.{commit_place-below, find-range, reveal_place-below, slot_at-commit, slot_at-past, slot_at-reveal}
+use Rattle.definitions.proofs.Streams.{commit_place-below, find-range, reveal_place-below, slot_at-commit, slot_at-reveal}
 
 -- the slot of a commitment's place, and of a reveal's
 pub slot_of_commit : (game : Game) (t place : ℕ) → 1 ≤ game.ahead → t < game.turns → place ≡ t + (t + 1 - game.ahead) → slot_at game place ≡ Some (record { what = Commit; turn = t })
@@ -21,9 +21,6 @@ slot_of_commit game t place d lt e = ap (slot_at game) (e ∙ sym (commit_place-
 
 pub slot_of_reveal : (game : Game) (t place : ℕ) → 1 ≤ game.ahead → t < game.turns → place ≡ t + min (t + game.ahead) game.turns → slot_at game place ≡ Some (record { what = Reveal; turn = t })
 slot_of_reveal game t place d lt e = ap (slot_at game) (e ∙ sym (reveal_place-below game t lt)) ∙ slot_at-reveal game t d lt
-
-pub slot_of_none : (game : Game) (place : ℕ) → 1 ≤ game.ahead → 2 * game.turns ≤ place → slot_at game place ≡ None
-slot_of_none game place d le = slot_at-past game place d le
 
 -- a frame's place, by that of its commitment or reveal
 pub commit_place_of : (game : Game) (f : TurnFrame) (p t n : ℕ) (d : Digest) → f ≡ F.Commit p t d → n ≡ commit_place game t → n ≡ place_of game f

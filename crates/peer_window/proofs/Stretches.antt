@@ -2,6 +2,7 @@
 use Rattle.std.proofs.Common.{◌≡◌, ℕ, zero, suc, ◌+◌, ◌*◌, ◌<◌, ◌≤◌, List, [], ◌∷◌, ◌++◌, length, length-append, refl, true, sym, ◌∙◌, ap, arith, inl, inr, Option, Some, None}
 use Rattle.std.specs.Prelude.{is_some, slice_get}
 use Rattle.std.proofs.lemmas.Bool.{false≢true, cases_lt}
+use Rattle.plain_lemmas.proofs.Options.{some_of}
 use Rattle.definitions.specs.declared.world.Move.{Move}
 use Rattle.definitions.specs.declared.openings.Digest.{Digest}
 use Rattle.definitions.specs.declared.openings.Nonce.{Nonce}
@@ -23,11 +24,6 @@ slot_past [] p h = refl
 slot_past (s ∷ ss) zero h = absurd (omega arith)
 slot_past (s ∷ ss) (suc p) h = slot_past ss p (omega arith)
 
--- a filled slot holds a frame
-pub there_is : (o : Option Received) → is_some o ≡ true → (r : Received) × (o ≡ Some r)
-there_is None h = absurd (false≢true h)
-there_is (Some r) h = (r, refl)
-
 -- a frame of a commitment's slot is a commitment, and one of a reveal's a reveal
 pub is_commitment : (f : TurnFrame) (q t : ℕ) → slot_of f ≡ 2 * t → player_of f ≡ q → (d : Digest) × (f ≡ Commit q t d)
 is_commitment (Commit p u d) q t place player =
@@ -41,14 +37,14 @@ is_reveal (Reveal p u m n) q t place player =
 
 pub commitment_at : (q t c u : ℕ) (ss : List (Option Received)) → AreSlots q ss c u → t < c → (r : Received) × (d : Digest) × (slot ss (2 * t) ≡ Some r) × (r.frame ≡ Commit q t d)
 commitment_at q t c u ss w lt =
-    let r = there_is (slot ss (2 * t)) (w.committed t lt) in
+    let r = some_of (slot ss (2 * t)) (w.committed t lt) in
     let own = w.own (2 * t) r.0 r.1 in
     let f = is_commitment r.0.frame q t own.0 own.1 in
     (r.0, f.0, r.1, f.1)
 
 pub reveal_at : (q t c u : ℕ) (ss : List (Option Received)) → AreSlots q ss c u → t < u → (r : Received) × (m : Move) × (k : Nonce) × (slot ss (2 * t + 1) ≡ Some r) × (r.frame ≡ Reveal q t m k)
 reveal_at q t c u ss w lt =
-    let r = there_is (slot ss (2 * t + 1)) (w.revealed t lt) in
+    let r = some_of (slot ss (2 * t + 1)) (w.revealed t lt) in
     let own = w.own (2 * t + 1) r.0 r.1 in
     let f = is_reveal r.0.frame q t own.0 own.1 in
     (r.0, f.0, f.1, r.1, f.2)

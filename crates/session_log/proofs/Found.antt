@@ -62,13 +62,10 @@ pub record IsFound (game : Game) (me : ℕ) (chain bytes : List ℕ) (e : Entry)
   pub fits : count ≤ length bytes
   pub some : 0 < count
 
-torn_not : (b : Bool) (x : Found) (e : Entry) (count : ℕ) (digest : List ℕ) → cond b Torn x ≡ Whole e count digest → (b ≡ false) × (x ≡ Whole e count digest)
-torn_not true x e count digest q = absurd cc
-torn_not false x e count digest q = (refl, q)
-
-unchained_not : (b : Bool) (x : Found) (e : Entry) (count : ℕ) (digest : List ℕ) → cond b BadChain x ≡ Whole e count digest → (b ≡ false) × (x ≡ Whole e count digest)
-unchained_not true x e count digest q = absurd cc
-unchained_not false x e count digest q = (refl, q)
+-- where a fault is tried first and an entry is found, the fault isn't there
+tried_not : (b : Bool) (fault x : Found) (e : Entry) (count : ℕ) (digest : List ℕ) → (fault ≡ Whole e count digest → ⊥) → cond b fault x ≡ Whole e count digest → (b ≡ false) × (x ≡ Whole e count digest)
+tried_not true fault x e count digest other q = absurd (other q)
+tried_not false fault x e count digest other q = (refl, q)
 
 -- what is owned was read
 record IsOwned (game : Game) (me : ℕ) (o : Option Entry) (n : ℕ) (d : List ℕ) (e : Entry) (count : ℕ) (digest : List ℕ) : Type 0 where
@@ -91,8 +88,8 @@ pub found_stands : (game : Game) (me : ℕ) (chain bytes : List ℕ) (e : Entry)
     IsFound game me chain bytes e count digest
 unfolding entry_at
 found_stands game me chain bytes e count digest b q =
-    let whole = torn_not (is_torn bytes) _ e count digest q in
-    let linked = unchained_not (is_unchained chain bytes) _ e count digest whole.1 in
+    let whole = tried_not (is_torn bytes) Torn _ e count digest (λ t. cc) q in
+    let linked = tried_not (is_unchained chain bytes) BadChain _ e count digest (λ b. cc) whole.1 in
     let o = owned_so game me (entry_of (text_at bytes)) (told_len bytes + 35) (digest_at bytes) e count digest linked.1 in
     let n : ℕ = told_len bytes + 3 in
     let text : entry_text e ≡ text_at bytes = entry_spelled (text_at bytes) e (take_bytes n bytes b) o.read in
