@@ -1,3 +1,5 @@
 pub mod Still
 pub mod Seats
+pub mod Pairs
+pub mod Followed
 pub mod Reached

@@ -1,62 +1,127 @@
--- Reached: what the changes of a dilation leave, by its fields.
-use Rattle.std.proofs.Common.{◌≡◌, ℕ, ◌*◌, ◌<◌, List, [], ◌∷◌, length, sym, ap, ◌∙◌, arith, get_or, subst}
-use Rattle.std.specs.Prelude.{IsTrue, slice_set}
+-- Reached: what the calls of a dilation find and leave, by its fields.
+use Rattle.std.proofs.Common.{◌≡◌, ℕ, ◌+◌, ◌*◌, ◌<◌, List, [], ◌∷◌, ◌++◌, length-append, sym, ap, ◌∙◌, arith, get_or, subst, refl}
+use Rattle.std.specs.Prelude.{IsTrue, map, slice_set}
 use Rattle.definitions.specs.declared.world.Cell.{Cell}
-use Rattle.definitions.specs.World.{Ground, Game, no_seat, players_of, is_open}
-use Rattle.definitions.specs.Walk.{walked, reach_of}
+use Rattle.definitions.specs.Lists.{item_or}
+use Rattle.definitions.specs.World.{Game, no_seat, seat_of, players_of, is_open}
+use Rattle.definitions.specs.Walk.{walked}
 use Rattle.grid_world.specs.Sessions.{IsSession}
 use Rattle.grid_world.proofs.Facts.{seat_speed}
-use Rattle.cell_set.specs.Regions.{Region, IsSizeOf, with_cells}
-use Rattle.dilation.specs.Dilated.{Dilated, cell_of, starts_of, IsDilated}
-use Rattle.dilation.proofs.Seats.{item_read, starts_length, starts_open}
+use Rattle.cell_set.specs.Regions.{Region}
+use Rattle.dilation.specs.declared.growth.Kept.{Kept}
+use Rattle.dilation.specs.Dilated.{Dilated, starts_of, cell_of, kept_of, none_kept, kept_set}
+use Rattle.dilation.specs.Following.{IsKept, IsDilated, AreFresh}
+use Rattle.dilation.proofs.Seats.{first_starts, start_more, item_read, starts_length, starts_open}
+use Rattle.dilation.proofs.Pairs.{pair_at, pair_right, pair_both, pair_more, map_set, map_more, map_item, map_length, length_set, item_set, each_set}
 
--- the walk of so many steps goes as far as the player in so many turns
-pub reached_is : (game : Game) (cells : List Cell) (r new : Region) (grid : Ground) (q missed steps : ℕ) (cell : Cell) → IsDilated game cells r →
-    q < players_of game → grid ≡ game.grid → cell ≡ get_or cells q cell → steps ≡ missed * game.rules.speed →
-    new ≡ with_cells r (walked grid steps (cell ∷ [])) → new ≡ with_cells r (reach_of game q missed (cell_of cells q ∷ []))
-reached_is game cells r new grid q missed steps cell facts lt same is count walk =
-    let short : q < length cells = omega (arith, facts.seen.one_each) in
-    let speed = seat_speed game q facts.seen.session lt in
-    walk ∙ ap (λ (g : Ground). with_cells r (walked g steps (cell ∷ []))) same
-    ∙ ap (λ (n : ℕ). with_cells r (walked game.grid n (cell ∷ []))) (count ∙ ap (λ (n : ℕ). missed * n) (sym speed))
-    ∙ ap (λ (c : Cell). with_cells r (reach_of game q missed (c ∷ []))) (item_read cells q cell no_seat.start short is)
+-- for how many turns each player was followed
+abbrev pub turns_of : List Kept → List ℕ
+turns_of kept = map (λ k. k.turns) kept
 
--- all stand at their starts
-pub dilated_starts : (game copy : Game) (cells : List Cell) (r : Region) → IsSession game → copy ≡ game → cells ≡ starts_of game → IsSizeOf game.grid r → IsDilated copy cells r
-dilated_starts game copy cells r facts same starts size =
-    subst (λ (g : Game). IsDilated g cells r) (sym same) (subst (λ (cs : List Cell). IsDilated game cs r) (sym starts) (record {
-      seen = record { session = facts; one_each = starts_length game.seats; each_open = starts_open (λ c. IsTrue (is_open game.grid c)) game.seats facts.starts };
-      size = size;
+-- a set that was read is its player's, who was last seen at the cell of the same place
+pub kept_at : (game : Game) (cells : List Cell) (kept : List Kept) (i : ℕ) (cell : Cell) (k : Kept) → IsDilated game cells kept → i < players_of game →
+    cell ≡ get_or cells i cell → k ≡ get_or kept i k → IsKept game cell k
+kept_at game cells kept i cell k facts lt at_cells at_kept =
+    let of_cell : Cell → Type 0 = λ c. IsKept game c (item_or kept i k) in
+    let of_kept : Kept → Type 0 = λ n. IsKept game cell n in
+    subst of_kept (sym (item_read kept i k k (omega (arith, facts.one_each)) at_kept))
+    (subst of_cell (sym (item_read cells i cell cell (omega (arith, facts.seen.one_each)) at_cells))
+    (pair_at (IsKept game) cells kept i cell k facts.each_kept (omega (arith, facts.seen.one_each)) (omega (arith, facts.one_each))))
+
+-- the same, by the cell that the list has
+pub kept_here : (game : Game) (cells : List Cell) (kept : List Kept) (i : ℕ) (k : Kept) → IsDilated game cells kept → i < players_of game → k ≡ get_or kept i k → IsKept game (cell_of cells i) k
+kept_here game cells kept i k facts lt at_kept =
+    let of_kept : Kept → Type 0 = λ n. IsKept game (cell_of cells i) n in
+    subst of_kept (sym (item_read kept i k k (omega (arith, facts.one_each)) at_kept))
+    (pair_at (IsKept game) cells kept i no_seat.start k facts.each_kept (omega (arith, facts.seen.one_each)) (omega (arith, facts.one_each)))
+
+-- a player's set is another one of the same cell
+pub dilated_grown : (game : Game) (cells : List Cell) (kept : List Kept) (i : ℕ) (cell : Cell) (new : Kept) → IsDilated game cells kept → i < players_of game →
+    cell ≡ get_or cells i cell → IsKept game cell new → IsDilated game cells (slice_set kept i new)
+dilated_grown game cells kept i cell new facts lt at_cells is =
+    let of_cell : Cell → Type 0 = λ c. IsKept game c new in
+    record {
+      seen = facts.seen;
+      one_each = length_set kept i new ∙ facts.one_each;
+      each_kept = pair_right (IsKept game) cells kept i cell new facts.each_kept (subst of_cell (item_read cells i cell cell (omega (arith, facts.seen.one_each)) at_cells) is);
+    }
+
+-- a player was seen
+pub dilated_seen : (game : Game) (cells : List Cell) (kept : List Kept) (i : ℕ) (cell : Cell) (new : Kept) → IsDilated game cells kept → IsTrue (is_open game.grid cell) →
+    IsKept game cell new → IsDilated game (slice_set cells i cell) (slice_set kept i new)
+dilated_seen game cells kept i cell new facts opens is = record {
+  seen = record {
+    session = facts.seen.session;
+    one_each = length_set cells i cell ∙ facts.seen.one_each;
+    each_open = each_set (λ c. IsTrue (is_open game.grid c)) cells i cell facts.seen.each_open opens;
+  };
+  one_each = length_set kept i new ∙ facts.one_each;
+  each_kept = pair_both (IsKept game) cells kept i cell new facts.each_kept is;
+}
+
+-- what contracts see of a dilation with these fields
+abbrev pub seen_as : Game → List Cell → List Kept → Dilated
+seen_as game cells kept = record { game = game; cells = cells; kept = turns_of kept }
+
+turns_set : (kept : List Kept) (i q n : ℕ) (new : Kept) → i ≡ q → new.turns ≡ n → turns_of (slice_set kept i new) ≡ slice_set (turns_of kept) q n
+turns_set kept i q n new is turns =
+    map_set (λ k. k.turns) kept i new ∙ ap (λ m. slice_set (turns_of kept) i m) turns ∙ ap (λ m. slice_set (turns_of kept) m n) is
+
+pub seen_grown : (game : Game) (cells : List Cell) (kept : List Kept) (s : Dilated) (i q n : ℕ) (new : Kept) → seen_as game cells kept ≡ s → i ≡ q → new.turns ≡ n →
+    seen_as game cells (slice_set kept i new) ≡ record s { kept = slice_set s.kept q n }
+seen_grown game cells kept s i q n new seen is turns =
+    let at : List ℕ → Dilated = λ ks. record { game = game; cells = cells; kept = ks } in
+    ap at (turns_set kept i q n new is turns) ∙ ap (λ (v : Dilated). record v { kept = slice_set v.kept q n }) seen
+
+pub seen_set : (game : Game) (cells : List Cell) (kept : List Kept) (s : Dilated) (i q : ℕ) (cell : Cell) (new : Kept) → seen_as game cells kept ≡ s → i ≡ q → new.turns ≡ 0 →
+    seen_as game (slice_set cells i cell) (slice_set kept i new) ≡ record s { cells = slice_set s.cells q cell; kept = slice_set s.kept q 0 }
+seen_set game cells kept s i q cell new seen is turns =
+    let at : ℕ → List ℕ → Dilated = λ m ks. record { game = game; cells = slice_set cells m cell; kept = ks } in
+    ap (λ m. at m (turns_of (slice_set kept i new))) is ∙ ap (at q) (turns_set kept i q 0 new is turns)
+    ∙ ap (λ (v : Dilated). record v { cells = slice_set v.cells q cell; kept = slice_set v.kept q 0 }) seen
+
+-- the turns that were written are those that are read
+pub turns_grown : (game : Game) (cells : List Cell) (kept : List Kept) (i q n : ℕ) (new : Kept) → IsDilated game cells kept → i ≡ q → q < players_of game → new.turns ≡ n →
+    kept_of (turns_of (slice_set kept i new)) q ≡ n
+turns_grown game cells kept i q n new facts is lt turns =
+    ap (λ ks. kept_of ks q) (turns_set kept i q n new is turns) ∙ item_set (turns_of kept) q n 0 (omega (arith, facts.one_each, map_length (λ (k : Kept). k.turns) kept))
+
+-- the set that was read has the cells that the player can be at
+pub kept_set_is : (game : Game) (cells : List Cell) (kept : List Kept) (s : Dilated) (i q : ℕ) (k : Kept) → IsDilated game cells kept → seen_as game cells kept ≡ s → i ≡ q → q < players_of game →
+    k ≡ get_or kept i k → k.reached ≡ kept_set s q
+kept_set_is game cells kept s i q k facts seen is lt at =
+    let here : k ≡ get_or kept q k = at ∙ ap (λ n. get_or kept n k) is in
+    let known = kept_here game cells kept q k facts lt here in
+    let turns : k.turns ≡ kept_of (turns_of kept) q
+    = ap (λ (n : Kept). n.turns) (item_read kept q k k (omega (arith, facts.one_each)) here) ∙ map_item (λ (n : Kept). n.turns) kept q k 0 (omega (arith, facts.one_each)) in
+    let sized : ℕ → ℕ → List Cell → Region = λ w h cs. record { width = w; height = h; cells = cs } in
+    ap (λ w. sized w k.reached.height k.reached.cells) known.followed.size.width
+    ∙ ap (λ h. sized game.grid.width h k.reached.cells) known.followed.size.height
+    ∙ ap (sized game.grid.width game.grid.height)
+    (known.followed.cells ∙ ap (λ n. walked game.grid (n * game.rules.speed) (cell_of cells q ∷ [])) turns
+    ∙ ap (λ n. walked game.grid (kept_of (turns_of kept) q * n) (cell_of cells q ∷ [])) (sym (seat_speed game q facts.seen.session lt)))
+    ∙ ap (λ (v : Dilated). kept_set v q) seen
+
+-- one player more stands at its start
+pub fresh_more : (game : Game) (n : ℕ) (start : Cell) (kept after : List Kept) (k : Kept) → n < players_of game → start ≡ (seat_of game n).start → AreFresh game (first_starts game n) kept →
+    IsKept game start k → k.turns ≡ 0 → after ≡ kept ++ k ∷ [] → AreFresh game (first_starts game (n + 1)) after
+fresh_more game n start kept after k lt is fresh new none more =
+    let cells = first_starts game n ++ start ∷ [] in
+    let all : cells ≡ first_starts game (n + 1) = start_more game n start (first_starts game n) cells lt is refl refl in
+    let P : List Cell → Type 0 = λ cs. AreFresh game cs after in
+    let Q : List Kept → Type 0 = λ ks. AreFresh game cells ks in
+    subst P all (subst Q (sym more) (record {
+      one_each = length-append kept (k ∷ []) ∙ ap (λ m. m + 1) fresh.one_each ∙ sym (length-append (first_starts game n) (start ∷ []));
+      each_kept = pair_more (IsKept game) (first_starts game n) kept start k fresh.one_each fresh.each_kept new;
+      turns = map_more (λ (x : Kept). x.turns) kept k ∙ ap (λ (xs : List ℕ). xs ++ k.turns ∷ []) fresh.turns ∙ ap (λ m. none_kept (first_starts game n) ++ m ∷ []) none
+          ∙ sym (map_more (λ _. 0) (first_starts game n) start);
     }))
 
--- a dilation by its parts
-pub dilated_from : (game game' : Game) (cells cells' reached reached' : List Cell) → game ≡ game' → cells ≡ cells' → reached ≡ reached' →
-    (let d : Dilated = record { game = game; cells = cells; reached = reached } in d) ≡ record { game = game'; cells = cells'; reached = reached' }
-dilated_from game game' cells cells' reached reached' a b c =
-    let at_game : Game → Dilated = λ g. record { game = g; cells = cells; reached = reached } in
-    let at_cells : List Cell → Dilated = λ cs. record { game = game'; cells = cs; reached = reached } in
-    let at_reached : List Cell → Dilated = λ cs. record { game = game'; cells = cells'; reached = cs } in
-    ap at_game a ∙ ap at_cells b ∙ ap at_reached c
-
--- one player's cell is another one
-pub seen_set : (game : Game) (cells reached : List Cell) (s : Dilated) (i q : ℕ) (cell : Cell) → (let d : Dilated = record { game = game; cells = cells; reached = reached } in d) ≡ s → i ≡ q →
-    (let d : Dilated = record { game = game; cells = slice_set cells i cell; reached = reached } in d) ≡ record s { cells = slice_set s.cells q cell }
-seen_set game cells reached s i q cell seen is =
-    let at : ℕ → Dilated = λ n. record { game = game; cells = slice_set cells n cell; reached = reached } in
-    ap at is ∙ ap (λ (v : Dilated). record v { cells = slice_set v.cells q cell }) seen
-
--- other cells are reached
-pub seen_grown : (game : Game) (cells : List Cell) (s : Dilated) (r new : Region) (q missed : ℕ) → (let d : Dilated = record { game = game; cells = cells; reached = r.cells } in d) ≡ s →
-    new ≡ with_cells r (reach_of game q missed (cell_of cells q ∷ [])) →
-    (let d : Dilated = record { game = game; cells = cells; reached = new.cells } in d) ≡ record s { reached = reach_of s.game q missed (cell_of s.cells q ∷ []) }
-seen_grown game cells s r new q missed seen is =
-    let at : List Cell → Dilated = λ cs. record { game = game; cells = cells; reached = cs } in
-    ap (λ (n : Region). at n.cells) is ∙ ap (λ (v : Dilated). record v { reached = reach_of v.game q missed (cell_of v.cells q ∷ []) }) seen
-
--- the set that was grown has the grid's size
-pub region_is : (game : Game) (cells : List Cell) (s : Dilated) (r : Region) → IsDilated game cells r → (let d : Dilated = record { game = game; cells = cells; reached = r.cells } in d) ≡ s →
-    r ≡ record { width = s.game.grid.width; height = s.game.grid.height; cells = s.reached }
-region_is game cells s r facts seen =
-    let sized : ℕ → ℕ → Region = λ w h. record { width = w; height = h; cells = r.cells } in
-    ap (λ (w : ℕ). sized w r.height) facts.size.width ∙ ap (λ (h : ℕ). sized game.grid.width h) facts.size.height
-    ∙ ap (λ (v : Dilated). let n : Region = record { width = v.game.grid.width; height = v.game.grid.height; cells = v.reached } in n) seen
+-- all stand at their starts
+pub dilated_starts : (game copy : Game) (cells : List Cell) (kept : List Kept) → IsSession game → copy ≡ game → cells ≡ starts_of game → AreFresh game (starts_of game) kept → IsDilated copy cells kept
+dilated_starts game copy cells kept facts same starts fresh =
+    subst (λ (g : Game). IsDilated g cells kept) (sym same) (subst (λ (cs : List Cell). IsDilated game cs kept) (sym starts) (record {
+      seen = record { session = facts; one_each = starts_length game.seats; each_open = starts_open (λ c. IsTrue (is_open game.grid c)) game.seats facts.starts };
+      one_each = fresh.one_each ∙ starts_length game.seats;
+      each_kept = fresh.each_kept;
+    }))

@@ -1,18 +1,19 @@
--- Dilated: where the players of a session were last seen, and where one of them can be by now.
-use Rattle.std.specs.Prelude.{◌≡◌, ℕ, List, length, map, IsTrue}
+-- Dilated: where the players of a session were last seen, and where they can be by now.
+use Rattle.std.specs.Prelude.{◌≡◌, ℕ, ◌-◌, ◌*◌, List, length, map, nat_le, IsTrue, if◌then◌else◌, [], ◌∷◌}
 use Rattle.definitions.specs.declared.world.Cell.{Cell}
 use Rattle.definitions.specs.Lists.{EachIs, item_or}
 use Rattle.definitions.specs.World.{Game, players_of, is_open, no_seat}
+use Rattle.definitions.specs.Walk.{reach_of}
 use Rattle.grid_world.specs.Sessions.{IsSession}
-use Rattle.cell_set.specs.Regions.{Region, IsSizeOf}
+use Rattle.cell_set.specs.Regions.{Region}
 
--- a session, the cell at which each of its players was last seen, and the cells that were reached
+-- a session, the cell at which each of its players was last seen, and for how many turns each was followed from there
 pub record Dilated : Type 0 where
   pub game : Game
   -- in order of player
   pub cells : List Cell
-  -- in row order
-  pub reached : List Cell
+  -- in order of player
+  pub kept : List ℕ
 
 -- the cells at which the players start
 abbrev pub starts_of : Game → List Cell
@@ -22,13 +23,28 @@ starts_of game = map (λ s. s.start) game.seats
 abbrev pub cell_of : List Cell → ℕ → Cell
 cell_of cells q = item_or cells q no_seat.start
 
+-- for how many turns the player was followed, of these
+abbrev pub kept_of : List ℕ → ℕ → ℕ
+kept_of kept q = item_or kept q 0
+
+-- no player was followed for a turn from these cells
+abbrev pub none_kept : List Cell → List ℕ
+none_kept cells = map (λ _. 0) cells
+
+-- the set of the cells that the player can be at, so many turns after it was last seen as it was followed
+abbrev pub kept_set : Dilated → ℕ → Region
+kept_set d q = record {
+  width = d.game.grid.width;
+  height = d.game.grid.height;
+  cells = reach_of d.game q (kept_of d.kept q) (cell_of d.cells q ∷ []);
+}
+
+-- so many growths at most make a set of `kept` turns one of `missed` turns: those that it lacks, or all where it has too many
+abbrev pub most_growths : (speed kept missed : ℕ) → ℕ
+most_growths speed kept missed = if nat_le kept missed then (missed - kept) * speed else missed * speed
+
 -- these are cells of the players of a session: one for each, and open
 pub record AreSeen (game : Game) (cells : List Cell) : Type 0 where
   pub session : IsSession game
   pub one_each : length cells ≡ players_of game
   pub each_open : EachIs (λ c. IsTrue (is_open game.grid c)) cells
-
--- the players are seen, and the set has the grid's size
-pub record IsDilated (game : Game) (cells : List Cell) (reached : Region) : Type 0 where
-  pub seen : AreSeen game cells
-  pub size : IsSizeOf game.grid reached

@@ -1,1 +1,2 @@
 pub mod Dilated
+pub mod Following

@@ -1,20 +1,28 @@
 -- Sights: the cells to which a player was followed, and its sphere.
-use Rattle.std.proofs.Common.{◌≡◌, ℕ, ◌*◌, [], ◌∷◌, sym, ap, ◌∙◌}
-use Rattle.definitions.specs.declared.world.Cell.{Cell}
+use Rattle.std.proofs.Common.{◌≡◌, ℕ, zero, suc, ◌*◌, List, [], ◌∷◌, refl, sym, ap, ◌∙◌}
+use Rattle.std.specs.Prelude.{slice_set}
+use Rattle.definitions.specs.Lists.{item_or}
 use Rattle.definitions.specs.World.{Game, has_cell, seat_of}
 use Rattle.definitions.specs.Walk.{reach_of}
 use Rattle.definitions.proofs.Walks.{walked_open}
 use Rattle.cell_set.specs.Regions.{Region, AreOpen}
-use Rattle.dilation.specs.Dilated.{Dilated}
+use Rattle.dilation.specs.Dilated.{Dilated, cell_of, kept_of, kept_set}
 
 -- the cells to which a player was followed
-pub reached_cells : (game : Game) (d new : Dilated) (r : Region) (q missed : ℕ) (from : Cell) → d.game ≡ game → new ≡ record d { reached = reach_of d.game q missed (from ∷ []) } →
-    r ≡ record { width = new.game.grid.width; height = new.game.grid.height; cells = new.reached } → r.cells ≡ reach_of game q missed (from ∷ [])
-reached_cells game d new r q missed from same grown is =
-    ap (λ (s : Region). s.cells) is ∙ ap (λ (n : Dilated). n.reached) grown ∙ ap (λ (g : Game). reach_of g q missed (from ∷ [])) same
+pub reached_cells : (game : Game) (d new : Dilated) (r : Region) (q missed : ℕ) → d.game ≡ game → new ≡ record d { kept = slice_set d.kept q missed } → kept_of new.kept q ≡ missed →
+    r ≡ kept_set new q → r.cells ≡ reach_of game q missed (cell_of d.cells q ∷ [])
+reached_cells game d new r q missed same grown turns is =
+    ap (λ (s : Region). s.cells) is ∙ ap (λ (n : ℕ). reach_of new.game q n (cell_of new.cells q ∷ [])) turns
+    ∙ ap (λ (n : Dilated). reach_of n.game q missed (cell_of n.cells q ∷ [])) grown ∙ ap (λ (g : Game). reach_of g q missed (cell_of d.cells q ∷ [])) same
 
 -- are open
-pub reached_open : (game : Game) (d new : Dilated) (r : Region) (q missed : ℕ) (from : Cell) → d.game ≡ game → new ≡ record d { reached = reach_of d.game q missed (from ∷ []) } →
-    r ≡ record { width = new.game.grid.width; height = new.game.grid.height; cells = new.reached } → AreOpen game.grid r.cells
-reached_open game d new r q missed from same grown is c has =
-    walked_open game.grid (missed * (seat_of game q).speed) (from ∷ []) c (ap (λ cs. has_cell cs c) (sym (reached_cells game d new r q missed from same grown is)) ∙ has)
+pub reached_open : (game : Game) (d new : Dilated) (r : Region) (q missed : ℕ) → d.game ≡ game → new ≡ record d { kept = slice_set d.kept q missed } → kept_of new.kept q ≡ missed →
+    r ≡ kept_set new q → AreOpen game.grid r.cells
+reached_open game d new r q missed same grown turns is c has =
+    walked_open game.grid (missed * (seat_of game q).speed) (cell_of d.cells q ∷ []) c (ap (λ cs. has_cell cs c) (sym (reached_cells game d new r q missed same grown turns is)) ∙ has)
+
+-- a player that is seen where it stood leaves the cells as they are
+pub item_stays : {X : Type 0} (xs : List X) (i : ℕ) (x d : X) → item_or xs i d ≡ x → slice_set xs i x ≡ xs
+item_stays [] i x d is = refl
+item_stays (y ∷ xs) zero x d is = ap (λ z. z ∷ xs) (sym is)
+item_stays (y ∷ xs) (suc i) x d is = ap (λ zs. y ∷ zs) (item_stays xs i x d is)

@@ -57,7 +57,9 @@ pub(crate) fn look_from(meeting: &mut Meeting, session: &Session, me: PlayerId, 
     }
 }
 
-/// Whether the player's sphere, so many turns after it was last seen, has a cell in common with the own sphere.
+/// Whether the player's sphere, so many turns after it was last seen, has a cell in common with the own sphere. The turns
+/// that are asked for rise from stage to stage, by one at the most, until the player is seen elsewhere: so its set only grows
+/// by what the next turn adds, and not at all where a stage is asked about again.
 fn meets(meeting: &mut Meeting, session: &Session, q: PlayerId, missed: u32) -> bool
     requires meeting { IsMeeting session.now meeting.old }
     requires player { q < players_of session.now }
@@ -67,7 +69,7 @@ fn meets(meeting: &mut Meeting, session: &Session, q: PlayerId, missed: u32) -> 
         (D.sphere_of session.now q (reach_of session.now q missed (cell_of meeting.old.dilation.cells q ∷ []))) }
 {
     meeting.dilation.grow_to(q, missed);
-    sphere_of(&mut meeting.theirs, meeting.dilation.reached(), session);
+    sphere_of(&mut meeting.theirs, meeting.dilation.reached(q), session);
     meeting.own.meets(&meeting.theirs)
 }
 

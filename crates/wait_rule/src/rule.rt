@@ -150,7 +150,10 @@ impl WaitRule {
         requires open { IsTrue (is_open self.old.game.grid cell) }
         ensures { self.new ≡ record self.old { cells = slice_set self.old.cells player cell } }
     {
-        self.meeting.dilation.resolved(player, cell);
+        // what can be reached from the cell where it stood already is still right
+        if self.meeting.dilation.cell(player) != cell {
+            self.meeting.dilation.resolved(player, cell);
+        }
     }
 
     /// Makes `out` the list of those for whom player `me` waits, by rising player, where its own frames have come to

@@ -1,0 +1,33 @@
+//! A player on a corridor, and how often its set grows at most.
+
+ghost use Rattle.std.specs.Prelude.{◌≡◌, ◌+◌, ◌<◌, ◌≤◌};
+ghost use Rattle.definitions.specs.World.{players_of};
+ghost use Rattle.dilation.specs.Dilated.{kept_of};
+
+use crate::{Dilation, Steps};
+use definitions::Cell;
+use grid_world::{Session, read_session};
+use std::alloc::{AllocError, Global};
+use std::marker::Brand;
+use std::sync::ledger::{Blank, Ledger};
+use std::test::Fail;
+
+static CORRIDOR: &[u8] = b"playout 1\ngrid 12 1\nrules 1 1 0\ncharge 1 2 1\nturns 8\nplayers 2\nplayer 0 0 0\nplayer 1 9 0\nend\n";
+
+/// Follows player 1, who was followed for no turn yet and goes a step a turn: for 3 turns, which takes 3 growths at most; for
+/// 5, which takes 2 more; for 5 again, which takes none; and for 4, which begins anew and takes 4.
+fn follow<L: Ledger>(dilation: &mut Dilation, steps: &mut Steps<L>)
+    requires speed { dilation.old.game.rules.speed ≡ 1 }
+    requires player { 1 < players_of dilation.old.game }
+    requires turns { 5 ≤ dilation.old.game.turns }
+    requires fresh { kept_of dilation.old.kept 1 ≡ 0 }
+    ensures cost { steps.new ≤ steps.old + (3 + 2 + 0 + 4) }
+    ensures kept { kept_of dilation.new.kept 1 ≡ 4 }
+    ensures game { dilation.new.game ≡ dilation.old.game }
+    ensures cells { dilation.new.cells ≡ dilation.old.cells }
+{
+    dilation.advance(1, 3, steps);
+    dilation.advance(1, 5, steps);
+    dilation.advance(1, 5, steps);
+    dilation.advance(1, 4, steps);
+}
