@@ -25,6 +25,8 @@ mod rows;
 #[cfg(test)]
 mod runs;
 #[cfg(test)]
+mod silent;
+#[cfg(test)]
 mod stopped;
 #[cfg(test)]
 mod walled;

@@ -6,9 +6,10 @@ ghost use Rattle.dilation.specs.Dilated.{kept_of};
 
 use crate::{Dilation, Steps};
 use definitions::Cell;
-use grid_world::{Session, read_session};
-use std::alloc::{AllocError, Global};
+use grid_world::read_session;
+use std::alloc::Global;
 use std::marker::Brand;
+use std::process::Abort;
 use std::sync::ledger::{Blank, Ledger};
 use std::test::Fail;
 
@@ -30,4 +31,38 @@ fn follow<L: Ledger>(dilation: &mut Dilation, steps: &mut Steps<L>)
     dilation.advance(1, 5, steps);
     dilation.advance(1, 5, steps);
     dilation.advance(1, 4, steps);
+}
+
+/// Follows player 1 of the corridor as above, and then sees it a step on.
+fn follow_on_corridor<L: Ledger, R: Abort>(
+    rt: &R,
+    alloc: Global,
+    blank: Blank,
+) -> Result<(), Fail>
+    requires name { blank.name ≡ L.name }
+    requires parts { blank.parts ≡ L.parts }
+    requires some { 0 < blank.parts }
+{
+    let session = read_session(alloc, CORRIDOR).map_err(|_| "refused")?;
+    let mut dilation = Dilation::new(alloc, &session)?;
+    let as_written = session.rules().speed == 1 && session.turns() == 8;
+    assert!(rt; as_written);
+    assert_eq!(rt; dilation.kept(1), 0);
+    let mut steps = Steps::<L>::new(blank);
+    follow(&mut dilation, &mut steps);
+    assert_eq!(rt; dilation.kept(1), 4);
+    // 4 steps from the cell in column 9 lead to column 5, and no further
+    let reached = dilation.reached(1);
+    assert!(rt; reached.has(Cell { x: 5, y: 0 }));
+    assert!(rt; !reached.has(Cell { x: 4, y: 0 }));
+    let aside = Cell { x: 8, y: 0 };
+    assert!(rt; session.grid().open(aside));
+    dilation.resolved(1, aside);
+    assert_eq!(rt; dilation.kept(1), 0);
+    Ok(())
+}
+
+#[test]
+fn a_set_grows_by_what_it_lacks(rt: HostRuntime) -> Result<(), Fail> {
+    follow_on_corridor::<Brand, HostRuntime>(&rt, rt.alloc(), Blank::new(1))
 }
