@@ -5,7 +5,7 @@ ghost use Rattle.std.specs.Prelude.{◌≡◌, ◌∷◌, [], false, bytes_eq, I
 use peer_cli::{run, run_in_memory};
 use station::{MemoryShelf, MemorySink, MemorySource, ShelfFile};
 use std::alloc::{AllocError, Global};
-use text_io::Status;
+use run_frame::Status;
 
 /// The calls of each object that are to fail, counted from 1.
 pub struct Fails {

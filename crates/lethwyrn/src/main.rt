@@ -8,7 +8,7 @@ use peer_cli::run;
 use station::{StdSink, StdSource};
 use std::io::{self, ErrorKind};
 use std::process::ExitCode;
-use text_io::{Status, refuse};
+use run_frame::{Status, refuse};
 
 /// The status where the machine refuses the program its words.
 const NO_WORDS: u8 = 15;

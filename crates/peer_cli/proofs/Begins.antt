@@ -2,12 +2,12 @@
 use Rattle.std.proofs.Common.{ap, inl, inr, refl, subst, sym, ℕ, ◌∙◌, ◌≡◌}
 use Rattle.std.specs.Prelude.{Err, Result}
 use Rattle.station.specs.Sinks.{SinkState, after_bytes}
-use Rattle.text_io.specs.Frame.{Answer, Ends, OnNoMemory, Ran, after_text, bare_answer}
-use Rattle.text_io.specs.Inputs.{Input}
-use Rattle.text_io.specs.declared.statuses.Status.{Status}
-use Rattle.text_io.specs.declared.statuses.Status.TheVariants.{InputFault, NoMemory, OutputFault, Usage, BadSession, BadLog}
-use Rattle.text_io.proofs.Writing.{bytes_none}
-use Rattle.drive_script.specs.Drive.{drive}
+use Rattle.run_frame.specs.Frame.{Answer, Ends, OnNoMemory, Ran, after_text, bare_answer}
+use Rattle.line_io.specs.Inputs.{Input}
+use Rattle.run_frame.specs.declared.statuses.Status.{Status}
+use Rattle.run_frame.specs.declared.statuses.Status.TheVariants.{InputFault, NoMemory, OutputFault, Usage, BadSession, BadLog}
+use Rattle.line_io.proofs.Writing.{bytes_none}
+use Rattle.drive_command.specs.Drive.{drive}
 use Rattle.old_log.specs.declared.resuming.Resumed.{Resumed}
 use Rattle.peer_cli.specs.Games.{Beginning, IsPeerFor, IsStartFor}
 use Rattle.peer_cli.specs.Program.{dropped_text, playing}

@@ -6,7 +6,7 @@ use Rattle.definitions.specs.declared.logs.LogWhy.TheVariants.{NotReplayed, TooL
 use Rattle.definitions.specs.World.{Game}
 use Rattle.definitions.specs.Honest.{IsHonest, allowed, honest_from}
 use Rattle.definition_laws.proofs.ForPeers.{honest_empty}
-use Rattle.text_io.specs.declared.statuses.Status.{Status}
+use Rattle.run_frame.specs.declared.statuses.Status.{Status}
 use Rattle.peer_core.specs.Resuming.{first_not_replayed}
 use Rattle.old_log.specs.Old.{Fault, breach, is_anothers, old_entries, old_fault, old_owner}
 use Rattle.peer_cli.specs.Games.{Beginning, begun, empty_beginning, log_front_of, old_beginning}

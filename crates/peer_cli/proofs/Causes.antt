@@ -3,19 +3,19 @@ use Rattle.std.proofs.Common.{Bool, List, [], ◌∷◌, None, Option, Some, ap,
 use Rattle.std.specs.Prelude.{Err, Ok, Result, nat_lt, option_map, if◌then◌else◌}
 use Rattle.std.proofs.lemmas.Bool.{lt-ltb, ltb-true}
 use Rattle.definitions.specs.World.{Game, players_of}
-use Rattle.text_io.specs.Ends.{Finished}
-use Rattle.text_io.specs.Frame.{Answer, after_text}
-use Rattle.text_io.specs.Inputs.{AtEnd, End, Input, ending_of, input_of, lines_in, lines_then}
-use Rattle.text_io.specs.Lines.{lines_of}
-use Rattle.text_io.specs.declared.statuses.Status.{Status}
-use Rattle.text_io.specs.declared.statuses.Status.TheVariants.{InputFault, NoMemory, OutputFault, Usage}
+use Rattle.run_frame.specs.Ends.{Finished}
+use Rattle.run_frame.specs.Frame.{Answer, after_text}
+use Rattle.line_io.specs.Inputs.{AtEnd, End, Input, ending_of, input_of, lines_in, lines_then}
+use Rattle.line_io.specs.Lines.{lines_of}
+use Rattle.run_frame.specs.declared.statuses.Status.{Status}
+use Rattle.run_frame.specs.declared.statuses.Status.TheVariants.{InputFault, NoMemory, OutputFault, Usage}
 use Rattle.grid_world.specs.declared.fault.SessionFault.{SessionFault}
 use Rattle.grid_world.specs.declared.fault.SessionFault.TheVariants.{At, Memory}
 use Rattle.grid_world.specs.Lines as L
 use Rattle.grid_world.specs.Reading.{◌>>=◌, fault_of, game_at, said_by, session_fault}
 use Rattle.definitions.specs.Findings.{is_clean}
-use Rattle.drive_script.specs.Drive.{bad_line, drive, drive_log, status_for}
-use Rattle.drive_script.proofs.Ends.{drive_status}
+use Rattle.drive_command.specs.Drive.{bad_line, drive, drive_log, status_for}
+use Rattle.drive_command.proofs.Ends.{drive_status}
 use Rattle.old_log.specs.Old.{Fault, dropped_at, old_entries, old_fault}
 use Rattle.peer_cli.specs.Causes.{HasCause, IsNamed, IsSeated, IsSet}
 use Rattle.peer_cli.specs.Games.{Beginning, begun, empty_beginning, ended_by, front_of, log_front_of, old_beginning, with_log, with_player}

@@ -5,13 +5,13 @@ use Rattle.station.specs.Outside.{faults_behind, one_more}
 use Rattle.station.specs.Shelves.{ShelfState}
 use Rattle.station.specs.Sinks.{SinkState}
 use Rattle.station.specs.Sources.{SourceState}
-use Rattle.text_io.specs.Ends.{Refuses}
-use Rattle.text_io.specs.Frame.{Answer, Ends, OnDone, OnNoMemory, is_input_fault}
-use Rattle.text_io.specs.Readings.{Drew}
-use Rattle.text_io.specs.Statuses.{refusal_of}
-use Rattle.text_io.specs.Texts.{CutShort}
-use Rattle.text_io.specs.declared.statuses.Status.{Status}
-use Rattle.text_io.specs.declared.statuses.Status.TheVariants.{Done, NoMemory, Usage, BadSession, InputFault, OutputFault, BadLog}
+use Rattle.run_frame.specs.Ends.{Refuses}
+use Rattle.run_frame.specs.Frame.{Answer, Ends, OnDone, OnNoMemory, is_input_fault}
+use Rattle.line_io.specs.Readings.{Drew}
+use Rattle.run_frame.specs.Statuses.{refusal_of}
+use Rattle.line_io.specs.Texts.{CutShort}
+use Rattle.run_frame.specs.declared.statuses.Status.{Status}
+use Rattle.run_frame.specs.declared.statuses.Status.TheVariants.{Done, NoMemory, Usage, BadSession, InputFault, OutputFault, BadLog}
 use Rattle.peer_cli.specs.Games.{Beginning, IsStartFor}
 use Rattle.peer_cli.specs.Outside.{CountsFaults, NeitherFailed, OneFailed, Outside}
 
@@ -50,7 +50,7 @@ module _ (i i' : SourceState) (a b c : SinkState) (h h' : ShelfState) where
   -- the sink failed in it
   cut : (s : Status) → CutShort b c (refusal_of s) → CountsFaults first mid s → CountsFaults first last OutputFault
   cut InputFault x f = (inr f.0, x.rose ∙ ap one_more f.1)
-  cut OutputFault x f = absurd (omega (arith, x.front.longer, x.front.shorter))
+  cut OutputFault x f = absurd (omega (arith, x.between.longer, x.between.shorter))
   cut s x f = (inl (neither f.0), x.rose ∙ ap one_more f.1)
 
   pub refused_counts : (s result : Status) → Refuses b c s result → CountsFaults first mid s → CountsFaults first last result

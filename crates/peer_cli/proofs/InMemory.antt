@@ -8,10 +8,10 @@ use Rattle.station.specs.Pieces.{Piece, AllGive}
 use Rattle.station.specs.Plans.{HeldShelf, HeldSink, HeldSource, Left, Bytes, Nothing, bytes_left, is_ended, shelf_state, sink_state, source_state}
 use Rattle.station.specs.Shelves.{ShelfState}
 use Rattle.station.specs.Since.{since}
-use Rattle.text_io.specs.Fronts.{AllTold}
-use Rattle.text_io.specs.Ends.{Finished}
-use Rattle.text_io.specs.Inputs.{AtEnd, AtFault, MayFollow, input_of}
-use Rattle.text_io.specs.declared.statuses.Status.{Status}
+use Rattle.line_io.specs.Fronts.{AllTold}
+use Rattle.run_frame.specs.Ends.{Finished}
+use Rattle.line_io.specs.Inputs.{AtEnd, AtFault, MayFollow, input_of}
+use Rattle.run_frame.specs.declared.statuses.Status.{Status}
 use Rattle.peer_cli.specs.Files.{AreContents, Calls, IsLogReading, IsLogTold, ReadsFor, contents_of}
 use Rattle.peer_cli.specs.Memory.{WritesInMemory}
 use Rattle.peer_cli.specs.Program.{answer_of}

@@ -11,21 +11,21 @@ use Rattle.definitions.specs.Advance.{advance}
 use Rattle.definitions.specs.Findings.{is_clean}
 use Rattle.grid_world.proofs.Found.{game_found}
 use Rattle.old_log.specs.declared.resuming.Resumed.{Resumed}
-use Rattle.text_io.specs.Ends.{Refuses}
-use Rattle.text_io.specs.Frame.{Answer, OnDone, OnNoMemory, after_text, is_input_fault}
-use Rattle.text_io.specs.Fronts.{bytes_read}
-use Rattle.text_io.specs.Inputs.{AtEnd, ending_of, input_of, lines_in}
-use Rattle.text_io.specs.Lines.{lines_of}
-use Rattle.text_io.specs.Turns.{Plays}
-use Rattle.text_io.specs.declared.statuses.Status.{Status}
-use Rattle.text_io.specs.declared.statuses.Status.TheVariants.{Done, InputFault, NoMemory, OutputFault, Usage}
-use Rattle.text_io.proofs.Contents.{reading_fits}
-use Rattle.text_io.proofs.Finish.{finished}
-use Rattle.text_io.proofs.Writing.{bytes_none}
-use Rattle.drive_script.specs.Drive.{bad_line, drive, drive_log, status_for}
-use Rattle.drive_script.proofs.Ends.{drive_status}
-use Rattle.drive_script.proofs.Fair.{drive_fair}
-use Rattle.drive_script.proofs.Tellings.{drive_tells}
+use Rattle.run_frame.specs.Ends.{Refuses}
+use Rattle.run_frame.specs.Frame.{Answer, OnDone, OnNoMemory, after_text, is_input_fault}
+use Rattle.line_io.specs.Fronts.{bytes_read}
+use Rattle.line_io.specs.Inputs.{AtEnd, ending_of, input_of, lines_in}
+use Rattle.line_io.specs.Lines.{lines_of}
+use Rattle.run_frame.specs.Turns.{Plays}
+use Rattle.run_frame.specs.declared.statuses.Status.{Status}
+use Rattle.run_frame.specs.declared.statuses.Status.TheVariants.{Done, InputFault, NoMemory, OutputFault, Usage}
+use Rattle.line_io.proofs.Contents.{reading_fits}
+use Rattle.run_frame.proofs.Finish.{finished}
+use Rattle.line_io.proofs.Writing.{bytes_none}
+use Rattle.drive_command.specs.Drive.{bad_line, drive, drive_log, status_for}
+use Rattle.drive_command.proofs.Ends.{drive_status}
+use Rattle.drive_command.proofs.Fair.{drive_fair}
+use Rattle.drive_command.proofs.Tellings.{drive_tells}
 use Rattle.peer_cli.specs.Causes.{HasCause, IsSet}
 use Rattle.peer_cli.specs.Files.{AreContents, Calls, Contents, IsLogReading, OpensPeer, ReadsFor}
 use Rattle.peer_cli.specs.Games.{Beginning, IsStartFor, beginning_for}

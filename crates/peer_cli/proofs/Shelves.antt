@@ -9,9 +9,9 @@ use Rattle.definitions.specs.World.{Game, players_of}
 use Rattle.grid_world.specs.declared.fault.SessionFault.{SessionFault}
 use Rattle.grid_world.specs.declared.fault.SessionFault.TheVariants.{At, Memory}
 use Rattle.old_log.specs.declared.resuming.Resumed.{Resumed}
-use Rattle.text_io.specs.Fronts.{IsFrontOf}
-use Rattle.text_io.specs.declared.statuses.Status.{Status}
-use Rattle.text_io.specs.declared.statuses.Status.TheVariants.{NoMemory, InputFault, BadSession}
+use Rattle.line_io.specs.Fronts.{IsFrontOf}
+use Rattle.run_frame.specs.declared.statuses.Status.{Status}
+use Rattle.run_frame.specs.declared.statuses.Status.TheVariants.{NoMemory, InputFault, BadSession}
 use Rattle.grid_world.specs.Reading.{game_at}
 use Rattle.peer_cli.specs.Files.{BeginsPeer, HasPlayer, FetchesLog, IsLogReading, IsLogTold, OpensPeer, OpensSession}
 use Rattle.peer_cli.specs.Games.{IsDue, IsStartFor, ended_by, front_of, is_shelf_fault, log_front_of, with_log, with_player}

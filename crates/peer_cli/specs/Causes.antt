@@ -2,15 +2,15 @@
 use Rattle.std.specs.Prelude.{◌≡◌, ◌⊎◌, ℕ, false, ◌<◌, ◌≤◌, List, Option, Some, None, Ok, IsTrue, option_map}
 use Rattle.definitions.specs.declared.logs.LogWhy.{LogWhy}
 use Rattle.definitions.specs.World.{Game, players_of}
-use Rattle.text_io.specs.Inputs.{Input, lines_in}
-use Rattle.text_io.specs.declared.statuses.Status.{Status}
-use Rattle.text_io.specs.declared.statuses.Status.TheVariants.{Done, NoMemory, Usage, BadSession, InputFault, OutputFault, Caught, BadLine, BadLog}
-use Rattle.text_io.specs.declared.statuses.TextName.TheVariants.{Script}
+use Rattle.line_io.specs.Inputs.{Input, lines_in}
+use Rattle.run_frame.specs.declared.statuses.Status.{Status}
+use Rattle.run_frame.specs.declared.statuses.Status.TheVariants.{Done, NoMemory, Usage, BadSession, InputFault, OutputFault, Caught, BadLine, BadLog}
+use Rattle.run_frame.specs.declared.statuses.TextName.TheVariants.{Script}
 use Rattle.grid_world.specs.declared.fault.SessionFault.{SessionFault}
 use Rattle.grid_world.specs.declared.fault.SessionFault.TheVariants.{At}
 use Rattle.grid_world.specs.Reading.{game_at, session_fault}
 use Rattle.definitions.specs.Findings.{is_clean}
-use Rattle.drive_script.specs.Drive.{bad_line, drive_log}
+use Rattle.drive_command.specs.Drive.{bad_line, drive_log}
 use Rattle.old_log.specs.Old.{old_fault}
 use Rattle.peer_cli.specs.Words.{Command, Drive}
 use Rattle.peer_cli.specs.Games.{Beginning, begun, front_of, log_front_of}

@@ -4,8 +4,8 @@ use Rattle.station.specs.Outside.{faults_behind}
 use Rattle.station.specs.Pieces.{Piece, AllGive}
 use Rattle.station.specs.Shelves.{ShelfState}
 use Rattle.station.specs.Since.{since}
-use Rattle.text_io.specs.Fronts.{AllTold, Fetched, IsReading}
-use Rattle.text_io.specs.declared.statuses.Status.{Status}
+use Rattle.line_io.specs.Fronts.{AllTold, Fetched, IsReading}
+use Rattle.run_frame.specs.declared.statuses.Status.{Status}
 use Rattle.definitions.specs.World.{Game, players_of}
 use Rattle.grid_world.specs.Reading.{game_at}
 use Rattle.old_log.specs.declared.resuming.Resumed.{Resumed}

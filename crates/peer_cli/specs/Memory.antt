@@ -3,9 +3,9 @@ use Rattle.std.specs.Prelude.{◌≡◌, ℕ, Option, List, ◌++◌}
 use Rattle.station.specs.Files.{content_in}
 use Rattle.station.specs.Outside.{Rose}
 use Rattle.station.specs.Plans.{HeldShelf, HeldSink, HeldSource, bytes_left, sink_state}
-use Rattle.text_io.specs.Ends.{Finished}
-use Rattle.text_io.specs.Inputs.{AtEnd, AtFault, input_of}
-use Rattle.text_io.specs.declared.statuses.Status.{Status}
+use Rattle.run_frame.specs.Ends.{Finished}
+use Rattle.line_io.specs.Inputs.{AtEnd, AtFault, input_of}
+use Rattle.run_frame.specs.declared.statuses.Status.{Status}
 use Rattle.peer_cli.specs.Words.{Command}
 use Rattle.peer_cli.specs.Files.{contents_of}
 use Rattle.peer_cli.specs.Program.{answer_of}

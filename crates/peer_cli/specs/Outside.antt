@@ -4,8 +4,8 @@ use Rattle.station.specs.Outside.{Rose}
 use Rattle.station.specs.Shelves.{ShelfState}
 use Rattle.station.specs.Sinks.{SinkState}
 use Rattle.station.specs.Sources.{SourceState}
-use Rattle.text_io.specs.declared.statuses.Status.{Status}
-use Rattle.text_io.specs.declared.statuses.Status.TheVariants.{InputFault, OutputFault}
+use Rattle.run_frame.specs.declared.statuses.Status.{Status}
+use Rattle.run_frame.specs.declared.statuses.Status.TheVariants.{InputFault, OutputFault}
 
 -- the input, the output and the files
 pub record Outside : Type 0 where

@@ -3,12 +3,12 @@ use Rattle.std.specs.Prelude.{◌≡◌, ℕ, false, List, [], ◌++◌, Option,
 use Rattle.definitions.specs.declared.logs.Entry.{Entry}
 use Rattle.definitions.specs.Findings.{is_clean}
 use Rattle.definitions.specs.Advance.{advance}
-use Rattle.text_io.specs.Frame.{Answer, after_text, bare_answer}
-use Rattle.text_io.specs.Inputs.{Input}
-use Rattle.text_io.specs.declared.statuses.Status.{Status}
-use Rattle.text_io.specs.declared.statuses.Status.TheVariants.{Usage}
-use Rattle.drive_script.specs.Drive as D
-use Rattle.drive_script.specs.Telling.{TellsLog}
+use Rattle.run_frame.specs.Frame.{Answer, after_text, bare_answer}
+use Rattle.line_io.specs.Inputs.{Input}
+use Rattle.run_frame.specs.declared.statuses.Status.{Status}
+use Rattle.run_frame.specs.declared.statuses.Status.TheVariants.{Usage}
+use Rattle.drive_command.specs.Drive as D
+use Rattle.drive_command.specs.Telling.{TellsLog}
 use Rattle.peer_cli.specs.Words.{Command, Drive}
 use Rattle.peer_cli.specs.Files.{Contents}
 use Rattle.peer_cli.specs.Games.{Beginning, beginning_for}

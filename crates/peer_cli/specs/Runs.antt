@@ -3,15 +3,16 @@ use Rattle.std.specs.Prelude.{◌≡◌, ◌⊎◌, ℕ, true, IsTrue, None, Opt
 use Rattle.station.specs.Outside.{Rose}
 use Rattle.station.specs.Since.{since, Grows}
 use Rattle.station.specs.Sources.{SourceState}
-use Rattle.text_io.specs.Ends.{Finished}
-use Rattle.text_io.specs.Frame.{OnDone, OnNoMemory, Ran}
-use Rattle.text_io.specs.Inputs.{AtEnd, AtFault, Input, MayFollow, input_by, input_of}
-use Rattle.text_io.specs.Lines.{lines_of}
-use Rattle.text_io.specs.declared.statuses.Status.{Status}
-use Rattle.text_io.specs.declared.statuses.Status.TheVariants.{Done, NoMemory, OutputFault, Usage}
+use Rattle.run_frame.specs.Ends.{Finished}
+use Rattle.run_frame.specs.Frame.{OnDone, OnNoMemory, Ran}
+use Rattle.line_io.specs.Inputs.{AtEnd, AtFault, Input, MayFollow, input_of}
+use Rattle.run_frame.specs.Turns.{input_by}
+use Rattle.line_io.specs.Lines.{lines_of}
+use Rattle.run_frame.specs.declared.statuses.Status.{Status}
+use Rattle.run_frame.specs.declared.statuses.Status.TheVariants.{Done, NoMemory, OutputFault, Usage}
 use Rattle.definitions.specs.Findings.{is_clean}
-use Rattle.drive_script.specs.Drive.{bad_line, drive_log}
-use Rattle.drive_script.specs.FairPlay.{IsFairPlay}
+use Rattle.drive_command.specs.Drive.{bad_line, drive_log}
+use Rattle.drive_command.specs.FairPlay.{IsFairPlay}
 use Rattle.peer_cli.specs.Words.{Command}
 use Rattle.peer_cli.specs.Games.{Beginning}
 use Rattle.peer_cli.specs.Files.{AreContents, Calls, Contents, ReadsFor}

@@ -7,7 +7,7 @@ ghost use Rattle.peer_cli.specs.Words.{command_of};
 use crate::program::run;
 use station::{MemoryShelf, MemorySink, MemorySource};
 use std::alloc::Global;
-use text_io::Status;
+use run_frame::Status;
 
 /// Runs the program over objects in memory. What it wrote is due by what the files and the input held: this follows from the promises
 /// of `run` alone.

@@ -3,11 +3,11 @@
 ghost use Rattle.std.specs.Prelude.{◌≡◌, ◌++◌, [], Some, false, map, option_map};
 ghost use Rattle.definitions.specs.Advance.{advance};
 ghost use Rattle.definitions.specs.Findings.{is_clean};
-ghost use Rattle.text_io.specs.Frame.{after_text};
-ghost use Rattle.text_io.specs.Texts.{Puts};
-ghost use Rattle.text_io.specs.Turns.{Plays};
-ghost use Rattle.drive_script.specs.Laws.{DrivesAreRuns, LinesAreOneStream};
-ghost use Rattle.drive_script.specs.Drive as D;
+ghost use Rattle.run_frame.specs.Frame.{after_text};
+ghost use Rattle.line_io.specs.Texts.{Puts};
+ghost use Rattle.run_frame.specs.Turns.{Plays};
+ghost use Rattle.drive_command.specs.Laws.{DrivesAreRuns, LinesAreOneStream};
+ghost use Rattle.drive_command.specs.Drive as D;
 ghost use Rattle.peer_cli.specs.Words.{Drive, command_of};
 ghost use Rattle.peer_cli.specs.Program.{dropped_line, dropped_text};
 ghost use Rattle.peer_cli.specs.Runs.{Runs, Works};
@@ -15,12 +15,13 @@ ghost use Rattle.peer_cli.specs.Runs.{Runs, Works};
 use crate::sessions::open_peer;
 use crate::words::{DriveWords, read_command};
 use arrayvec::ArrayVec;
-use drive_script::play;
+use drive_command::play;
 use itoa::Buffer;
 use old_log::Resumed;
 use station::{Shelf, Sink, Source};
 use std::alloc::Global;
-use text_io::{Status, Written, put, refuse};
+use line_io::{Written, put};
+use run_frame::{Status, refuse};
 
 /// The line that tells from which byte on a log is dropped.
 #[tactic(auto, unfolding(crate::specs::Program::dropped_line))]

@@ -3,7 +3,7 @@
 ghost use Rattle.std.specs.Prelude.{◌≡◌, ◌<◌, Option, List, ℕ, Ok, Some, false, option_map};
 ghost use Rattle.station.specs.Pieces.{AllGive};
 ghost use Rattle.station.specs.Since.{since};
-ghost use Rattle.text_io.specs.Fronts.{Fetched};
+ghost use Rattle.line_io.specs.Fronts.{Fetched};
 ghost use Rattle.grid_world.specs.Reading.{game_at};
 ghost use Rattle.definitions.specs.World.{players_of};
 ghost use Rattle.old_log.specs.Old.{old_fault};
@@ -17,7 +17,8 @@ use old_log::{OldFault, Resumed, resume_from};
 use peer_core::Peer;
 use station::Shelf;
 use std::alloc::Global;
-use text_io::{FrontFault, Status, read_front};
+use line_io::{FrontFault, read_front};
+use run_frame::Status;
 
 /// The most bytes that are read of a session's file.
 const FRONT: usize = 1_048_576;

@@ -1,5 +1,5 @@
-use Rattle.text_io.proofs.Frames.{plays_behind, plays_cut}
-use Rattle.drive_script.specs.Drive as D
+use Rattle.run_frame.proofs.Frames.{plays_behind, plays_cut}
+use Rattle.drive_command.specs.Drive as D
 use Rattle.peer_cli.proofs.program.play_on.Goals as goal
 
 pub returns-in-All-clause-text : goal.returns-in-All-clause-text

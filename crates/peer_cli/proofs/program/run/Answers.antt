@@ -1,5 +1,5 @@
-use Rattle.drive_script.proofs.Runs.{drive_runs}
-use Rattle.drive_script.proofs.Streams.{gives_next}
+use Rattle.drive_command.proofs.Runs.{drive_runs}
+use Rattle.drive_command.proofs.Streams.{gives_next}
 use Rattle.peer_cli.proofs.Running.{ran}
 use Rattle.peer_cli.proofs.program.run.Goals as goal
 

@@ -1,6 +1,6 @@
 use Rattle.std.proofs.Common.{Bool, List, ℕ, sym, ◌∙◌, subst}
 use Rattle.grid_world.specs.Reading.{game_at}
-use Rattle.text_io.specs.Fronts.{Fetched}
+use Rattle.line_io.specs.Fronts.{Fetched}
 use Rattle.peer_cli.specs.Games.{IsDue, ended_by}
 use Rattle.peer_cli.proofs.Shelves.{front_read}
 use Rattle.peer_cli.proofs.sessions.open_session.Goals as goal

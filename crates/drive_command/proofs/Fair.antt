@@ -1,0 +1,115 @@
+-- Fair: the log of a peer that is driven is honest, and its reveals stand behind the commitments of all that meet.
+use Rattle.std.proofs.Common.{Bool, List, None, Option, Some, [], false, inl, inr, refl, subst, true, ℕ, ◌+◌, ◌++◌, ◌<◌, ◌∷◌, ◌≡◌, ◌≤◌, ◌⊎◌}
+use Rattle.definitions.specs.declared.logs.Entry.{Entry}
+use Rattle.definitions.specs.declared.logs.Entry.TheVariants.{Got, Made}
+use Rattle.definitions.specs.declared.frames.TurnFrame.{TurnFrame}
+use Rattle.definitions.specs.declared.frames.TurnFrame.TheVariants.{Commit, Reveal}
+use Rattle.definitions.specs.declared.openings.Nonce.{Nonce}
+use Rattle.definitions.specs.declared.world.Move.{Move}
+use Rattle.definitions.specs.World.{Game, players_of}
+use Rattle.definitions.specs.Held.{resolved}
+use Rattle.definitions.specs.Meets.{meets}
+use Rattle.std.specs.Prelude.{IsSome, IsTrue, if◌then◌else◌}
+use Rattle.definitions.specs.Findings.{is_clean}
+use Rattle.definitions.specs.Honest.{IsHonest}
+use Rattle.definitions.specs.Advance.{advance}
+use Rattle.line_io.specs.Inputs.{Input, lines_in}
+use Rattle.definition_laws.proofs.Advances.{advance_honest}
+use Rattle.definition_laws.proofs.Behind.{reveal_behind_received, resolved_received}
+use Rattle.definition_laws.proofs.Permits.{IsHonest_prefix}
+use Rattle.definition_laws.proofs.WellFormed.{honest_well_formed}
+use Rattle.definition_laws.specs.Members.{Has}
+use Rattle.definition_laws.proofs.Members.{Has_split}
+use Rattle.definition_laws.proofs.Stepping.{choice_honest, got_honest}
+use Rattle.wire_frames.specs.declared.frames.Frame.{Frame}
+use Rattle.wire_frames.specs.declared.frames.Frame.TheVariants.{Hello, Turn, Want}
+use Rattle.wire_frames.specs.Streams.{given_of}
+use Rattle.script_grammar.specs.declared.grammar.DriveLine.{DriveLine}
+use Rattle.script_grammar.specs.declared.grammar.DriveLine.TheVariants.{Bad, Bytes, Choose, Log, Nothing}
+use Rattle.script_grammar.specs.declared.grammar.DriveLine.TheVariants as D
+use Rattle.script_grammar.specs.Grammar.{is_bad}
+use Rattle.drive_command.specs.Driven.{State, fresh_state, reader_of}
+use Rattle.drive_command.specs.Coming.{bytes_state, log_behind_frame, log_on, log_through}
+use Rattle.drive_command.specs.Drive.{drive_log, log_by, log_from, said_behind, state_behind}
+use Rattle.drive_command.specs.FairPlay.{IsCommittedBy, IsFairPlay, IsGotIn}
+
+on_honest : (game : Game) (me : ℕ) (now last : List Entry) → IsHonest game me now → IsHonest game me last → IsHonest game me (log_on game now last)
+on_honest game me now last i j = go (is_clean game now)
+  where
+    go : (b : Bool) → IsHonest game me (if b then last else now)
+    go true = j
+    go false = i
+
+-- a frame that comes
+frame_honest : (game : Game) (me : ℕ) (h : List Entry) (q : ℕ) (f : Frame) → IsHonest game me h → IsHonest game me (log_behind_frame game me h q f)
+frame_honest game me h q (Turn f) i = got_honest game me q h f i
+frame_honest game me h q (Hello id p pass next) i = i
+frame_honest game me h q (Want place) i = i
+
+frames_honest : (game : Game) (me : ℕ) (h : List Entry) (q : ℕ) (fs : List Frame) → IsHonest game me h → IsHonest game me (log_through game me h q fs)
+unfolding log_through
+frames_honest game me h q [] i = i
+frames_honest game me h q (f ∷ fs) i =
+    let next = log_behind_frame game me h q f in
+    let j = frame_honest game me h q f i in
+    on_honest game me next (log_through game me next q fs) j (frames_honest game me next q fs j)
+
+behind_honest : (game : Game) (me : ℕ) (s : State) (d : DriveLine) → 1 ≤ game.ahead → IsHonest game me s.log → IsHonest game me (state_behind game me s d).log
+unfolding state_behind bytes_state
+behind_honest game me s Nothing a i = i
+behind_honest game me s (Choose mv nonce) a i = choice_honest game me s.log mv nonce a i
+behind_honest game me s (D.Got q f) a i = got_honest game me q s.log f i
+behind_honest game me s (Bytes q bytes) a i = frames_honest game me s.log q (given_of (reader_of s q) bytes).frames i
+behind_honest game me s Log a i = i
+behind_honest game me s Bad a i = i
+
+by_honest : (game : Game) (me : ℕ) (now last : List Entry) (bad : Bool) → IsHonest game me now → IsHonest game me last → IsHonest game me (log_by bad now last)
+by_honest game me now last true i j = i
+by_honest game me now last false i j = j
+
+from_honest : (game : Game) (me : ℕ) (s : State) (n : ℕ) (lines : List (List ℕ)) → 1 ≤ game.ahead → IsHonest game me s.log → IsHonest game me (log_from game me s n lines)
+from_honest game me s n [] a i = i
+from_honest game me s n (line ∷ lines) a i =
+    let next : State = state_behind game me s (said_behind n line) in
+    let j = behind_honest game me s (said_behind n line) a i in
+    by_honest game me s.log (log_on game next.log (log_from game me next (n + 1) lines)) (is_bad (said_behind n line)) i
+    (on_honest game me next.log (log_from game me next (n + 1) lines) j (from_honest game me next (n + 1) lines a j))
+
+-- a log that begins honest ends so
+pub log_honest : (game : Game) (me : ℕ) (first : List Entry) (input : Input) → 1 ≤ game.ahead → IsHonest game me first → IsHonest game me (drive_log game me first input)
+unfolding drive_log
+log_honest game me first input a i =
+    let j = advance_honest game me first i in
+    let next = advance game me first in
+    on_honest game me next (log_from game me (fresh_state next) 0 (lines_in input)) j (from_honest game me (fresh_state next) 0 (lines_in input) a j)
+
+got_in : (log : List Entry) (q : ℕ) (f : TurnFrame) → Has log (Got q f) → IsGotIn log q f
+got_in log q f h = let s = Has_split log (Got q f) h in record { before = s.0; behind = s.1; log_is = s.2 }
+
+-- a player who met the owner, or whose turn was resolved, had committed to it
+behind_met : (game : Game) (me : ℕ) (front back : List Entry) (q t : ℕ) (mv : Move) (nonce : Nonce) → 1 ≤ game.ahead → IsHonest game me (front ++ Made (Reveal me t mv nonce) ∷ back) →
+    q < players_of game → (q ≡ me → ⊥) → (IsTrue (meets game me front q t) ⊎ IsSome (resolved game me front q t)) → IsCommittedBy game me front q t
+behind_met game me front back q t mv nonce a i l other (inl met) =
+    let b = reveal_behind_received game me t q front back mv nonce a i l other met in
+    record { digest = b.0; held_is = b.1; received = got_in front q (Commit q t b.0) b.2 }
+behind_met game me front back q t mv nonce a i l other (inr some) = go (resolved game me front q t) refl some
+  where
+    go : (o : Option Move) → resolved game me front q t ≡ o → IsSome o → IsCommittedBy game me front q t
+    go None e none = cc
+    go (Some m) e there =
+        let j = IsHonest_prefix game me front (Made (Reveal me t mv nonce) ∷ back) i in
+        let r = resolved_received game me q t front m (honest_well_formed game me front a j) other e in
+        record { digest = r.0; held_is = r.2; received = got_in front q (Commit q t r.0) r.3 }
+
+-- an honest log shows fair play
+pub honest_fair : (game : Game) (me : ℕ) (log : List Entry) → 1 ≤ game.ahead → IsHonest game me log → IsFairPlay game me log
+honest_fair game me log a i = record {
+  honest = i;
+  behind = λ front back q t mv nonce e l other met. behind_met game me front back q t mv nonce a (subst (λ (h : List Entry). IsHonest game me h) e i) l other met;
+  opened = λ q t mv other e.
+      let r = resolved_received game me q t log mv (honest_well_formed game me log a i) other e in
+      record { digest = r.0; nonce = r.1; held_is = r.2; opens = r.5; committed = got_in log q (Commit q t r.0) r.3; revealed = got_in log q (Reveal q t mv r.1) r.4 };
+}
+
+pub drive_fair : (game : Game) (me : ℕ) (first : List Entry) (input : Input) → 1 ≤ game.ahead → IsHonest game me first → IsFairPlay game me (drive_log game me first input)
+drive_fair game me first input a i = honest_fair game me (drive_log game me first input) a (log_honest game me first input a i)

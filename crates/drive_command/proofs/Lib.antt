@@ -1,0 +1,11 @@
+pub mod Choices
+pub mod Plays
+pub mod Players
+pub mod LineOutcomes
+pub mod Fair
+pub mod Ends
+pub mod Tellings
+pub mod Parts
+pub mod Digits
+pub mod Streams
+pub mod Runs

@@ -1,0 +1,9 @@
+pub mod Report
+pub mod Driven
+pub mod Coming
+pub mod Drive
+pub mod Outcomes
+pub mod Bringing
+pub mod Telling
+pub mod FairPlay
+pub mod Laws

@@ -1,7 +1,0 @@
-use Rattle.std.proofs.Common.{drop, flat_map}
-use Rattle.text_io.specs.Texts.{Underway}
-use Rattle.drive_script.specs.Lines.{need_text}
-use Rattle.drive_script.proofs.printing.put_each_need.Given as goal
-
-abbrev pub invariant-needs : goal.invariant-needs
-invariant-needs g l = Underway (g.O.Sink.state l.initial.out) (g.O.Sink.state l.out) (flat_map need_text l.needs) (flat_map need_text (drop l.need-index l.needs))

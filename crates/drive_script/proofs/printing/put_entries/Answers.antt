@@ -1,9 +1,0 @@
-use Rattle.std.proofs.Common.{arith, drop, flat_map, ◌+◌}
-use Rattle.std.proofs.lemmas.Grind.{common_steps}
-use Rattle.text_io.proofs.Writing.{underway_cut}
-use Rattle.drive_script.specs.Lines.{entry_text}
-use Rattle.drive_script.proofs.printing.put_entries.Goals as goal
-
-pub returns-in-Failed : goal.returns-in-Failed
-returns-in-Failed g c =
-    underway_cut _ _ _ _ _ c.as_slice.result.now (flat_map entry_text (drop (c.entries.entry-index + 1) c.args.entries.now)) c.entries.invariant (grind (arith, common_steps)) c.in-Failed.ensures

@@ -1,9 +1,0 @@
-pub mod Lines
-pub mod Driven
-pub mod Coming
-pub mod Drive
-pub mod Hearing
-pub mod Bringing
-pub mod Telling
-pub mod FairPlay
-pub mod Laws

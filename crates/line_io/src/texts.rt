@@ -1,0 +1,28 @@
+//! Texts to a sink.
+
+ghost use Rattle.line_io.specs.Texts.{Puts};
+
+use station::{Push, Sink};
+
+/// Whether a text was written.
+#[derive(Clone, Copy, Debug, PartialEq, Eq)]
+pub enum Written {
+    /// All of it.
+    All,
+    /// The sink failed, and holds only a first part of the text.
+    Failed,
+}
+
+/// Writes the bytes, all of them unless the sink fails. An empty text is written without a call of the sink.
+pub fn put<O: Sink>(out: &mut O, bytes: &[u8]) -> Written
+    ensures { Puts (O.state out.old) (O.state out.new) bytes.now result }
+{
+    let mut rest = bytes;
+    while !rest.is_empty() {
+        match out.write(rest) {
+            Push::Failed => return Written::Failed,
+            Push::Gave(count) => rest = &rest[count..],
+        }
+    }
+    Written::All
+}

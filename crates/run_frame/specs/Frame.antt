@@ -1,0 +1,55 @@
+-- The frame of every command: what is to be written and how it is to end, and what a run makes of that.
+use Rattle.std.specs.Prelude.{◌≡◌, ◌⊎◌, ℕ, Bool, true, false, List, [], ◌++◌}
+use Rattle.station.specs.Sinks.{SinkState, after_bytes}
+use Rattle.line_io.specs.Texts.{CutShort, Underway}
+use Rattle.run_frame.specs.declared.statuses.Status.{Status}
+use Rattle.run_frame.specs.declared.statuses.Status.TheVariants.{Done, NoMemory, InputFault, OutputFault}
+
+-- What a command writes and how it ends, where the sink and the shelf don't fail and memory suffices. The line of a refusal is
+-- no part of the body.
+pub record Answer : Type 0 where
+  pub body : List ℕ
+  pub status : Status
+
+-- the answer with a text before it
+abbrev pub after_text : List ℕ → Answer → Answer
+after_text text answer = record { body = text ++ answer.body; status = answer.status }
+
+-- the answer that is this status alone
+abbrev pub bare_answer : Status → Answer
+bare_answer status = record { body = []; status = status }
+
+-- A run goes on: some of what was due was written, and the rest is still due.
+pub record Onward (before now : SinkState) (due rest : Answer) : Type 0 where
+  pub text : Underway before now due.body rest.body
+  pub status : rest.status ≡ due.status
+
+-- A run over its input ends with this status, all its memory taken, where this was due: all of it is written, or the sink failed
+-- in it.
+abbrev pub Ends : (before now : SinkState) → Answer → Status → Type 0
+Ends before now due NoMemory = ⊥
+Ends before now due OutputFault = CutShort before now due.body
+Ends before now due status = (now ≡ after_bytes before due.body) × (status ≡ due.status)
+
+-- A command has ended with this status, but for the line of a refusal. Before its first byte memory may be wanting, or the
+-- shelf may fail: nothing is written in either case. `source` and `shelf` say that they failed.
+abbrev pub Ran : (before now : SinkState) → Answer → (source shelf : Type 0) → Status → Type 0
+Ran before now due source shelf NoMemory = now ≡ before
+Ran before now due source shelf InputFault = (shelf × (now ≡ before)) ⊎ (source × (InputFault ≡ due.status) × (now ≡ after_bytes before due.body))
+Ran before now due source shelf OutputFault = CutShort before now due.body
+Ran before now due source shelf status = (now ≡ after_bytes before due.body) × (status ≡ due.status)
+
+-- whether the status tells of a fault of the source or the shelf
+abbrev pub is_input_fault : Status → Bool
+is_input_fault InputFault = true
+is_input_fault status = false
+
+-- P, where the command came to its end
+abbrev pub OnDone : Status → Type 0 → Type 0
+OnDone Done P = P
+OnDone status P = Unit {0}
+
+-- P, where memory was wanting
+abbrev pub OnNoMemory : Status → Type 0 → Type 0
+OnNoMemory NoMemory P = P
+OnNoMemory status P = Unit {0}

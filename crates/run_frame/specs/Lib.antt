@@ -1,0 +1,4 @@
+pub mod Statuses
+pub mod Frame
+pub mod Turns
+pub mod Ends
