@@ -3,9 +3,9 @@
 ghost use Rattle.std.specs.Prelude.{◌≡◌, ◌∷◌, [], false, bytes_eq, IfOk};
 
 use peer_cli::{run, run_in_memory};
+use run_frame::Status;
 use station::{MemoryShelf, MemorySink, MemorySource, ShelfFile};
 use std::alloc::{AllocError, Global};
-use run_frame::Status;
 
 /// The calls of each object that are to fail, counted from 1.
 pub struct Fails {

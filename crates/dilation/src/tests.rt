@@ -13,7 +13,8 @@ use std::process::Abort;
 use std::sync::ledger::{Blank, Ledger};
 use std::test::Fail;
 
-static CORRIDOR: &[u8] = b"playout 1\ngrid 12 1\nrules 1 1 0\ncharge 1 2 1\nturns 8\nplayers 2\nplayer 0 0 0\nplayer 1 9 0\nend\n";
+static CORRIDOR: &[u8] =
+    b"playout 1\ngrid 12 1\nrules 1 1 0\ncharge 1 2 1\nturns 8\nplayers 2\nplayer 0 0 0\nplayer 1 9 0\nend\n";
 
 /// Follows player 1, who was followed for no turn yet and goes a step a turn: for 3 turns, which takes 3 growths at most; for
 /// 5, which takes 2 more; for 5 again, which takes none; and for 4, which begins anew and takes 4.
@@ -34,11 +35,7 @@ fn follow<L: Ledger>(dilation: &mut Dilation, steps: &mut Steps<L>)
 }
 
 /// Follows player 1 of the corridor as above, and then sees it a step on.
-fn follow_on_corridor<L: Ledger, R: Abort>(
-    rt: &R,
-    alloc: Global,
-    blank: Blank,
-) -> Result<(), Fail>
+fn follow_on_corridor<L: Ledger, R: Abort>(rt: &R, alloc: Global, blank: Blank) -> Result<(), Fail>
     requires name { blank.name ≡ L.name }
     requires parts { blank.parts ≡ L.parts }
     requires some { 0 < blank.parts }

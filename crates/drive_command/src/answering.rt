@@ -11,9 +11,9 @@ use crate::driver::{Driver, MOST_LINES};
 use crate::outcomes::{Outcome, is_last};
 use crate::printing::{put_answered, put_part};
 use definitions::PlayerId;
-use station::Sink;
 use line_io::{LONGEST_LINE, Written};
 use run_frame::{LoopTurn, Status, TextName};
+use station::Sink;
 
 /// Whether more of a line's bytes are to be read.
 #[derive(Clone, Copy)]

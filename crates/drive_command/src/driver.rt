@@ -17,8 +17,8 @@ ghost use Rattle.line_io.specs.Inputs.{Input, Line};
 
 use crate::outcomes::{Answered, Arrival, Outcome, Part, Reply};
 use crate::readers::Readers;
-use line_io::LONGEST_LINE;
 use definitions::{GotAnswer, Move, Nonce, OwnFault, PlayerId, TurnFrame};
+use line_io::LONGEST_LINE;
 use peer_core::{Peer, is_logged};
 use script_grammar::{DriveLine, read_line};
 use std::marker::Model;

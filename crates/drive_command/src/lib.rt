@@ -7,9 +7,9 @@
 
 mod answering;
 mod driver;
-mod outcomes;
 pub mod laws;
 mod logging;
+mod outcomes;
 pub mod playing;
 mod printing;
 mod readers;

@@ -10,10 +10,10 @@ ghost use Rattle.session_log.specs.Spelling.{log_bytes};
 use arrayvec::ArrayVec;
 use definitions::Entry;
 use hex::encode_to_slice;
+use line_io::{Written, put};
 use peer_core::Peer;
 use session_log::LogWriter;
 use station::Sink;
-use line_io::{Written, put};
 
 /// The digits of the next entry's bytes in a log.
 fn entry_digits(writer: &mut LogWriter, entry: &Entry) -> ArrayVec<u8, 192>

@@ -14,10 +14,10 @@ ghost use Rattle.drive_command.specs.Outcomes.{driven_from};
 use crate::answering::{answer, bad_line_status};
 use crate::driver::{Driver, MOST_LINES};
 use crate::printing::{put_end, put_start};
-use peer_core::Peer;
-use station::{Sink, Source};
 use line_io::{LONGEST_LINE, LineReader, NextLine, Written};
+use peer_core::Peer;
 use run_frame::{LoopTurn, Status};
+use station::{Sink, Source};
 
 /// Writes the end of a peer whose log has a finding.
 fn end_caught<O: Sink>(driver: &Driver, out: &mut O) -> Status

@@ -8,16 +8,16 @@ ghost use Rattle.drive_command.specs.Report.{stand_text, viewed_text, players_te
 ghost use Rattle.drive_command.specs.Outcomes.{reply_text, part_text, answered_text, HasAll, HasBefore};
 ghost use Rattle.definition_laws.specs.First.{finding_of_log};
 
-use crate::outcomes::{Answered, Arrival, Reply};
 use crate::logging::put_log;
+use crate::outcomes::{Answered, Arrival, Reply};
 use definitions::{OwnFault, PlayerId, Turn};
+use line_io::{Written, put};
 use peer_core::Peer;
 use report_lines::{
     bad_byte_line, choice_line, due_line, end_line, got_line, hello_line, player_line, put_added,
     put_found, put_needs, want_line,
 };
 use station::Sink;
-use line_io::{Written, put};
 
 /// Writes how the peer stands; nothing where its log has a finding.
 #[tactic(auto, unfolding(crate::specs::Report::stand_text))]
@@ -127,7 +127,12 @@ pub(crate) fn put_answered<O: Sink>(peer: &Peer, answered: &Answered, out: &mut 
 }
 
 /// Writes what is told of what arrived in bytes that came from a player.
-pub(crate) fn put_part<O: Sink>(peer: &Peer, from: PlayerId, arrival: &Arrival, out: &mut O) -> Written
+pub(crate) fn put_part<O: Sink>(
+    peer: &Peer,
+    from: PlayerId,
+    arrival: &Arrival,
+    out: &mut O,
+) -> Written
     requires { HasBefore arrival.now peer.now.entries }
     ensures { Puts (O.state out.old) (O.state out.new) (part_text arrival.now from peer.now.entries) result }
 {

@@ -5,10 +5,10 @@
 
 use file_shelf::FileShelf;
 use peer_cli::run;
+use run_frame::{Status, refuse};
 use station::{StdSink, StdSource};
 use std::io::{self, ErrorKind};
 use std::process::ExitCode;
-use run_frame::{Status, refuse};
 
 /// The status where the machine refuses the program its words.
 const NO_WORDS: u8 = 15;

@@ -30,7 +30,6 @@ pub struct ByteReader {
 
 impl Model for ByteReader {
     ghost use Rattle.std.specs.Prelude.{◌-◌, ◌≤◌, List, ℕ, take, drop};
-
     ghost use Rattle.line_io.specs.declared.bytes.TheConstants.{CHUNK};
 
     ghost Value = { List ℕ };

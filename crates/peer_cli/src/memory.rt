@@ -5,9 +5,9 @@ ghost use Rattle.peer_cli.specs.Memory.{WritesInMemory};
 ghost use Rattle.peer_cli.specs.Words.{command_of};
 
 use crate::program::run;
+use run_frame::Status;
 use station::{MemoryShelf, MemorySink, MemorySource};
 use std::alloc::Global;
-use run_frame::Status;
 
 /// Runs the program over objects in memory. What it wrote is due by what the files and the input held: this follows from the promises
 /// of `run` alone.

@@ -17,11 +17,11 @@ use crate::words::{DriveWords, read_command};
 use arrayvec::ArrayVec;
 use drive_command::play;
 use itoa::Buffer;
+use line_io::{Written, put};
 use old_log::Resumed;
+use run_frame::{Status, refuse};
 use station::{Shelf, Sink, Source};
 use std::alloc::Global;
-use line_io::{Written, put};
-use run_frame::{Status, refuse};
 
 /// The line that tells from which byte on a log is dropped.
 #[tactic(auto, unfolding(crate::specs::Program::dropped_line))]

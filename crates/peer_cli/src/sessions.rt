@@ -13,12 +13,12 @@ ghost use Rattle.peer_cli.specs.Games.{IsDue, IsStartFor, is_shelf_fault};
 
 use definitions::PlayerId;
 use grid_world::{Session, SessionFault, read_session};
+use line_io::{FrontFault, read_front};
 use old_log::{OldFault, Resumed, resume_from};
 use peer_core::Peer;
+use run_frame::Status;
 use station::Shelf;
 use std::alloc::Global;
-use line_io::{FrontFault, read_front};
-use run_frame::Status;
 
 /// The most bytes that are read of a session's file.
 const FRONT: usize = 1_048_576;

@@ -8,7 +8,7 @@ pub mod lines;
 pub mod printing;
 
 pub use lines::{
-    ReportLine, bad_byte_line, caught_line, choice_line, due_line, end_line, entry_line, got_line, hello_line,
-    need_line, player_line, want_line,
+    ReportLine, bad_byte_line, caught_line, choice_line, due_line, end_line, entry_line, got_line,
+    hello_line, need_line, player_line, want_line,
 };
 pub use printing::{put_added, put_found, put_needs};

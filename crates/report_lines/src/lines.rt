@@ -9,7 +9,8 @@ ghost use Rattle.report_lines.specs.Lines as L;
 use arrayvec::ArrayVec;
 use commitment::put_turn;
 use definitions::{
-    Entry, Finding, GotAnswer, Kind, MoveFault, Need, OwnFault, PlayerId, Track, Turn, TurnFrame, What,
+    Entry, Finding, GotAnswer, Kind, MoveFault, Need, OwnFault, PlayerId, Track, Turn, TurnFrame,
+    What,
 };
 use hex::encode_to_slice;
 use itoa::Buffer;
