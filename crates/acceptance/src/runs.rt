@@ -48,7 +48,7 @@ fn source_of(
 
 /// An output with room for each text here.
 fn sink_of(alloc: Global, fails: &'static [u32]) -> Result<MemorySink, AllocError> {
-    MemorySink::new(alloc, 131_072, Vec::from_slice(alloc, fails)?)
+    MemorySink::new(alloc, 2_097_152, Vec::from_slice(alloc, fails)?)
 }
 
 /// Runs the program on these words, with one file `s` on the shelf and this input, and gives its status and what it wrote.
