@@ -9,3 +9,4 @@ pub mod Parts
 pub mod Digits
 pub mod Streams
 pub mod Runs
+pub mod Commanded

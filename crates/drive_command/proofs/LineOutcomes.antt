@@ -24,7 +24,7 @@ use Rattle.script_grammar.specs.declared.grammar.DriveLine.{DriveLine}
 use Rattle.script_grammar.specs.declared.grammar.DriveLine.TheVariants.{Bad, Nothing, Choose, Got, Bytes, Log}
 use Rattle.script_grammar.specs.Grammar.{is_bad, line_of}
 use Rattle.line_io.specs.declared.lines.TheConstants.{LONGEST_LINE}
-use Rattle.drive_command.specs.declared.driver.TheConstants.{MOST_LINES}
+use Rattle.definitions.specs.declared.limits.TheConstants.{MOST_LINES}
 use Rattle.drive_command.specs.Driven.{State, state_with_log}
 use Rattle.drive_command.specs.Coming.{received_text, bytes_text, bytes_state}
 use Rattle.drive_command.specs.Drive.{answer_by, drive_from, going_on, said_behind, state_behind, text_behind}

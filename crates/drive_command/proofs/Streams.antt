@@ -2,6 +2,7 @@
 use Rattle.std.proofs.Common.{Bool, List, [], ap, append-nil, append_assoc, arith, false, flat_map, length, refl, sym, true, ℕ, ◌+◌, ◌<◌, ◌++◌, ◌∙◌, ◌∷◌, ◌≡◌}
 use Rattle.std.specs.Prelude.{get_or, if◌then◌else◌, ◌==◌}
 use Rattle.std.proofs.lemmas.Bool.{eqb-false, eqb-true}
+use Rattle.std.proofs.lemmas.Grind.{flat_map-append}
 use Rattle.std.proofs.lemmas.List.{get_or-replicate, get_or-set_other, get_or-set_same, length-set}
 use Rattle.definitions.specs.declared.logs.Entry.{Entry}
 use Rattle.definitions.specs.World.{Game}
@@ -27,8 +28,7 @@ joined ps = flat_map (λ (p : List ℕ). p) ps
 
 joined_append : (a b : List (List ℕ)) → joined (a ++ b) ≡ joined a ++ joined b
 unfolding joined
-joined_append [] b = refl
-joined_append (p ∷ a) b = ap (λ (t : List ℕ). p ++ t) (joined_append a b) ∙ sym (append_assoc p (joined a) (joined b))
+joined_append a b = flat_map-append (λ (p : List ℕ). p) a b
 
 bytes_joined : (q n : ℕ) (lines : List (List ℕ)) → bytes_of q n lines ≡ joined (pieces q n lines)
 unfolding pieces joined

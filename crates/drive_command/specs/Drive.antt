@@ -16,7 +16,7 @@ use Rattle.script_grammar.specs.declared.grammar.DriveLine.{DriveLine}
 use Rattle.script_grammar.specs.declared.grammar.DriveLine.TheVariants.{Nothing, Choose, Got, Bytes, Log, Bad}
 use Rattle.script_grammar.specs.Grammar.{line_of, is_bad}
 use Rattle.line_io.specs.declared.lines.TheConstants.{LONGEST_LINE}
-use Rattle.drive_command.specs.declared.driver.TheConstants.{MOST_LINES}
+use Rattle.definitions.specs.declared.limits.TheConstants.{MOST_LINES}
 use Rattle.drive_command.specs.Driven.{State, fresh_state, state_with_log}
 use Rattle.drive_command.specs.Coming.{received_text, bytes_text, bytes_state, log_on}
 use Rattle.report_lines.specs.Lines.{choice_text, found_text, added_text}

@@ -40,6 +40,6 @@ pub record IsOpenedBy (game : Game) (me : ℕ) (log : List Entry) (q t : ℕ) (m
 -- another player opens the digest held.
 pub record IsFairPlay (game : Game) (me : ℕ) (log : List Entry) : Type 0 where
   pub honest : IsHonest game me log
-  pub behind : (front back : List Entry) (q t : ℕ) (mv : Move) (nonce : Nonce) → log ≡ front ++ Made (Reveal me t mv nonce) ∷ back →
-      q < players_of game → (q ≡ me → ⊥) → (IsTrue (meets game me front q t) ⊎ IsSome (resolved game me front q t)) → IsCommittedBy game me front q t
+  pub behind : (before after : List Entry) (q t : ℕ) (mv : Move) (nonce : Nonce) → log ≡ before ++ Made (Reveal me t mv nonce) ∷ after →
+      q < players_of game → (q ≡ me → ⊥) → (IsTrue (meets game me before q t) ⊎ IsSome (resolved game me before q t)) → IsCommittedBy game me before q t
   pub opened : (q t : ℕ) (mv : Move) → (q ≡ me → ⊥) → resolved game me log q t ≡ Some mv → IsOpenedBy game me log q t mv

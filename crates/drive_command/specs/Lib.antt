@@ -7,3 +7,6 @@ pub mod Bringing
 pub mod Telling
 pub mod FairPlay
 pub mod Laws
+pub mod Words
+pub mod Begin
+pub mod Causes

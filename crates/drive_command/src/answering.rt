@@ -7,10 +7,11 @@ ghost use Rattle.run_frame.specs.Turns.{Turns, OnTurn};
 ghost use Rattle.drive_command.specs.Outcomes.{driven_from, bytes_from, MayCome};
 ghost use Rattle.drive_command.specs.Bringing.{BringsPart, OnMore};
 
-use crate::driver::{Driver, MOST_LINES};
+use crate::driver::Driver;
 use crate::outcomes::{Outcome, is_last};
 use crate::printing::{put_answered, put_part};
 use definitions::PlayerId;
+use definitions::limits::MOST_LINES;
 use line_io::{LONGEST_LINE, Written};
 use run_frame::{LoopTurn, Status, TextName};
 use station::Sink;

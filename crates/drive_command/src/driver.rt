@@ -17,15 +17,13 @@ ghost use Rattle.line_io.specs.Inputs.{Input, Line};
 
 use crate::outcomes::{Answered, Arrival, Outcome, Part, Reply};
 use crate::readers::Readers;
+use definitions::limits::MOST_LINES;
 use definitions::{GotAnswer, Move, Nonce, OwnFault, PlayerId, TurnFrame};
 use line_io::LONGEST_LINE;
 use peer_core::{Peer, is_logged};
 use script_grammar::{DriveLine, read_line};
 use std::marker::Model;
 use wire_frames::{FedWhat, Frame};
-
-/// The most lines that a script has.
-pub(crate) const MOST_LINES: u32 = 1_048_576;
 
 /// The most bytes that a line brings from a player.
 pub(crate) const LONGEST_PIECE: usize = 512;
@@ -68,7 +66,8 @@ impl Model for Driver {
     ghost use Rattle.std.specs.Prelude.{◌≤◌, ◌*◌, ℕ, get_or};
     ghost use Rattle.wire_frames.specs.Reading.{at_start};
     ghost use Rattle.drive_command.specs.Driven.{Driven};
-    ghost use Rattle.drive_command.specs.declared.driver.TheConstants.{LONGEST_PIECE, MOST_LINES};
+    ghost use Rattle.definitions.specs.declared.limits.TheConstants.{MOST_LINES};
+    ghost use Rattle.drive_command.specs.declared.driver.TheConstants.{LONGEST_PIECE};
 
     ghost Value = { Driven };
 

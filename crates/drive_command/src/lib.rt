@@ -1,8 +1,10 @@
-//! A peer that is driven by a script: what it answers to each line, and how its run ends.
+//! The command that drives a peer by a script: what its words say, what it answers to each line, and how its run ends.
 //!
 //! What is written, and the log that the peer keeps, are those of the definitions in `specs/Drive.antt`: a line outside the
-//! grammar ends the run behind the answers to the lines before it, and each frame that is made is told by a line. The crate
-//! touches the source and the sink that it is handed, and takes no memory.
+//! grammar ends the run behind the answers to the lines before it, and each frame that is made is told by a line. For a program of many
+//! commands the crate has its words (`specs/Words.antt`), its answer and what is behind it (`Begin`), why it ends as it does (`Causes`), one
+//! function (`drive`), and its laws (`laws`; the lemmas in `proofs/Commanded.antt`). The crate touches the source and the sink that it is
+//! handed, and takes no memory.
 #![tactic(auto)]
 
 mod answering;
@@ -13,5 +15,7 @@ mod outcomes;
 pub mod playing;
 mod printing;
 mod readers;
+pub mod words;
 
-pub use playing::play;
+pub use playing::{drive, play};
+pub use words::{DriveWords, read_drive_words};

@@ -15,14 +15,20 @@ use peer_core::Peer;
 use session_log::LogWriter;
 use station::Sink;
 
+/// Room for the bytes of an entry.
+const ENTRY_ROOM: usize = 96;
+
+/// Room for the digits that spell them.
+const ENTRY_DIGITS: usize = 192;
+
 /// The digits of the next entry's bytes in a log.
-fn entry_digits(writer: &mut LogWriter, entry: &Entry) -> ArrayVec<u8, 192>
+fn entry_digits(writer: &mut LogWriter, entry: &Entry) -> ArrayVec<u8, ENTRY_DIGITS>
     ensures digits { result.items ≡ encode_lower (written writer.old entry.now) }
     ensures writer { writer.new ≡ after writer.old entry.now }
 {
-    let mut bytes = [0; 96];
+    let mut bytes = [0; ENTRY_ROOM];
     let count = writer.put(entry, &mut bytes);
-    let mut digits = [0; 192];
+    let mut digits = [0; ENTRY_DIGITS];
     encode_to_slice(&bytes[..count], &mut digits[..2 * count]).unwrap();
     let mut text = ArrayVec::new();
     text.try_extend_from_slice(&digits[..2 * count]).unwrap();

@@ -7,15 +7,18 @@ ghost use Rattle.definition_laws.specs.First.{finding_of_log};
 ghost use Rattle.line_io.specs.Inputs.{Input, Line, End};
 ghost use Rattle.run_frame.specs.Frame.{Ends, after_text};
 ghost use Rattle.run_frame.specs.Turns.{Plays, PlaysTurn, OnTurn};
-ghost use Rattle.drive_command.specs.Drive.{drive};
+ghost use Rattle.drive_command.specs.Begin.{begun_answer};
+ghost use Rattle.drive_command.specs.Drive as D;
 ghost use Rattle.report_lines.specs.Lines.{added_text, found_text};
 ghost use Rattle.drive_command.specs.Outcomes.{driven_from};
 
 use crate::answering::{answer, bad_line_status};
-use crate::driver::{Driver, MOST_LINES};
+use crate::driver::Driver;
 use crate::printing::{put_end, put_start};
+use definitions::limits::MOST_LINES;
 use line_io::{LONGEST_LINE, LineReader, NextLine, Written};
 use peer_core::Peer;
+use report_lines::put_dropped;
 use run_frame::{LoopTurn, Status};
 use station::{Sink, Source};
 
@@ -125,7 +128,7 @@ fn follow<I: Source, O: Sink>(
 pub fn play<I: Source, O: Sink>(peer: Peer, input: &mut I, out: &mut O) -> Status
 
     // What is read and written, and how the run ends: as is due for the bytes that were read, whatever stands behind them.
-    ensures text { Plays (I.state input.old) (I.state input.new) (O.state out.old) (O.state out.new) (drive peer.game peer.me peer.entries) [] result }
+    ensures text { Plays (I.state input.old) (I.state input.new) (O.state out.old) (O.state out.new) (D.drive peer.game peer.me peer.entries) [] result }
 
     // Where the log that the peer begins with has a finding, the input is left alone.
     ensures untouched { is_clean peer.game (advance peer.game peer.me peer.entries) ≡ false → input.new ≡ input.old }
@@ -133,4 +136,22 @@ pub fn play<I: Source, O: Sink>(peer: Peer, input: &mut I, out: &mut O) -> Statu
     let entries = peer.entries().len();
     let mut driver = Driver::new(peer);
     follow(&mut driver, entries, input, out)
+}
+
+/// Tells from which byte on the log is dropped that the peer goes on from, if it is, and then plays the input as the script of the
+/// peer.
+pub fn drive<I: Source, O: Sink>(
+    peer: Peer,
+    dropped: Option<u32>,
+    input: &mut I,
+    out: &mut O,
+) -> Status
+    ensures text { Plays (I.state input.old) (I.state input.new) (O.state out.old) (O.state out.new)
+        (begun_answer peer.me (record { game = peer.game; first = peer.entries; dropped = dropped })) [] result }
+    ensures untouched { is_clean peer.game (advance peer.game peer.me peer.entries) ≡ false → input.new ≡ input.old }
+{
+    match put_dropped(dropped, out) {
+        Written::All => play(peer, input, out),
+        Written::Failed => Status::OutputFault,
+    }
 }

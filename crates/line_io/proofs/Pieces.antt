@@ -6,9 +6,9 @@ use Rattle.std.proofs.Math.Seq.{take-add}
 use Rattle.std.proofs.lemmas.List.{take-append-drop, drop_all}
 use Rattle.station.specs.Outside.{one_more}
 use Rattle.station.specs.Pieces.{Piece, GivesAt, AllGive}
-use Rattle.station.specs.Shelves.{ShelfState, GivesTold}
+use Rattle.station.specs.Shelves.{ShelfState, GivesShown}
 use Rattle.station.specs.Since.{since, Grows, since_is, since_none, since_on, grows_by, grows_none, grows_on}
-use Rattle.line_io.specs.Fronts.{AllTold, Fetched, IsCall, IsFrontOf, IsReading, ReadsFront, TakesPiece, bytes_given}
+use Rattle.line_io.specs.Fronts.{AllShown, Fetched, IsCall, IsFrontOf, IsReading, ReadsFront, TakesPiece, bytes_given}
 use Rattle.line_io.specs.declared.fronts.PieceTurn.TheVariants.{End, Fault}
 use Rattle.line_io.specs.declared.fronts.FrontFault.{FrontFault}
 use Rattle.line_io.specs.declared.fronts.FrontFault.TheVariants.{NoMemory, Failed}
@@ -73,7 +73,7 @@ pub record Fetching (before now : ShelfState) (name : List ℕ) (next : ℕ) : T
   pub same : now.files ≡ before.files
   pub grows : Grows before.pieces now.pieces
   pub reads : ReadsTo name 0 (since before.pieces now.pieces) next
-  pub told : AllTold before.files name (since before.pieces now.pieces)
+  pub shown : AllShown before.files name (since before.pieces now.pieces)
   pub counted : now.faults ≡ before.faults
 
 pub fetching_none : (s : ShelfState) (name : List ℕ) → Fetching s s name 0
@@ -81,11 +81,11 @@ fetching_none s name = record {
   same = refl;
   grows = grows_none s.pieces;
   reads = subst (λ (ps : List Piece). ReadsTo name 0 ps 0) (sym (since_none s.pieces)) refl;
-  told = subst (AllTold s.files name) (sym (since_none s.pieces)) (go s.files);
+  shown = subst (AllShown s.files name) (sym (since_none s.pieces)) (go s.files);
   counted = refl;
 }
   where
-    go : (files : Option (List ℕ → Option (List ℕ))) → AllTold files name []
+    go : (files : Option (List ℕ → Option (List ℕ))) → AllShown files name []
     go (Some f) = tt
     go None = tt
 
@@ -106,16 +106,16 @@ module _ (a b c : ShelfState) (name : List ℕ) (next : ℕ) (gave : Option (Lis
   pub now_grows : Grows a.pieces c.pieces
   now_grows = grows_on a.pieces b.pieces c.pieces f.grows (grows_by b.pieces c.pieces (piece ∷ []) grown)
 
-  told_more : AllTold a.files name (since a.pieces b.pieces ++ piece ∷ [])
+  shown_more : AllShown a.files name (since a.pieces b.pieces ++ piece ∷ [])
   unfolding piece
-  told_more = go a.files f.same f.told
+  shown_more = go a.files f.same f.shown
     where
-      go : (files : Option (List ℕ → Option (List ℕ))) → b.files ≡ files → AllTold files name (since a.pieces b.pieces) → AllTold files name (since a.pieces b.pieces ++ piece ∷ [])
-      go (Some fs) same told = all_append (λ (p : Piece). GivesAt (fs name) p.at p.gave) (since a.pieces b.pieces) (piece ∷ []) told (subst (λ (o : Option (List ℕ → Option (List ℕ))). GivesTold o name next gave) same call.told, tt)
-      go None same told = tt
+      go : (files : Option (List ℕ → Option (List ℕ))) → b.files ≡ files → AllShown files name (since a.pieces b.pieces) → AllShown files name (since a.pieces b.pieces ++ piece ∷ [])
+      go (Some fs) same shown = all_append (λ (p : Piece). GivesAt (fs name) p.at p.gave) (since a.pieces b.pieces) (piece ∷ []) shown (subst (λ (o : Option (List ℕ → Option (List ℕ))). GivesShown o name next gave) same call.shown, tt)
+      go None same shown = tt
 
-  now_told : AllTold a.files name (since a.pieces c.pieces)
-  now_told = subst (AllTold a.files name) (sym pieces_are) told_more
+  now_shown : AllShown a.files name (since a.pieces c.pieces)
+  now_shown = subst (AllShown a.files name) (sym pieces_are) shown_more
 
   now_same : c.files ≡ a.files
   now_same = ap (λ (s : ShelfState). s.files) call.after ∙ f.same
@@ -136,7 +136,7 @@ fetching_more a b c name next bytes f call some = record {
   same = now_same a b c name next (Some bytes) f call;
   grows = now_grows a b c name next (Some bytes) f call;
   reads = now_reads a b c name next (Some bytes) f call some;
-  told = now_told a b c name next (Some bytes) f call;
+  shown = now_shown a b c name next (Some bytes) f call;
   counted = ap (λ (s : ShelfState). s.faults) call.after ∙ f.counted;
 }
 
@@ -145,7 +145,7 @@ fetched_some a b c name next bytes f call = record {
   same = now_same a b c name next (Some bytes) f call;
   grows = now_grows a b c name next (Some bytes) f call;
   reading = now_reading a b c name next (Some bytes) f call;
-  told = now_told a b c name next (Some bytes) f call;
+  shown = now_shown a b c name next (Some bytes) f call;
   counted = ap (λ (s : ShelfState). s.faults) call.after ∙ f.counted;
 }
 
@@ -154,7 +154,7 @@ fetched_failed a b c name next f call = record {
   same = now_same a b c name next None f call;
   grows = now_grows a b c name next None f call;
   reading = now_reading a b c name next None f call;
-  told = now_told a b c name next None f call;
+  shown = now_shown a b c name next None f call;
   counted = ap (λ (s : ShelfState). s.faults) call.after ∙ ap one_more f.counted;
 }
 
@@ -170,7 +170,7 @@ fetched_so a b name next f = record {
   same = f.same;
   grows = f.grows;
   reading = reading_so name 0 (since a.pieces b.pieces) next f.reads;
-  told = f.told;
+  shown = f.shown;
   counted = f.counted;
 }
 

@@ -2,7 +2,7 @@
 use Rattle.std.specs.Prelude.{◌≡◌, ℕ, ◌+◌, ◌≤◌, Bool, true, false, Result, Ok, Err, IfOk, Option, Some, None, List, [], ◌∷◌, ◌++◌, ◌<◌, length, take}
 use Rattle.station.specs.Outside.{faults_behind}
 use Rattle.station.specs.Pieces.{Piece, AllGive}
-use Rattle.station.specs.Shelves.{ShelfState, GivesTold, after_piece}
+use Rattle.station.specs.Shelves.{ShelfState, GivesShown, after_piece}
 use Rattle.station.specs.Since.{since, Grows}
 use Rattle.line_io.specs.declared.fronts.PieceTurn.{PieceTurn}
 use Rattle.line_io.specs.declared.fronts.PieceTurn.TheVariants.{More, End, Fault}
@@ -26,24 +26,24 @@ abbrev pub bytes_read : List Piece → List ℕ
 bytes_read [] = []
 bytes_read (piece ∷ pieces) = bytes_given piece.gave ++ bytes_read pieces
 
--- The file of this name gives what these calls answered, where the shelf tells its files.
-abbrev pub AllTold : Option (List ℕ → Option (List ℕ)) → (name : List ℕ) → List Piece → Type 0
-AllTold (Some files) name pieces = AllGive (files name) pieces
-AllTold None name pieces = Unit {0}
+-- The file of this name gives what these calls answered, where the shelf shows its files.
+abbrev pub AllShown : Option (List ℕ → Option (List ℕ)) → (name : List ℕ) → List Piece → Type 0
+AllShown (Some files) name pieces = AllGive (files name) pieces
+AllShown None name pieces = Unit {0}
 
--- A shelf was asked for the file of this name from its front on: it has the files that it had, its answers are theirs where it tells
+-- A shelf was asked for the file of this name from its front on: it has the files that it had, its answers are theirs where it shows
 -- them, and it counts a fault more exactly where it failed.
 pub record Fetched (before now : ShelfState) (name : List ℕ) (failed : Bool) : Type 0 where
   pub same : now.files ≡ before.files
   pub grows : Grows before.pieces now.pieces
   pub reading : IsReading name 0 (since before.pieces now.pieces)
-  pub told : AllTold before.files name (since before.pieces now.pieces)
+  pub shown : AllShown before.files name (since before.pieces now.pieces)
   pub counted : now.faults ≡ faults_behind failed before.faults
 
 -- One call for the file of this name, at this place, gave this.
 pub record IsCall (before now : ShelfState) (name : List ℕ) (place : ℕ) (given : Option (List ℕ)) : Type 0 where
   pub after : now ≡ after_piece before (record { name = name; at = place; gave = given })
-  pub told : GivesTold before.files name place given
+  pub shown : GivesShown before.files name place given
 
 -- One call for the file of this name, where the text ends: its bytes stand behind the text, where there are any; the file has ended;
 -- or why not.

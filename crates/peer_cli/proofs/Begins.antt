@@ -2,15 +2,14 @@
 use Rattle.std.proofs.Common.{ap, inl, inr, refl, subst, sym, ℕ, ◌∙◌, ◌≡◌}
 use Rattle.std.specs.Prelude.{Err, Result}
 use Rattle.station.specs.Sinks.{SinkState, after_bytes}
-use Rattle.run_frame.specs.Frame.{Answer, Ends, OnNoMemory, Ran, after_text, bare_answer}
+use Rattle.run_frame.specs.Frame.{Answer, Ends, OnNoMemory, Ran, bare_answer}
 use Rattle.line_io.specs.Inputs.{Input}
 use Rattle.run_frame.specs.declared.statuses.Status.{Status}
 use Rattle.run_frame.specs.declared.statuses.Status.TheVariants.{InputFault, NoMemory, OutputFault, Usage, BadSession, BadLog}
 use Rattle.line_io.proofs.Writing.{bytes_none}
-use Rattle.drive_command.specs.Drive.{drive}
+use Rattle.drive_command.specs.Begin.{Beginning, begun_answer, drive_answer}
 use Rattle.old_log.specs.declared.resuming.Resumed.{Resumed}
-use Rattle.peer_cli.specs.Games.{Beginning, IsPeerFor, IsStartFor}
-use Rattle.peer_cli.specs.Program.{dropped_text, playing}
+use Rattle.peer_cli.specs.Games.{IsPeerFor, IsStartFor}
 
 -- it took all its memory before
 pub memory_taken : (P : Type 0) (before now : SinkState) (due : Answer) (s : Status) → Ends before now due s → OnNoMemory s P
@@ -26,20 +25,22 @@ ended_ran source shelf before now due s e c = e
 
 -- a run that begins with this peer
 pub begun_ran : (source shelf : Type 0) (before now : SinkState) (s : Status) (player : ℕ) (due : Result Beginning Status) (r : Resumed) (input : Input) → IsPeerFor player due r →
-    Ends before now (after_text (dropped_text r.dropped) (drive r.peer.game r.peer.me r.peer.entries input)) s → (s ≡ InputFault → source) → Ran before now (playing player due input) source shelf s
+    Ends before now (begun_answer r.peer.me (record { game = r.peer.game; first = r.peer.entries; dropped = r.dropped }) input) s → (s ≡ InputFault → source) →
+    Ran before now (drive_answer player due input) source shelf s
 begun_ran source shelf before now s player due r input p e c =
-    let same : playing player due input ≡ after_text (dropped_text r.dropped) (drive r.peer.game r.peer.me r.peer.entries input) =
-    ap (λ (d : Result Beginning Status). playing player d input) p.due_is ∙ ap (λ me. after_text (dropped_text r.dropped) (drive r.peer.game me r.peer.entries input)) (sym p.player_is) in
+    let b : Beginning = record { game = r.peer.game; first = r.peer.entries; dropped = r.dropped } in
+    let same : drive_answer player due input ≡ begun_answer r.peer.me b input =
+    ap (λ (d : Result Beginning Status). drive_answer player d input) p.due_is ∙ ap (λ me. begun_answer me b input) (sym p.player_is) in
     subst (λ (a : Answer). Ran before now a source shelf s) (sym same) (ended_ran source shelf before now _ s e c)
 
 -- a run that begins with none
 module _ (source shelf : Type 0) (held : SinkState) (player : ℕ) (due : Result Beginning Status) (input : Input) where
-  bare_ran : (s : Status) → due ≡ Err s → (held ≡ after_bytes held (playing player due input).body) × (s ≡ (playing player due input).status)
+  bare_ran : (s : Status) → due ≡ Err s → (held ≡ after_bytes held (drive_answer player due input).body) × (s ≡ (drive_answer player due input).status)
   bare_ran s e =
-      let same : playing player due input ≡ bare_answer s = ap (λ (d : Result Beginning Status). playing player d input) e in
+      let same : drive_answer player due input ≡ bare_answer s = ap (λ (d : Result Beginning Status). drive_answer player d input) e in
       (sym (bytes_none held) ∙ ap (λ (a : Answer). after_bytes held a.body) (sym same), ap (λ (a : Answer). a.status) (sym same))
 
-  pub unbegun_ran : (s : Status) → IsStartFor player due (Err s) → (s ≡ InputFault → shelf) → Ran held held (playing player due input) source shelf s
+  pub unbegun_ran : (s : Status) → IsStartFor player due (Err s) → (s ≡ InputFault → shelf) → Ran held held (drive_answer player due input) source shelf s
   unbegun_ran NoMemory d c = refl
   unbegun_ran InputFault d c = inl (c refl, refl)
   unbegun_ran Usage d c = bare_ran Usage d

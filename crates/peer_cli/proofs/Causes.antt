@@ -1,40 +1,41 @@
--- Causes: each status has its cause.
-use Rattle.std.proofs.Common.{Bool, List, [], ◌∷◌, None, Option, Some, ap, arith, false, inl, inr, refl, subst, sym, true, ℕ, ◌∙◌, ◌≡◌, ◌⊎◌}
+-- Causes: each status has its cause, and each answer what it means.
+use Rattle.std.proofs.Common.{Bool, List, [], ◌∷◌, None, Option, Some, ap, arith, false, inl, inr, refl, subst, sym, true, ℕ, ◌∙◌, ◌≡◌, ◌≤◌, ◌⊎◌}
 use Rattle.std.specs.Prelude.{Err, Ok, Result, nat_lt, option_map, if◌then◌else◌}
 use Rattle.std.proofs.lemmas.Bool.{lt-ltb, ltb-true}
-use Rattle.definitions.specs.World.{Game, players_of}
-use Rattle.run_frame.specs.Ends.{Finished}
-use Rattle.run_frame.specs.Frame.{Answer, after_text}
-use Rattle.line_io.specs.Inputs.{AtEnd, End, Input, ending_of, input_of, lines_in, lines_then}
+use Rattle.station.specs.Outside.{Rose}
+use Rattle.station.specs.Sinks.{SinkState}
+use Rattle.line_io.specs.Inputs.{AtEnd, End, Input, ending_of, input_of, lines_then}
 use Rattle.line_io.specs.Lines.{lines_of}
+use Rattle.run_frame.specs.Ends.{Finished}
+use Rattle.run_frame.specs.Frame.{Answer}
 use Rattle.run_frame.specs.declared.statuses.Status.{Status}
-use Rattle.run_frame.specs.declared.statuses.Status.TheVariants.{InputFault, NoMemory, OutputFault, Usage}
+use Rattle.run_frame.specs.declared.statuses.Status.TheVariants.{Done, InputFault, NoMemory, OutputFault, Usage, BadSession, BadLog}
+use Rattle.definitions.specs.World.{Game, players_of}
 use Rattle.grid_world.specs.declared.fault.SessionFault.{SessionFault}
 use Rattle.grid_world.specs.declared.fault.SessionFault.TheVariants.{At, Memory}
 use Rattle.grid_world.specs.Lines as L
 use Rattle.grid_world.specs.Reading.{◌>>=◌, fault_of, game_at, said_by, session_fault}
-use Rattle.definitions.specs.Findings.{is_clean}
-use Rattle.drive_command.specs.Drive.{bad_line, drive, drive_log, status_for}
-use Rattle.drive_command.proofs.Ends.{drive_status}
+use Rattle.grid_world.proofs.Found.{game_found}
 use Rattle.old_log.specs.Old.{Fault, dropped_at, old_entries, old_fault}
-use Rattle.peer_cli.specs.Causes.{HasCause, IsNamed, IsSeated, IsSet}
-use Rattle.peer_cli.specs.Games.{Beginning, begun, empty_beginning, ended_by, front_of, log_front_of, old_beginning, with_log, with_player}
-use Rattle.peer_cli.specs.Program.{answer_of, dropped_text, playing}
+use Rattle.drive_command.specs.Begin.{Beginning, TellsPlay, begun_answer, drive_answer}
+use Rattle.drive_command.specs.Causes.{DriveCause}
+use Rattle.drive_command.specs.Words.{Driving}
+use Rattle.drive_command.proofs.Commanded.{drive_caused, drive_done, drive_tells_play}
+use Rattle.peer_cli.specs.Causes.{HasCause, IsGood, IsMeant, IsSeated, IsSet}
+use Rattle.peer_cli.specs.Commands.{answer_of, begins_with}
 use Rattle.peer_cli.specs.Files.{Contents}
+use Rattle.peer_cli.specs.Games.{begun, empty_beginning, ended_by, front_of, log_front_of, old_beginning, with_old, with_player}
 use Rattle.peer_cli.specs.Outside.{CountsFaults, OneFailed, Outside}
-use Rattle.station.specs.Outside.{Rose}
-use Rattle.station.specs.Sinks.{SinkState}
 use Rattle.peer_cli.specs.Words.{Command, Drive}
+use Rattle.peer_cli.proofs.Begun.{begun_honest}
 
 -- the answer where a run begins with this
-pub set_answer : (asked : Option Command) (contents : Contents) (input : Input) (player : ℕ) (b : Beginning) → IsSet asked contents player b →
-    answer_of asked contents input ≡ after_text (dropped_text b.dropped) (drive b.game player b.first input)
-set_answer asked contents input player b s =
-    let old = option_map (λ name. contents.log) s.old in
-    ap (λ (o : Option Command). answer_of o contents input) s.seated.named.command ∙
-    ap (λ (r : Result Game SessionFault). playing player (with_log player (with_player player (ended_by r)) old) input) s.seated.named.read ∙
-    ap (λ (c : Bool). playing player (with_log player (if c then Ok b.game else Err Usage) old) input) (lt-ltb player (players_of b.game) s.seated.player_is) ∙
-    ap (λ (r : Result Beginning Status). playing player r input) s.begins
+pub set_answer : (d : Driving) (contents : Contents) (input : Input) (b : Beginning) → IsSet d contents b → drive_answer d.player (begins_with d contents) input ≡ begun_answer d.player b input
+set_answer d contents input b s =
+    let old = option_map (λ name. contents.log) d.old in
+    ap (λ (r : Result Game SessionFault). drive_answer d.player (with_old d.player (with_player d.player (ended_by r)) old) input) s.seated.read ∙
+    ap (λ (c : Bool). drive_answer d.player (with_old d.player (if c then Ok b.game else Err Usage) old) input) (lt-ltb d.player (players_of b.game) s.seated.player_is) ∙
+    ap (λ (r : Result Beginning Status). drive_answer d.player r input) s.begins
 
 -- a fault that is not of what is made last is of what came before
 bound_fault : (A B : Type 0) (r : Result A SessionFault) (f : A → B) (e : SessionFault) → (r >>= (λ x. Ok (f x))) ≡ Err e → fault_of r ≡ Some e
@@ -46,52 +47,70 @@ fault_said : (text : List ℕ) (e : SessionFault) → game_at text ≡ Err e →
 unfolding game_at session_fault
 fault_said text e h = bound_fault _ _ (said_by (L.ended_lines_of text)) _ e h
 
--- the status that is due for an input that is read to its end has its cause
-module _ (asked : Option Command) (contents : Contents) (input : Input) (ends : ending_of input ≡ AtEnd) where
-  played : (player : ℕ) (b : Beginning) → IsSet asked contents player b → (clean : Bool) → is_clean b.game (drive_log b.game player b.first input) ≡ clean → (bad : Option ℕ) → bad_line 0 (lines_in input) ≡ bad →
-      HasCause asked contents input (status_for clean bad AtEnd)
-  played player b set false e bad l = record { player = player; begins = b; set = set; found = e }
-  played player b set true e None l = record { player = player; begins = b; set = set; clean = e; lines = l }
-  played player b set true e (Some n) l = record { player = player; begins = b; set = set; clean = e; lines = l }
-
+-- The command to drive: the status that is due for an input that is read to its end has its cause.
+module _ (d : Driving) (contents : Contents) (input : Input) (ends : ending_of input ≡ AtEnd) where
   -- a run that begins with this
-  begins : (player : ℕ) (b : Beginning) → IsSet asked contents player b → HasCause asked contents input (after_text (dropped_text b.dropped) (drive b.game player b.first input)).status
-  begins player b set =
-      subst (λ (s : Status). HasCause asked contents input s) (sym (drive_status b.game player b.first input ∙ ap (status_for (is_clean b.game (drive_log b.game player b.first input)) (bad_line 0 (lines_in input))) ends))
-      (played player b set (is_clean b.game (drive_log b.game player b.first input)) refl (bad_line 0 (lines_in input)) refl)
+  begun_so : (b : Beginning) → IsSet d contents b → (s : Status) → DriveCause d.player b input s → HasCause (Some (Drive d)) contents input s
+  begun_so b set NoMemory c = tt
+  begun_so b set InputFault c = tt
+  begun_so b set OutputFault c = tt
+  begun_so b set Usage c = absurd c
+  begun_so b set (BadSession line what) c = absurd c
+  begun_so b set (BadLog log at why) c = absurd c
+  begun_so b set s c = record { begins = b; set = set; cause = c }
+
+  begins : (b : Beginning) → IsSet d contents b → HasCause (Some (Drive d)) contents input (begun_answer d.player b input).status
+  begins b set = begun_so b set (begun_answer d.player b input).status (drive_caused d.player b input ends)
 
   -- a log that is named, by the fault for which the player can't go on from it
-  named_log : (game : Game) (player : ℕ) (name : List ℕ) → IsSeated asked contents game player (Some name) → (fault : Option Fault) → old_fault game player (log_front_of contents.log) ≡ fault →
-      HasCause asked contents input (playing player (old_beginning game (log_front_of contents.log) fault) input).status
-  named_log game player name seated None e =
+  named_log : (game : Game) (name : List ℕ) → IsSeated d contents game → d.old ≡ Some name → (fault : Option Fault) → old_fault game d.player (log_front_of contents.log) ≡ fault →
+      HasCause (Some (Drive d)) contents input (drive_answer d.player (old_beginning game (log_front_of contents.log) fault) input).status
+  named_log game name seated n None e =
       let bytes = log_front_of contents.log in
       let b : Beginning = record { game = game; first = old_entries game bytes; dropped = dropped_at game bytes } in
-      begins player b (record { old = Some name; seated = seated; begins = ap (old_beginning game bytes) e })
-  named_log game player name seated (Some f) e = record { game = game; player = player; name = name; seated = seated; log_is = refl; fault_is = e }
+      begins b
+      (record {
+        seated = seated;
+        begins = ap (λ (o : Option (List ℕ)). begun d.player game (option_map (λ name. contents.log) o)) n ∙ ap (old_beginning game bytes) e;
+      })
+  named_log game name seated n (Some f) e = record { game = game; name = name; seated = seated; named = n; log_is = refl; fault_is = e }
 
-  with_old : (game : Game) (player : ℕ) (old : Option (List ℕ)) → IsSeated asked contents game player old → HasCause asked contents input (playing player (begun player game (option_map (λ name. contents.log) old)) input).status
-  with_old game player None seated = begins player (empty_beginning game) (record { old = None; seated = seated; begins = refl })
-  with_old game player (Some name) seated = named_log game player name seated (old_fault game player (log_front_of contents.log)) refl
+  with_log : (game : Game) (old : Option (List ℕ)) → IsSeated d contents game → d.old ≡ old →
+      HasCause (Some (Drive d)) contents input (drive_answer d.player (begun d.player game (option_map (λ name. contents.log) old)) input).status
+  with_log game None seated n = begins (empty_beginning game) (record { seated = seated; begins = ap (λ (o : Option (List ℕ)). begun d.player game (option_map (λ name. contents.log) o)) n })
+  with_log game (Some name) seated n = named_log game name seated n (old_fault game d.player (log_front_of contents.log)) refl
 
   -- a session of which the player may be one
-  seated : (game : Game) (player : ℕ) (old : Option (List ℕ)) → IsNamed asked contents game player old → (b : Bool) → nat_lt player (players_of game) ≡ b →
-      HasCause asked contents input (playing player (with_log player (if b then Ok game else Err Usage) (option_map (λ name. contents.log) old)) input).status
-  seated game player old named true e = with_old game player old (record { named = named; player_is = ltb-true player (players_of game) e })
-  seated game player old named false e = inr (record { game = game; player = player; old = old; named = named; past = grind (arith, e) })
+  seated : (game : Game) → game_at (front_of contents.session) ≡ Ok game → (b : Bool) → nat_lt d.player (players_of game) ≡ b →
+      HasCause (Some (Drive d)) contents input (drive_answer d.player (with_old d.player (if b then Ok game else Err Usage) (option_map (λ name. contents.log) d.old)) input).status
+  seated game read true e = with_log game d.old (record { read = read; player_is = ltb-true d.player (players_of game) e }) refl
+  seated game read false e = record { game = game; read = read; past = grind (arith, e) }
 
-  read : (session : List ℕ) (player : ℕ) (old : Option (List ℕ)) → asked ≡ Some (Drive session player old) → (r : Result Game SessionFault) → game_at (front_of contents.session) ≡ r →
-      HasCause asked contents input (playing player (with_log player (with_player player (ended_by r)) (option_map (λ name. contents.log) old)) input).status
-  read session player old e (Ok game) f = seated game player old (record { session = session; command = e; read = f }) (nat_lt player (players_of game)) refl
-  read session player old e (Err Memory) f = tt
-  read session player old e (Err (At line what)) f =
-      record { session = session; player = player; old = old; command = e; fault_is = fault_said (front_of contents.session) (At line what) f }
+  read : (r : Result Game SessionFault) → game_at (front_of contents.session) ≡ r →
+      HasCause (Some (Drive d)) contents input (drive_answer d.player (with_old d.player (with_player d.player (ended_by r)) (option_map (λ name. contents.log) d.old)) input).status
+  read (Ok game) f = seated game f (nat_lt d.player (players_of game)) refl
+  read (Err Memory) f = tt
+  read (Err (At line what)) f = fault_said (front_of contents.session) (At line what) f
 
-  commanded : (o : Option Command) → asked ≡ o → HasCause asked contents input (answer_of o contents input).status
-  commanded None e = inl e
-  commanded (Some (Drive session player old)) e = read session player old e (game_at (front_of contents.session)) refl
+-- Each command.
+pub caused : (command : Option Command) (contents : Contents) (input : Input) → ending_of input ≡ AtEnd → HasCause command contents input (answer_of command contents input).status
+caused None contents input ends = tt
+caused (Some (Drive d)) contents input ends = read d contents input ends (game_at (front_of contents.session)) refl
 
-pub caused : (asked : Option Command) (contents : Contents) (input : Input) → ending_of input ≡ AtEnd → HasCause asked contents input (answer_of asked contents input).status
-caused asked contents input ends = commanded asked contents input ends asked refl
+-- where all is good, the end of the command is due
+pub good_done : (command : Option Command) (contents : Contents) (input : Input) → ending_of input ≡ AtEnd → IsGood command contents input → (answer_of command contents input).status ≡ Done
+good_done None contents input ends good = absurd good
+good_done (Some (Drive d)) contents input ends (b, set, played) =
+    ap (λ (a : Answer). a.status) (set_answer d contents input b set) ∙ drive_done d.player b input ends played
+
+-- what is behind the answer
+pub meant : (command : Option Command) (contents : Contents) (input : Input) → IsMeant command contents input
+meant None contents input = tt
+meant (Some (Drive d)) contents input = λ b set.
+    let read = game_found _ b.game set.seated.read in
+    let ahead : 1 ≤ b.game.ahead = omega (arith, read.session.ahead) in
+    subst (λ (a : Answer). TellsPlay d.player b input a.body) (sym (set_answer d contents input b set))
+    (drive_tells_play d.player b input ahead (begun_honest b.game d.player _ b set.begins).honest)
 
 -- what holds of the status that is due, of want of memory and of faults holds of the status that comes
 module _ (before now : SinkState) (whole cut : Answer) (source shelf : Type 0) where
@@ -120,11 +139,3 @@ ends_at_end bytes = go (lines_of bytes)
     go : (lines : List (List ℕ)) → ending_of (lines_then lines End) ≡ AtEnd
     go [] = refl
     go (line ∷ lines) = go lines
-
--- its lines are those of its bytes
-pub lines_at_end : (bytes : List ℕ) → lines_in (input_of AtEnd bytes) ≡ lines_of bytes
-lines_at_end bytes = go (lines_of bytes)
-  where
-    go : (lines : List (List ℕ)) → lines_in (lines_then lines End) ≡ lines
-    go [] = refl
-    go (line ∷ lines) = ap (λ ls. line ∷ ls) (go lines)

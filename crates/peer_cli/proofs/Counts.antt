@@ -12,7 +12,8 @@ use Rattle.run_frame.specs.Statuses.{refusal_of}
 use Rattle.line_io.specs.Texts.{CutShort}
 use Rattle.run_frame.specs.declared.statuses.Status.{Status}
 use Rattle.run_frame.specs.declared.statuses.Status.TheVariants.{Done, NoMemory, Usage, BadSession, InputFault, OutputFault, BadLog}
-use Rattle.peer_cli.specs.Games.{Beginning, IsStartFor}
+use Rattle.drive_command.specs.Begin.{Beginning}
+use Rattle.peer_cli.specs.Games.{IsStartFor}
 use Rattle.peer_cli.specs.Outside.{CountsFaults, NeitherFailed, OneFailed, Outside}
 
 -- a run over its input ended, and no file failed

@@ -8,13 +8,13 @@ use Rattle.station.specs.Pieces.{Piece, AllGive}
 use Rattle.station.specs.Plans.{HeldShelf, HeldSink, HeldSource, Left, Bytes, Nothing, bytes_left, is_ended, shelf_state, sink_state, source_state}
 use Rattle.station.specs.Shelves.{ShelfState}
 use Rattle.station.specs.Since.{since}
-use Rattle.line_io.specs.Fronts.{AllTold}
+use Rattle.line_io.specs.Fronts.{AllShown}
 use Rattle.run_frame.specs.Ends.{Finished}
 use Rattle.line_io.specs.Inputs.{AtEnd, AtFault, MayFollow, input_of}
 use Rattle.run_frame.specs.declared.statuses.Status.{Status}
-use Rattle.peer_cli.specs.Files.{AreContents, Calls, IsLogReading, IsLogTold, ReadsFor, contents_of}
+use Rattle.peer_cli.specs.Commands.{ReadsFor, answer_of, contents_of}
+use Rattle.peer_cli.specs.Files.{AreContents, Calls, IsLogReading, IsLogShown}
 use Rattle.peer_cli.specs.Memory.{WritesInMemory}
-use Rattle.peer_cli.specs.Program.{answer_of}
 use Rattle.peer_cli.specs.Runs.{ReadsOn, Runs}
 use Rattle.peer_cli.specs.Words.{Command, Drive}
 
@@ -34,17 +34,17 @@ none_left : (left : Left) → MayFollow (is_ended left) (bytes_left left)
 none_left (Bytes bytes) = λ e. absurd (let never : false ≡ true = e in cc)
 none_left Nothing = λ e. refl
 
-log_gives : (files : List ℕ → Option (List ℕ)) (old : Option (List ℕ)) (calls : List Piece) → IsLogReading old calls → IsLogTold (Some files) old calls → AllGive (option_and_then files old) calls
+log_gives : (files : List ℕ → Option (List ℕ)) (old : Option (List ℕ)) (calls : List Piece) → IsLogReading old calls → IsLogShown (Some files) old calls → AllGive (option_and_then files old) calls
 log_gives files None calls r t = subst (AllGive None) (sym r) tt
 log_gives files (Some name) calls r t = t
 
--- the files of a shelf that tells them are what was read
+-- the files of a shelf that shows them are what was read
 files_are : (command : Option Command) (files : List ℕ → Option (List ℕ)) (before after : ShelfState) (calls : Calls) → before.files ≡ Some files → ReadsFor command before after calls →
     AreContents (contents_of command files) calls
 files_are None files before after calls e r = subst (λ (c : Calls). AreContents (contents_of None files) c) (sym r.1) (record { session_gives = tt; log_gives = tt })
-files_are (Some (Drive session player old)) files before after calls e r = record {
-  session_gives = subst (λ (f : Option (List ℕ → Option (List ℕ))). AllTold f session calls.session) e r.session_told;
-  log_gives = log_gives files old calls.log r.log_read (subst (λ (f : Option (List ℕ → Option (List ℕ))). IsLogTold f old calls.log) e r.log_told);
+files_are (Some (Drive d)) files before after calls e r = record {
+  session_gives = subst (λ (f : Option (List ℕ → Option (List ℕ))). AllShown f d.session calls.session) e r.session_shown;
+  log_gives = log_gives files d.old calls.log r.log_read (subst (λ (f : Option (List ℕ → Option (List ℕ))). IsLogShown f d.old calls.log) e r.log_shown);
 }
 
 pub ran_in_memory : (command : Option Command) (i i' : HeldSource) (a b : HeldSink) (h h' : HeldShelf) (s : Status) →

@@ -1,6 +1,6 @@
 -- Running: what the parts of a run make of its promises.
-use Rattle.std.proofs.Common.{◌≡◌, ◌⊎◌, Bool, false, true, inl, inr, List, [], ◌++◌, ℕ, Option, Some, None, refl, ap, sym, ◌∙◌, subst, arith, ◌≤◌}
-use Rattle.std.specs.Prelude.{Result, Ok, Err, option_map}
+use Rattle.std.proofs.Common.{◌≡◌, ◌⊎◌, false, true, inl, inr, List, [], ◌++◌, ℕ, Option, Some, None, refl, ap, sym, ◌∙◌, subst}
+use Rattle.std.specs.Prelude.{Result, Ok, Err}
 use Rattle.station.specs.Outside.{Rose, faults_behind}
 use Rattle.station.specs.Pieces.{Piece, AllGive}
 use Rattle.station.specs.Shelves.{ShelfState}
@@ -9,33 +9,28 @@ use Rattle.station.specs.Sinks.{SinkState}
 use Rattle.station.specs.Sources.{SourceState}
 use Rattle.definitions.specs.Advance.{advance}
 use Rattle.definitions.specs.Findings.{is_clean}
-use Rattle.grid_world.proofs.Found.{game_found}
 use Rattle.old_log.specs.declared.resuming.Resumed.{Resumed}
-use Rattle.run_frame.specs.Ends.{Refuses}
-use Rattle.run_frame.specs.Frame.{Answer, OnDone, OnNoMemory, after_text, is_input_fault}
 use Rattle.line_io.specs.Fronts.{bytes_read}
-use Rattle.line_io.specs.Inputs.{AtEnd, ending_of, input_of, lines_in}
-use Rattle.line_io.specs.Lines.{lines_of}
+use Rattle.line_io.specs.Inputs.{AtEnd, Input, input_of}
+use Rattle.line_io.proofs.Contents.{reading_fits}
+use Rattle.line_io.proofs.Writing.{bytes_none}
+use Rattle.run_frame.specs.Ends.{Refuses}
+use Rattle.run_frame.specs.Frame.{Answer, OnDone, OnNoMemory, is_input_fault}
 use Rattle.run_frame.specs.Turns.{Plays}
 use Rattle.run_frame.specs.declared.statuses.Status.{Status}
 use Rattle.run_frame.specs.declared.statuses.Status.TheVariants.{Done, InputFault, NoMemory, OutputFault, Usage}
-use Rattle.line_io.proofs.Contents.{reading_fits}
 use Rattle.run_frame.proofs.Finish.{finished}
-use Rattle.line_io.proofs.Writing.{bytes_none}
-use Rattle.drive_command.specs.Drive.{bad_line, drive, drive_log, status_for}
-use Rattle.drive_command.proofs.Ends.{drive_status}
-use Rattle.drive_command.proofs.Fair.{drive_fair}
-use Rattle.drive_command.proofs.Tellings.{drive_tells}
-use Rattle.peer_cli.specs.Causes.{HasCause, IsSet}
-use Rattle.peer_cli.specs.Files.{AreContents, Calls, Contents, IsLogReading, OpensPeer, ReadsFor}
-use Rattle.peer_cli.specs.Games.{Beginning, IsStartFor, beginning_for}
+use Rattle.drive_command.specs.Begin.{Beginning, NeedsNoInput, begun_answer}
+use Rattle.drive_command.specs.Words.{Driving}
+use Rattle.peer_cli.specs.Causes.{HasCause}
+use Rattle.peer_cli.specs.Commands.{ReadsFor, answer_of, begins_with}
+use Rattle.peer_cli.specs.Files.{AreContents, Calls, Contents, IsLogReading, OpensPeer}
+use Rattle.peer_cli.specs.Games.{IsStartFor}
 use Rattle.peer_cli.specs.Outside.{CountsFaults, Outside}
-use Rattle.peer_cli.specs.Program.{NeedsNoInput, answer_of, dropped_text}
-use Rattle.peer_cli.specs.Runs.{MayBe, Run, Runs, TellsPlay, Works, Writes, read_by}
+use Rattle.peer_cli.specs.Runs.{MayBe, Run, Runs, Works, Writes, read_by}
 use Rattle.peer_cli.specs.Words.{Command, Drive}
 use Rattle.peer_cli.proofs.Begins.{begun_ran, memory_taken, unbegun_ran}
-use Rattle.peer_cli.proofs.Begun.{begun_honest}
-use Rattle.peer_cli.proofs.Causes.{caused, completed, ends_at_end, finished_cause, lines_at_end, set_answer}
+use Rattle.peer_cli.proofs.Causes.{caused, completed, ends_at_end, finished_cause, good_done, meant}
 use Rattle.peer_cli.proofs.Counts.{ended_counts, refused_counts, unbegun_counts, unbegun_done, where_no_memory}
 
 -- some contents give what was answered
@@ -48,7 +43,7 @@ some_contents calls = record { session = Some (bytes_read calls.session); log = 
 
 contents_fit : (command : Option Command) (before after : ShelfState) (calls : Calls) → ReadsFor command before after calls → AreContents (some_contents calls) calls
 contents_fit None before after calls r = subst (λ (c : Calls). AreContents (some_contents c) c) (sym r.1) (record { session_gives = tt; log_gives = tt })
-contents_fit (Some (Drive session player old)) before after calls r = record { session_gives = reading_fits session calls.session r.session_read; log_gives = log_fits old calls.log r.log_read }
+contents_fit (Some (Drive d)) before after calls r = record { session_gives = reading_fits d.session calls.session r.session_read; log_gives = log_fits d.old calls.log r.log_read }
 
 -- words that are no command
 pub unasked : (outside : Outside) (alone : Type 0) → alone → Works (record { command = None; before = outside; after = outside }) alone Usage
@@ -67,64 +62,53 @@ no_command : (command : Command) (P : Type 0) → (let some : Option Command = S
 no_command command P e = cc
 
 -- a peer that was begun with plays the input
-module _ (i i' : SourceState) (a b : SinkState) (h h' : ShelfState) (alone : Type 0) (session : List ℕ) (player : ℕ) (old : Option (List ℕ)) (r : Resumed) (s : Status) where
-  needs_none : (due : Result Beginning Status) → (let begun : Result Beginning Status = Ok (record { game = r.peer.game; first = r.peer.entries; dropped = r.dropped }) in due ≡ begun) →
+module _ (i i' : SourceState) (a b : SinkState) (h h' : ShelfState) (alone : Type 0) (d : Driving) (r : Resumed) (s : Status) where
+  needs_none : (player : ℕ) (due : Result Beginning Status) → (let begun : Result Beginning Status = Ok (record { game = r.peer.game; first = r.peer.entries; dropped = r.dropped }) in due ≡ begun) →
       r.peer.me ≡ player → NeedsNoInput player due → is_clean r.peer.game (advance r.peer.game r.peer.me r.peer.entries) ≡ false
-  needs_none due e p n =
+  needs_none player due e p n =
       let begun : Result Beginning Status = Ok (record { game = r.peer.game; first = r.peer.entries; dropped = r.dropped }) in
       let over : NeedsNoInput player begun = subst (NeedsNoInput player) e n in
       ap (λ me. is_clean r.peer.game (advance r.peer.game me r.peer.entries)) p ∙ over
 
-  source_failed : Plays i i' a b (λ script. after_text (dropped_text r.dropped) (drive r.peer.game r.peer.me r.peer.entries script)) [] s → s ≡ InputFault → Rose i.faults i'.faults
+  abbrev due : Input → Answer
+  due = begun_answer r.peer.me (record { game = r.peer.game; first = r.peer.entries; dropped = r.dropped })
+
+  source_failed : Plays i i' a b due [] s → s ≡ InputFault → Rose i.faults i'.faults
   source_failed p e = p.drew.counted ∙ ap (λ f. faults_behind f i.faults) (ap is_input_fault e)
 
-  pub played : OpensPeer h h' session player old (Ok r) → Plays i i' a b (λ script. after_text (dropped_text r.dropped) (drive r.peer.game r.peer.me r.peer.entries script)) [] s →
+  pub played : OpensPeer h h' d.session d.player d.old (Ok r) → Plays i i' a b due [] s →
       (is_clean r.peer.game (advance r.peer.game r.peer.me r.peer.entries) ≡ false → alone) →
-      Works (record { command = Some (Drive session player old); before = record { input = i; output = a; shelf = h }; after = record { input = i'; output = b; shelf = h' } }) alone s
+      Works (record { command = Some (Drive d); before = record { input = i; output = a; shelf = h }; after = record { input = i'; output = b; shelf = h' } }) alone s
   played o p left = record {
     calls = o.calls;
     files = o.reads;
     input = record { same = p.drew.same; grows = p.drew.grows };
-    text = λ contents behind m. begun_ran _ _ a b s player _ r _ (o.due contents m.given) (p.ends behind m.follows) (source_failed p);
+    text = λ contents behind m. begun_ran _ _ a b s d.player _ r _ (o.due contents m.given) (p.ends behind m.follows) (source_failed p);
     usage = no_command _ _;
     faults = ended_counts i i' a b h h' _ s p.drew o.counted (p.ends [] (λ e. refl));
     untouched = record {
-      over = λ contents behind m over. let d = o.due contents m.given in left (needs_none _ d.due_is d.player_is over);
+      over = λ contents behind m over. let start = o.due contents m.given in left (needs_none d.player _ start.due_is start.player_is over);
       no_memory = memory_taken alone a b _ s (p.ends [] (λ e. refl));
     };
     over = p.over;
   }
 
 -- there is none to begin with
-module _ (i : SourceState) (a : SinkState) (h h' : ShelfState) (alone : Type 0) (left : alone) (session : List ℕ) (player : ℕ) (old : Option (List ℕ)) (s : Status) (o : OpensPeer h h' session player old (Err s)) where
-  start : (contents : Contents) × IsStartFor player (beginning_for player contents.session (option_map (λ name. contents.log) old)) (Err s)
-  start = (some_contents o.calls, o.due (some_contents o.calls) (contents_fit (Some (Drive session player old)) h h' o.calls o.reads))
+module _ (i : SourceState) (a : SinkState) (h h' : ShelfState) (alone : Type 0) (left : alone) (d : Driving) (s : Status) (o : OpensPeer h h' d.session d.player d.old (Err s)) where
+  start : (contents : Contents) × IsStartFor d.player (begins_with d contents) (Err s)
+  start = (some_contents o.calls, o.due (some_contents o.calls) (contents_fit (Some (Drive d)) h h' o.calls o.reads))
 
-  pub unbegun : Works (record { command = Some (Drive session player old); before = record { input = i; output = a; shelf = h }; after = record { input = i; output = a; shelf = h' } }) alone s
+  pub unbegun : Works (record { command = Some (Drive d); before = record { input = i; output = a; shelf = h }; after = record { input = i; output = a; shelf = h' } }) alone s
   unbegun = record {
     calls = o.calls;
     files = o.reads;
     input = record { same = refl; grows = grows_none i.seen };
-    text = λ contents behind m. unbegun_ran _ _ a player _ _ s (o.due contents m.given) (λ e. (o.counted ∙ ap (λ f. faults_behind f h.faults) (ap is_input_fault e), left));
+    text = λ contents behind m. unbegun_ran _ _ a d.player _ _ s (o.due contents m.given) (λ e. (o.counted ∙ ap (λ f. faults_behind f h.faults) (ap is_input_fault e), left));
     usage = no_command _ _;
-    faults = unbegun_counts i a h h' player _ s start.1 o.counted;
+    faults = unbegun_counts i a h h' d.player _ s start.1 o.counted;
     untouched = record { over = λ contents behind m over. left; no_memory = where_no_memory s alone left };
-    over = unbegun_done i a h h' player _ s start.1 (i.ended ≡ true);
+    over = unbegun_done i a h h' d.player _ s start.1 (i.ended ≡ true);
   }
-
--- what is behind the answers
-plays_fair : (command : Option Command) → TellsPlay command
-plays_fair command = record {
-  tells = λ contents input player b set. record {
-    told = (drive b.game player b.first input).body;
-    body_is = ap (λ (a : Answer). a.body) (set_answer command contents input player b set);
-    tells = drive_tells b.game player b.first input;
-  };
-  fair = λ contents input player b set.
-      let read = game_found _ b.game set.seated.named.read in
-      let ahead : 1 ≤ b.game.ahead = omega (arith, read.session.ahead) in
-      drive_fair b.game player b.first input ahead (begun_honest b.game player _ b set.begins).honest;
-}
 
 -- a status that stays or gives way to a fault of the sink
 done_stays : (P : Type 0) (before now : SinkState) (s result : Status) → Refuses before now s result → OnDone s P → OnDone result P
@@ -161,15 +145,6 @@ module _ (command : Option Command) (before : Outside) (i' : SourceState) (mid n
     faults : CountsFaults before over.after result
     faults = refused_counts before.input i' before.output mid now before.shelf h' s result r w.faults
 
-    due_done : (contents : Contents) (behind : List ℕ) (player : ℕ) (b : Beginning) → IsSet command contents player b → bad_line 0 (lines_of (read_by over ++ behind)) ≡ None →
-        is_clean b.game (drive_log b.game player b.first (input_of AtEnd (read_by over ++ behind))) ≡ true → (answer_of command contents (input_of AtEnd (read_by over ++ behind))).status ≡ Done
-    due_done contents behind player b set lines clean =
-        let all = read_by over ++ behind in
-        ap (λ (a : Answer). a.status) (set_answer command contents _ player b set) ∙ drive_status b.game player b.first (input_of AtEnd all) ∙
-        ap (λ (b : Bool). status_for b (bad_line 0 (lines_in (input_of AtEnd all))) (ending_of (input_of AtEnd all))) clean ∙
-        ap (λ ls. status_for true (bad_line 0 ls) (ending_of (input_of AtEnd all))) (lines_at_end all) ∙
-        ap (λ o. status_for true o (ending_of (input_of AtEnd all))) lines ∙ ap (status_for true None) (ends_at_end all)
-
     pub ran : Runs over alone result
     ran = record {
       calls = w.calls;
@@ -192,9 +167,9 @@ module _ (command : Option Command) (before : Outside) (i' : SourceState) (mid n
         no_memory = memory_stays alone mid now s result r w.untouched.no_memory;
       };
       complete = record {
-        done = λ contents behind m player b set lines clean ni ns no.
-            done_or_memory _ _ (due_done contents behind player b set lines clean) (completed _ _ _ _ _ _ before over.after result (text contents behind m) faults ni ns no);
+        done = λ contents behind m good ni ns no.
+            done_or_memory _ _ (good_done command contents _ (ends_at_end (read_by over ++ behind)) good) (completed _ _ _ _ _ _ before over.after result (text contents behind m) faults ni ns no);
         over = done_stays _ mid now s result r w.over;
       };
-      play = plays_fair command;
+      meant = meant command;
     }

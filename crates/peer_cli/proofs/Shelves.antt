@@ -13,16 +13,18 @@ use Rattle.line_io.specs.Fronts.{IsFrontOf}
 use Rattle.run_frame.specs.declared.statuses.Status.{Status}
 use Rattle.run_frame.specs.declared.statuses.Status.TheVariants.{NoMemory, InputFault, BadSession}
 use Rattle.grid_world.specs.Reading.{game_at}
-use Rattle.peer_cli.specs.Files.{BeginsPeer, HasPlayer, FetchesLog, IsLogReading, IsLogTold, OpensPeer, OpensSession}
-use Rattle.peer_cli.specs.Games.{IsDue, IsStartFor, ended_by, front_of, is_shelf_fault, log_front_of, with_log, with_player}
+use Rattle.definitions.specs.declared.limits.TheConstants.{LOG_FRONT}
+use Rattle.definitions.specs.declared.limits.TheConstants.{SESSION_FRONT}
+use Rattle.peer_cli.specs.Files.{BeginsPeer, HasPlayer, FetchesLog, IsLogReading, IsLogShown, OpensPeer, OpensSession}
+use Rattle.peer_cli.specs.Games.{IsDue, IsStartFor, ended_by, front_of, is_shelf_fault, log_front_of, with_old, with_player}
 
 -- the bytes that are read of a file, by its front
-pub front_read : (content : Option (List ℕ)) (text : List ℕ) → IsFrontOf 1048576 content text → front_of content ≡ text
+pub front_read : (content : Option (List ℕ)) (text : List ℕ) → IsFrontOf SESSION_FRONT content text → front_of content ≡ text
 unfolding front_of
 front_read None text h = absurd h
 front_read (Some bytes) text h = sym h
 
-pub log_front_read : (content : Option (List ℕ)) (text : List ℕ) → IsFrontOf 67108865 content text → log_front_of content ≡ text
+pub log_front_read : (content : Option (List ℕ)) (text : List ℕ) → IsFrontOf LOG_FRONT content text → log_front_of content ≡ text
 unfolding log_front_of
 log_front_read None text h = absurd h
 log_front_read (Some bytes) text h = sym h
@@ -34,10 +36,10 @@ game_due (Err Memory) game e = cc
 game_due (Err (At line what)) game e = cc
 
 -- no session is due
-none_due : (player : ℕ) (due : Result Game Status) (old : Option (Option (List ℕ))) (status : Status) → IsDue due (Err status) → IsStartFor player (with_log player (with_player player due) old) (Err status)
+none_due : (player : ℕ) (due : Result Game Status) (old : Option (Option (List ℕ))) (status : Status) → IsDue due (Err status) → IsStartFor player (with_old player (with_player player due) old) (Err status)
 none_due player due old NoMemory h = tt
 none_due player due old InputFault h = tt
-none_due player due old (BadSession line what) h = ap (λ d. with_log player (with_player player d) old) h
+none_due player due old (BadSession line what) h = ap (λ d. with_old player (with_player player d) old) h
 none_due player due old status h = absurd h
 
 -- no call for a log was made
@@ -45,10 +47,10 @@ none_reading : (old : Option (List ℕ)) → IsLogReading old []
 none_reading None = refl
 none_reading (Some name) = tt
 
-none_told : (files : Option (List ℕ → Option (List ℕ))) (old : Option (List ℕ)) → IsLogTold files old []
-none_told files None = tt
-none_told None (Some name) = tt
-none_told (Some f) (Some name) = tt
+none_shown : (files : Option (List ℕ → Option (List ℕ))) (old : Option (List ℕ)) → IsLogShown files old []
+none_shown files None = tt
+none_shown None (Some name) = tt
+none_shown (Some f) (Some name) = tt
 
 -- What is known behind the reading of a log.
 record LogRead (b c : ShelfState) (game : Game) (player : ℕ) (old : Option (List ℕ)) (start : Result Resumed Status) : Type 0 where
@@ -56,7 +58,7 @@ record LogRead (b c : ShelfState) (game : Game) (player : ℕ) (old : Option (Li
   pub grows : Grows b.pieces c.pieces
   pub reading : IsLogReading old (since b.pieces c.pieces)
   pub due : (since b.pieces c.pieces ≡ []) ⊎ (player < players_of game)
-  pub told : IsLogTold b.files old (since b.pieces c.pieces)
+  pub shown : IsLogShown b.files old (since b.pieces c.pieces)
   pub counted : c.faults ≡ faults_behind (is_shelf_fault start) b.faults
 
 log_read : (b c : ShelfState) (game : Game) (player : ℕ) (old : Option (List ℕ)) (start : Result Resumed Status) → FetchesLog b c game player old start → LogRead b c game player old start
@@ -68,7 +70,7 @@ log_read b c game player old start (inl h) =
       grows = grows_by b.pieces c.pieces [] pieces;
       reading = subst (IsLogReading old) (sym none) (none_reading old);
       due = inl none;
-      told = subst (IsLogTold b.files old) (sym none) (none_told b.files old);
+      shown = subst (IsLogShown b.files old) (sym none) (none_shown b.files old);
       counted = ap (λ (s : ShelfState). s.faults) h.0 ∙ ap (λ (f : Bool). faults_behind f b.faults) (sym h.1);
     }
 log_read b c game player old start (inr h) =
@@ -78,7 +80,7 @@ log_read b c game player old start (inr h) =
       grows = f.grows;
       reading = subst (λ (o : Option (List ℕ)). IsLogReading o (since b.pieces c.pieces)) (sym h.1) f.reading;
       due = inr h.2;
-      told = subst (λ (o : Option (List ℕ)). IsLogTold b.files o (since b.pieces c.pieces)) (sym h.1) f.told;
+      shown = subst (λ (o : Option (List ℕ)). IsLogShown b.files o (since b.pieces c.pieces)) (sym h.1) f.shown;
       counted = f.counted;
     }
 
@@ -95,12 +97,12 @@ opened a b c session player old game start o p =
         session_read = o.fetched.reading;
         log_read = l.reading;
         log_due = λ content h. go l.due (game_due _ game (o.due content h));
-        session_told = o.fetched.told;
-        log_told = subst (λ (f : Option (List ℕ → Option (List ℕ))). IsLogTold f old (since b.pieces c.pieces)) o.fetched.same l.told;
+        session_shown = o.fetched.shown;
+        log_shown = subst (λ (f : Option (List ℕ → Option (List ℕ))). IsLogShown f old (since b.pieces c.pieces)) o.fetched.same l.shown;
       };
       counted = l.counted ∙ ap (faults_behind (is_shelf_fault start)) o.fetched.counted;
       due = λ contents h.
-          subst (λ (r : Result Game Status). IsStartFor player (with_log player (with_player player r) (option_map (λ name. contents.log) old)) start) (sym (o.due contents.session h.session_gives)) (p.due contents.log h.log_gives);
+          subst (λ (r : Result Game Status). IsStartFor player (with_old player (with_player player r) (option_map (λ name. contents.log) old)) start) (sym (o.due contents.session h.session_gives)) (p.due contents.log h.log_gives);
     }
   where
     go : {content : Option (List ℕ)} → (since b.pieces c.pieces ≡ []) ⊎ (player < players_of game) → game_at (front_of content) ≡ Ok game → (since b.pieces c.pieces ≡ []) ⊎ HasPlayer player content
@@ -117,8 +119,8 @@ unopened a b session player old status o = record {
     session_read = o.fetched.reading;
     log_read = none_reading old;
     log_due = λ content h. inl refl;
-    session_told = o.fetched.told;
-    log_told = none_told a.files old;
+    session_shown = o.fetched.shown;
+    log_shown = none_shown a.files old;
   };
   counted = o.fetched.counted;
   due = λ contents h. none_due player _ _ status (o.due contents.session h.session_gives);

@@ -1,16 +1,15 @@
 -- Files: what a run reads of them, the session's and the log's where one is named.
-use Rattle.std.specs.Prelude.{◌≡◌, ◌⊎◌, ℕ, ◌<◌, false, Ok, Result, Option, Some, None, List, [], ◌++◌, option_map, option_and_then}
+use Rattle.std.specs.Prelude.{◌≡◌, ◌⊎◌, ℕ, ◌<◌, false, Ok, Result, Option, Some, None, List, [], ◌++◌, option_map}
 use Rattle.station.specs.Outside.{faults_behind}
 use Rattle.station.specs.Pieces.{Piece, AllGive}
 use Rattle.station.specs.Shelves.{ShelfState}
 use Rattle.station.specs.Since.{since}
-use Rattle.line_io.specs.Fronts.{AllTold, Fetched, IsReading}
+use Rattle.line_io.specs.Fronts.{AllShown, Fetched, IsReading}
 use Rattle.run_frame.specs.declared.statuses.Status.{Status}
 use Rattle.definitions.specs.World.{Game, players_of}
 use Rattle.grid_world.specs.Reading.{game_at}
 use Rattle.old_log.specs.declared.resuming.Resumed.{Resumed}
-use Rattle.peer_cli.specs.Words.{Command, Drive}
-use Rattle.peer_cli.specs.Games.{IsDue, IsStartFor, beginning_for, front_of, is_shelf_fault, session_in, with_log, with_player}
+use Rattle.peer_cli.specs.Games.{IsDue, IsStartFor, beginning_for, front_of, is_shelf_fault, session_in, with_old, with_player}
 
 -- the calls for each of the two files, as they were answered
 pub record Calls : Type 0 where
@@ -27,20 +26,15 @@ pub record AreContents (contents : Contents) (calls : Calls) : Type 0 where
   pub session_gives : AllGive contents.session calls.session
   pub log_gives : AllGive contents.log calls.log
 
--- the contents of the files that a command names
-abbrev pub contents_of : Option Command → (files : List ℕ → Option (List ℕ)) → Contents
-contents_of None files = record { session = None; log = None }
-contents_of (Some (Drive session player old)) files = record { session = files session; log = option_and_then files old }
-
 -- The calls read the log's file from its front on, if one is named.
 abbrev pub IsLogReading : (old : Option (List ℕ)) → List Piece → Type 0
 IsLogReading None calls = calls ≡ []
 IsLogReading (Some name) calls = IsReading name 0 calls
 
--- The log's file gives what they answered, where the shelf tells its files.
-abbrev pub IsLogTold : (files : Option (List ℕ → Option (List ℕ))) → (old : Option (List ℕ)) → List Piece → Type 0
-IsLogTold files None calls = Unit {0}
-IsLogTold files (Some name) calls = AllTold files name calls
+-- The log's file gives what they answered, where the shelf shows its files.
+abbrev pub IsLogShown : (files : Option (List ℕ → Option (List ℕ))) → (old : Option (List ℕ)) → List Piece → Type 0
+IsLogShown files None calls = Unit {0}
+IsLogShown files (Some name) calls = AllShown files name calls
 
 -- A file with this content has a session, and the player is one of it.
 pub record HasPlayer (player : ℕ) (content : Option (List ℕ)) : Type 0 where
@@ -59,14 +53,9 @@ pub record ReadsFiles (session : List ℕ) (player : ℕ) (old : Option (List �
   pub log_read : IsLogReading old calls.log
   -- the log's only where there is a session and the player is one of it
   pub log_due : (content : Option (List ℕ)) → AllGive content calls.session → (calls.log ≡ []) ⊎ HasPlayer player content
-  -- where the shelf tells its files, what they give was answered
-  pub session_told : AllTold before.files session calls.session
-  pub log_told : IsLogTold before.files old calls.log
-
--- What a command reads of the files.
-abbrev pub ReadsFor : Option Command → (before after : ShelfState) → Calls → Type 0
-ReadsFor None before after calls = (after ≡ before) × (calls ≡ record { session = []; log = [] })
-ReadsFor (Some (Drive session player old)) before after calls = ReadsFiles session player old before after calls
+  -- where the shelf shows its files, what they give was answered
+  pub session_shown : AllShown before.files session calls.session
+  pub log_shown : IsLogShown before.files old calls.log
 
 -- The session of a file was read.
 pub record OpensSession (before after : ShelfState) (name : List ℕ) (session : Result Game Status) : Type 0 where
@@ -83,7 +72,7 @@ FetchesLog before after game player old start =
 pub record BeginsPeer (before after : ShelfState) (game : Game) (player : ℕ) (old : Option (List ℕ)) (start : Result Resumed Status) : Type 0 where
   pub fetches : FetchesLog before after game player old start
   pub due : (content : Option (List ℕ)) → AllGive content (since before.pieces after.pieces) →
-      IsStartFor player (with_log player (with_player player (Ok game)) (option_map (λ name. content) old)) start
+      IsStartFor player (with_old player (with_player player (Ok game)) (option_map (λ name. content) old)) start
 
 -- A player of a file's session was begun with, from the log in the other file on, if one is named.
 pub record OpensPeer (before after : ShelfState) (session : List ℕ) (player : ℕ) (old : Option (List ℕ)) (start : Result Resumed Status) : Type 0 where

@@ -1,7 +1,6 @@
 -- Games: the session that a file has and the log that a player goes on from, or how the run ends where there is none. A file that
 -- isn't there counts as one without bytes here; reading it is a fault of the shelf, which is answered where the file is read.
 use Rattle.std.specs.Prelude.{◌≡◌, ℕ, Bool, false, List, [], take, Result, Ok, Err, Option, Some, None, nat_lt, if◌then◌else◌, unwrap_or}
-use Rattle.definitions.specs.declared.logs.Entry.{Entry}
 use Rattle.definitions.specs.World.{Game, players_of}
 use Rattle.definitions.specs.Honest.{IsHonest}
 use Rattle.run_frame.specs.Frame.{is_input_fault}
@@ -11,11 +10,14 @@ use Rattle.grid_world.specs.declared.fault.SessionFault.{SessionFault}
 use Rattle.grid_world.specs.declared.fault.SessionFault.TheVariants.{At, Memory}
 use Rattle.grid_world.specs.Reading.{game_at}
 use Rattle.old_log.specs.declared.resuming.Resumed.{Resumed}
+use Rattle.drive_command.specs.Begin.{Beginning}
+use Rattle.definitions.specs.declared.limits.TheConstants.{LOG_FRONT}
+use Rattle.definitions.specs.declared.limits.TheConstants.{SESSION_FRONT}
 use Rattle.old_log.specs.Old.{Fault, old_entries, dropped_at, old_fault}
 
 -- the bytes of a session's file that are read
 unfoldable pub front_of : Option (List ℕ) → List ℕ
-front_of content = take 1048576 (unwrap_or content [])
+front_of content = take SESSION_FRONT (unwrap_or content [])
 
 -- the session that is read, or how the run ends where none is
 abbrev pub ended_by : Result Game SessionFault → Result Game Status
@@ -38,13 +40,7 @@ game_for player content = with_player player (session_in content)
 
 -- the bytes of a log's file that are read: one more than a log may have, so that a longer one is told from it
 unfoldable pub log_front_of : Option (List ℕ) → List ℕ
-log_front_of content = take 67108865 (unwrap_or content [])
-
--- what a run begins with: a session, the log of its player, and the byte from which on the log's file is dropped, if it is
-pub record Beginning : Type 0 where
-  pub game : Game
-  pub first : List Entry
-  pub dropped : Option ℕ
+log_front_of content = take LOG_FRONT (unwrap_or content [])
 
 -- where no log is named
 abbrev pub empty_beginning : Game → Beginning
@@ -60,13 +56,14 @@ abbrev pub begun : ℕ → Game → Option (Option (List ℕ)) → Result Beginn
 begun player game None = Ok (empty_beginning game)
 begun player game (Some content) = old_beginning game (log_front_of content) (old_fault game player (log_front_of content))
 
-abbrev pub with_log : ℕ → Result Game Status → Option (Option (List ℕ)) → Result Beginning Status
-with_log player (Err status) old = Err status
-with_log player (Ok game) old = begun player game old
+-- the same, where there is a session that the player is one of
+abbrev pub with_old : ℕ → Result Game Status → Option (Option (List ℕ)) → Result Beginning Status
+with_old player (Err status) old = Err status
+with_old player (Ok game) old = begun player game old
 
 -- what the player's run begins with, by its session's file and by the file of its log, if one is named
 abbrev pub beginning_for : ℕ → Option (List ℕ) → Option (Option (List ℕ)) → Result Beginning Status
-beginning_for player content old = with_log player (game_for player content) old
+beginning_for player content old = with_old player (game_for player content) old
 
 -- What is read is what is due, unless memory was wanting or the shelf failed.
 abbrev pub IsDue : Result Game Status → Result Game Status → Type 0

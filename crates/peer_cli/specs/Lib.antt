@@ -1,7 +1,7 @@
 pub mod Words
 pub mod Games
 pub mod Files
-pub mod Program
+pub mod Commands
 pub mod Causes
 pub mod Outside
 pub mod Runs

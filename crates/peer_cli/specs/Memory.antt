@@ -7,8 +7,7 @@ use Rattle.run_frame.specs.Ends.{Finished}
 use Rattle.line_io.specs.Inputs.{AtEnd, AtFault, input_of}
 use Rattle.run_frame.specs.declared.statuses.Status.{Status}
 use Rattle.peer_cli.specs.Words.{Command}
-use Rattle.peer_cli.specs.Files.{contents_of}
-use Rattle.peer_cli.specs.Program.{answer_of}
+use Rattle.peer_cli.specs.Commands.{answer_of, contents_of}
 
 -- What a run over objects in memory wrote is due by what the files and the input held, whatever it read of them.
 pub record WritesInMemory (command : Option Command) (input input' : HeldSource) (out out' : HeldSink) (shelf shelf' : HeldShelf) (status : Status) : Type 0 where

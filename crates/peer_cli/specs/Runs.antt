@@ -1,5 +1,5 @@
 -- Runs: what the program promises of a run.
-use Rattle.std.specs.Prelude.{◌≡◌, ◌⊎◌, ℕ, true, IsTrue, None, Option, List, ◌++◌}
+use Rattle.std.specs.Prelude.{◌≡◌, ◌⊎◌, ℕ, true, None, Option, List, ◌++◌}
 use Rattle.station.specs.Outside.{Rose}
 use Rattle.station.specs.Since.{since, Grows}
 use Rattle.station.specs.Sources.{SourceState}
@@ -7,17 +7,12 @@ use Rattle.run_frame.specs.Ends.{Finished}
 use Rattle.run_frame.specs.Frame.{OnDone, OnNoMemory, Ran}
 use Rattle.line_io.specs.Inputs.{AtEnd, AtFault, Input, MayFollow, input_of}
 use Rattle.run_frame.specs.Turns.{input_by}
-use Rattle.line_io.specs.Lines.{lines_of}
 use Rattle.run_frame.specs.declared.statuses.Status.{Status}
 use Rattle.run_frame.specs.declared.statuses.Status.TheVariants.{Done, NoMemory, OutputFault, Usage}
-use Rattle.definitions.specs.Findings.{is_clean}
-use Rattle.drive_command.specs.Drive.{bad_line, drive_log}
-use Rattle.drive_command.specs.FairPlay.{IsFairPlay}
 use Rattle.peer_cli.specs.Words.{Command}
-use Rattle.peer_cli.specs.Games.{Beginning}
-use Rattle.peer_cli.specs.Files.{AreContents, Calls, Contents, ReadsFor}
-use Rattle.peer_cli.specs.Program.{IsOverAtFirst, TellsRun, answer_of}
-use Rattle.peer_cli.specs.Causes.{HasCause, IsSet}
+use Rattle.peer_cli.specs.Files.{AreContents, Calls, Contents}
+use Rattle.peer_cli.specs.Commands.{IsOverAtFirst, ReadsFor, answer_of}
+use Rattle.peer_cli.specs.Causes.{HasCause, IsGood, IsMeant}
 use Rattle.peer_cli.specs.Outside.{CountsFaults, Outside}
 
 -- a run: the command that its words say, if they say one, and the outside before it and behind it
@@ -32,7 +27,7 @@ read_by run = since run.before.input.seen run.after.input.seen
 
 -- The input was read on.
 pub record ReadsOn (before after : SourceState) : Type 0 where
-  -- where it tells all its bytes, they are the same
+  -- where it shows all its bytes, they are the same
   pub same : after.whole ≡ before.whole
   -- it gave more bytes or none
   pub grows : Grows before.seen after.seen
@@ -79,23 +74,12 @@ pub record LeavesAlone (run : Run) (calls : Calls) (alone : Type 0) (status : St
 
 -- When the run comes to its end.
 pub record Completes (run : Run) (calls : Calls) (status : Status) : Type 0 where
-  -- with a session, a player, a log and a script in their grammars, no finding and no fault, only memory can be wanting
-  pub done : ForAny run calls (λ contents behind. (player : ℕ) (begins : Beginning) → IsSet run.command contents player begins →
-      bad_line 0 (lines_of (read_by run ++ behind)) ≡ None →
-      IsTrue (is_clean begins.game (drive_log begins.game player begins.first (input_of AtEnd (read_by run ++ behind)))) →
+  -- where words, files and input are good, and there is no fault, only memory can be wanting
+  pub done : ForAny run calls (λ contents behind. IsGood run.command contents (input_of AtEnd (read_by run ++ behind)) →
       ¬ Rose run.before.input.faults run.after.input.faults → ¬ Rose run.before.shelf.faults run.after.shelf.faults → ¬ Rose run.before.output.faults run.after.output.faults →
       (status ≡ Done) ⊎ (status ≡ NoMemory))
   -- at its end the input was read to its end
   pub over : OnDone status (run.after.input.ended ≡ true)
-
--- What is behind each answer, whatever the files hold and the input is.
-pub record TellsPlay (command : Option Command) : Type 0 where
-  -- the body tells a log, from the one on that the run begins with
-  pub tells : (contents : Contents) (input : Input) (player : ℕ) (begins : Beginning) → IsSet command contents player begins →
-      TellsRun player begins (drive_log begins.game player begins.first input) (answer_of command contents input).body
-  -- that log is one of fair play
-  pub fair : (contents : Contents) (input : Input) (player : ℕ) (begins : Beginning) → IsSet command contents player begins →
-      IsFairPlay begins.game player (drive_log begins.game player begins.first input)
 
 -- What the program promises of a run that ended with this status. `alone` says that the input was left alone.
 pub record Runs (run : Run) (alone : Type 0) (status : Status) : Type 0 where
@@ -103,7 +87,7 @@ pub record Runs (run : Run) (alone : Type 0) (status : Status) : Type 0 where
   pub calls : Calls
   -- it made these calls and no others, each where it was due
   pub files : ReadsFor run.command run.before.shelf run.after.shelf calls
-  -- it read the input on, and changed nothing of what the input tells of itself
+  -- it read the input on, and changed nothing of what the input shows of itself
   pub input : ReadsOn run.before.input run.after.input
   -- there is something that the files may hold and that may stand behind the bytes read
   pub possible : IsPossible run calls
@@ -117,8 +101,8 @@ pub record Runs (run : Run) (alone : Type 0) (status : Status) : Type 0 where
   pub untouched : LeavesAlone run calls alone status
   -- where all is good it comes to its end
   pub complete : Completes run calls status
-  -- what it wrote tells a log of fair play
-  pub play : TellsPlay run.command
+  -- what is behind its answers, whatever the files hold and the input is: a log of fair play
+  pub meant : (contents : Contents) (input : Input) → IsMeant run.command contents input
 
 -- The same before the line of a refusal is written.
 pub record Works (run : Run) (alone : Type 0) (status : Status) : Type 0 where

@@ -1,12 +1,17 @@
-//! The program as one call: the command words, the session and perhaps a log from the shelf, and a peer that is driven by the
-//! input.
+//! The program as one call: the words as a command, the session and perhaps a log from the shelf, and the command over them.
 //!
 //! `run` carries the promises of the whole: what is written for these words, files and input, why each status comes, that
 //! nothing but memory can be wanting where all is good, and that the log behind the text is one of fair play. The crate
 //! touches the source, the sink and the shelf that it is handed, and takes its memory before the first byte is written.
+//!
+//! A further command is a case of `Command` and of `obey`, and in `specs/` of `Words`, `Commands` and `Causes`: its crate has its words, its
+//! answer, its causes, one function and its laws, as `drive_command` does. What `run` promises (`specs/Runs.antt`) names none of them.
 #![tactic(auto)]
 
+mod driving;
 mod memory;
+mod old_logs;
+mod peers;
 mod program;
 mod sessions;
 mod words;

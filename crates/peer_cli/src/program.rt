@@ -1,82 +1,34 @@
 //! The program.
 
-ghost use Rattle.std.specs.Prelude.{◌≡◌, ◌++◌, [], Some, false, map, option_map};
-ghost use Rattle.definitions.specs.Advance.{advance};
-ghost use Rattle.definitions.specs.Findings.{is_clean};
-ghost use Rattle.run_frame.specs.Frame.{after_text};
-ghost use Rattle.line_io.specs.Texts.{Puts};
-ghost use Rattle.run_frame.specs.Turns.{Plays};
+ghost use Rattle.std.specs.Prelude.{◌≡◌, Some, map};
 ghost use Rattle.drive_command.specs.Laws.{DrivesAreRuns, LinesAreOneStream};
-ghost use Rattle.drive_command.specs.Drive as D;
-ghost use Rattle.peer_cli.specs.Words.{Drive, command_of};
-ghost use Rattle.peer_cli.specs.Program.{dropped_line, dropped_text};
+ghost use Rattle.peer_cli.specs.Words.{command_of, command_said};
 ghost use Rattle.peer_cli.specs.Runs.{Runs, Works};
 
-use crate::sessions::open_peer;
-use crate::words::{DriveWords, read_command};
-use arrayvec::ArrayVec;
-use drive_command::play;
-use itoa::Buffer;
-use line_io::{Written, put};
-use old_log::Resumed;
+use crate::driving::drive_for;
+use crate::words::{Command, read_command};
 use run_frame::{Status, refuse};
 use station::{Shelf, Sink, Source};
 use std::alloc::Global;
 
-/// The line that tells from which byte on a log is dropped.
-#[tactic(auto, unfolding(crate::specs::Program::dropped_line))]
-fn line_of_dropped(at: u32) -> ArrayVec<u8, 32>
-    ensures { result.items ≡ dropped_line at }
-{
-    let mut line = ArrayVec::new();
-    line.try_extend_from_slice(b"dropped ").unwrap();
-    line.try_extend_from_slice(Buffer::new().format(at).as_bytes())
-        .unwrap();
-    line.push(b'\n');
-    line
-}
-
-/// Writes from which byte on a log is dropped, if it is.
-fn put_dropped<O: Sink>(dropped: Option<u32>, out: &mut O) -> Written
-    ensures { Puts (O.state out.old) (O.state out.new) (dropped_text dropped) result }
-{
-    match dropped {
-        None => put(out, b""),
-        Some(at) => put(out, line_of_dropped(at).as_slice()),
-    }
-}
-
-/// Tells what of its log was dropped, and then plays the input as the script of the peer.
-fn play_on<I: Source, O: Sink>(begun: Resumed, input: &mut I, out: &mut O) -> Status
-    ensures text { Plays (I.state input.old) (I.state input.new) (O.state out.old) (O.state out.new)
-        (λ script. after_text (dropped_text begun.dropped) (D.drive begun.peer.game begun.peer.me begun.peer.entries script)) [] result }
-    ensures untouched { is_clean begun.peer.game (advance begun.peer.game begun.peer.me begun.peer.entries) ≡ false → input.new ≡ input.old }
-{
-    match put_dropped(begun.dropped, out) {
-        Written::All => play(begun.peer, input, out),
-        Written::Failed => Status::OutputFault,
-    }
-}
-
-/// Drives a peer for the player of a file's session by the input, from the log in the other file on, if one is named.
-fn drive<I: Source, O: Sink, H: Shelf>(
+/// Does what the command asks for. Each command is handed only what it uses.
+fn obey<I: Source, O: Sink, H: Shelf>(
     alloc: Global,
-    words: DriveWords<'_>,
+    command: Command<'_>,
     input: &mut I,
     out: &mut O,
     shelf: &mut H,
 ) -> Status
     ensures { Works
         (record {
-          command = Some (Drive words.entry.session.now words.entry.player (option_map (λ name. name.now) words.entry.old));
+          command = Some (command_said command.entry);
           before = record { input = I.state input.old; output = O.state out.old; shelf = H.state shelf.old };
           after = record { input = I.state input.new; output = O.state out.new; shelf = H.state shelf.new };
         })
         (input.new ≡ input.old) result }
 {
-    match open_peer(alloc, shelf, words.session, words.player, words.old) {
-        Ok(begun) => play_on(begun, input, out),
-        Err(status) => status,
+    match command {
+        Command::Drive(words) => drive_for(alloc, words, input, out, shelf),
     }
 }
 
@@ -98,7 +50,7 @@ fn work<I: Source, O: Sink, H: Shelf>(
 {
     match read_command(words) {
         None => Status::Usage,
-        Some(words) => drive(alloc, words, input, out, shelf),
+        Some(command) => obey(alloc, command, input, out, shelf),
     }
 }
 

@@ -5,16 +5,14 @@ ghost use Rattle.std.specs.List.{list_all};
 ghost use Rattle.std.specs.Str.{is_utf8};
 ghost use Rattle.peer_cli.specs.Words as W;
 
-use definitions::PlayerId;
-use script_grammar::read_number;
+use drive_command::{DriveWords, read_drive_words};
 use std::str::from_utf8;
 
-/// The command to drive: the session's file, the player, and the file of a log to go on from, if one is named.
+/// A command, with its words.
 #[derive(Clone, Copy)]
-pub(crate) struct DriveWords<'a> {
-    pub(crate) session: &'a [u8],
-    pub(crate) player: PlayerId,
-    pub(crate) old: Option<&'a [u8]>,
+pub(crate) enum Command<'a> {
+    /// A peer is driven by the input.
+    Drive(DriveWords<'a>),
 }
 
 /// Whether the bytes are UTF-8.
@@ -53,52 +51,31 @@ fn are_words(words: &[Vec<u8>]) -> bool
     true
 }
 
-/// The command to drive, where the first of these words is its name and the third a player's number.
-fn read_driving<'a>(
-    name: &[u8],
-    session: &'a [u8],
-    player: &[u8],
-    old: Option<&'a [u8]>,
-) -> Option<DriveWords<'a>>
-    ensures { option_map (λ c. W.Drive c.session.now c.player (option_map (λ o. o.now) c.old)) result ≡
-        W.driving_words name.now session.now player.now (option_map (λ o. o.now) old.entry) }
+/// The command of this name with these words.
+fn read_named<'a>(name: &[u8], words: &'a [Vec<u8>]) -> Option<Command<'a>>
+    ensures { option_map W.command_said result ≡ W.command_named name.now (map (λ w. w.items) words.now) }
 {
     if name != b"drive".as_slice() {
         return None;
     }
-    let player = read_number(15, player)?;
-    Some(DriveWords {
-        session,
-        player: player as u8,
-        old,
-    })
+    let words = read_drive_words(words)?;
+    Some(Command::Drive(words))
 }
 
 /// The command that the words are.
-fn read_words(words: &[Vec<u8>]) -> Option<DriveWords<'_>>
-    ensures { option_map (λ c. W.Drive c.session.now c.player (option_map (λ o. o.now) c.old)) result ≡ W.command_in (map (λ w. w.items) words.now) }
+fn read_words(words: &[Vec<u8>]) -> Option<Command<'_>>
+    ensures { option_map W.command_said result ≡ W.command_in (map (λ w. w.items) words.now) }
 {
     match words {
-        [name, session, player] => read_driving(
-            name.as_slice(),
-            session.as_slice(),
-            player.as_slice(),
-            None,
-        ),
-        [name, session, player, old] => read_driving(
-            name.as_slice(),
-            session.as_slice(),
-            player.as_slice(),
-            Some(old.as_slice()),
-        ),
-        _ => None,
+        [] => None,
+        [name, rest @ ..] => read_named(name.as_slice(), rest),
     }
 }
 
 /// The command that the program's words are.
 #[tactic(auto, unfolding(crate::specs::Words::command_of))]
-pub(crate) fn read_command(words: &[Vec<u8>]) -> Option<DriveWords<'_>>
-    ensures { option_map (λ c. W.Drive c.session.now c.player (option_map (λ o. o.now) c.old)) result ≡ W.command_of (map (λ w. w.items) words.now) }
+pub(crate) fn read_command(words: &[Vec<u8>]) -> Option<Command<'_>>
+    ensures { option_map W.command_said result ≡ W.command_of (map (λ w. w.items) words.now) }
 {
     if are_words(words) {
         read_words(words)

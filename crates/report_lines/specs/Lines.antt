@@ -113,6 +113,15 @@ abbrev pub needs_text : List Need → List ℕ
 needs_text [] = codes "done\n"
 needs_text (n ∷ ns) = need_text n ++ flat_map need_text ns
 
+-- what is written about the byte from which on a log is dropped
+unfoldable pub dropped_line : ℕ → List ℕ
+dropped_line at = codes "dropped " ++ decimal at ++ codes "\n"
+
+-- the same, if it is dropped at all
+abbrev pub dropped_text : Option ℕ → List ℕ
+dropped_text None = []
+dropped_text (Some at) = dropped_line at
+
 -- what is written at the very end
 abbrev pub end_line_text : List ℕ
 end_line_text = codes "end\n"

@@ -15,6 +15,15 @@ use definitions::{
 use hex::encode_to_slice;
 use itoa::Buffer;
 
+/// The most bytes of a word at the head of a line, its space with it.
+const WORD_ROOM: usize = 16;
+
+/// Room for the bytes of a frame.
+const FRAME_ROOM: usize = 64;
+
+/// Room for the digits that spell them.
+const FRAME_DIGITS: usize = 128;
+
 /// Room for a printed line.
 pub const REPORT_ROOM: usize = 320;
 
@@ -69,7 +78,7 @@ pub fn caught_line(finding: &Finding) -> ReportLine
 /// A line of this word, a player, and a place.
 #[tactic(auto, unfolding(crate::specs::Lines::place_text))]
 fn taken_line(word: &[u8], from: PlayerId, place: u64) -> ReportLine
-    requires { length word.now ≤ 16 }
+    requires { length word.now ≤ WORD_ROOM }
     ensures { result.items ≡ L.place_text word.now from place }
 {
     let mut line = ArrayVec::new();
@@ -171,12 +180,12 @@ pub fn choice_line(turn: Turn, fault: Option<OwnFault>) -> ReportLine
 }
 
 /// The hexadecimal text of a frame's bytes.
-fn digits_of(frame: &TurnFrame) -> ArrayVec<u8, 128>
+fn digits_of(frame: &TurnFrame) -> ArrayVec<u8, FRAME_DIGITS>
     ensures { result.items ≡ encode_lower (frame_bytes frame.now) }
 {
-    let mut bytes = [0; 64];
+    let mut bytes = [0; FRAME_ROOM];
     let count = put_turn(frame, &mut bytes);
-    let mut digits = [0; 128];
+    let mut digits = [0; FRAME_DIGITS];
     encode_to_slice(&bytes[..count], &mut digits[..2 * count]).unwrap();
     let mut text = ArrayVec::new();
     text.try_extend_from_slice(&digits[..2 * count]).unwrap();
@@ -270,6 +279,19 @@ pub fn player_line(player: PlayerId, turns: u32, track: Track, next: u32) -> Rep
         .unwrap();
     line.try_extend_from_slice(b" next ").unwrap();
     line.try_extend_from_slice(Buffer::new().format(next).as_bytes())
+        .unwrap();
+    line.push(b'\n');
+    line
+}
+
+/// The line that tells from which byte on a log is dropped.
+#[tactic(auto, unfolding(crate::specs::Lines::dropped_line))]
+pub fn dropped_line(at: u32) -> ReportLine
+    ensures { result.items ≡ L.dropped_line at }
+{
+    let mut line = ArrayVec::new();
+    line.try_extend_from_slice(b"dropped ").unwrap();
+    line.try_extend_from_slice(Buffer::new().format(at).as_bytes())
         .unwrap();
     line.push(b'\n');
     line

@@ -2,9 +2,9 @@
 
 ghost use Rattle.std.specs.Prelude.{◌≤◌, flat_map, length};
 ghost use Rattle.line_io.specs.Texts.{Puts};
-ghost use Rattle.report_lines.specs.Lines.{added_text, entry_report, found_text, need_text, needs_text};
+ghost use Rattle.report_lines.specs.Lines.{added_text, dropped_text, entry_report, found_text, need_text, needs_text};
 
-use crate::lines::{caught_line, entry_line, need_line};
+use crate::lines::{caught_line, dropped_line, entry_line, need_line};
 use definitions::{Entry, Finding, Need};
 use line_io::{Written, put};
 use station::Sink;
@@ -29,6 +29,16 @@ pub fn put_added<O: Sink>(entries: &[Entry], count: usize, out: &mut O) -> Writt
     ensures { Puts (O.state out.old) (O.state out.new) (added_text count entries.now) result }
 {
     put_entries(entries.split_at(count).1, out)
+}
+
+/// Writes from which byte on a log is dropped, if it is.
+pub fn put_dropped<O: Sink>(dropped: Option<u32>, out: &mut O) -> Written
+    ensures { Puts (O.state out.old) (O.state out.new) (dropped_text dropped) result }
+{
+    match dropped {
+        None => put(out, b""),
+        Some(at) => put(out, dropped_line(at).as_slice()),
+    }
 }
 
 /// Writes a finding, if there is one.

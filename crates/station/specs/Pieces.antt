@@ -9,7 +9,7 @@ pub record Piece : Type 0 where
   pub gave : Option (List ℕ)
 
 -- A file gives this at this place: bytes that stand there, and none exactly behind its end. A file that isn't there gives neither.
--- A failed call tells nothing.
+-- A failed call shows nothing.
 abbrev pub GivesAt : Option (List ℕ) → ℕ → Option (List ℕ) → Type 0
 GivesAt (Some content) at (Some bytes) = (bytes ≡ take (length bytes) (drop at content)) × (bytes ≡ [] → length content ≤ at)
 GivesAt None at (Some bytes) = ⊥

@@ -5,7 +5,7 @@ use Rattle.station.specs.Pieces.{Piece, GivesAt}
 
 -- a shelf, by what its calls answered so far
 pub record ShelfState : Type 0 where
-  -- the content of each file by its name, and none where there is no such file; where the object tells it
+  -- the content of each file by its name, and none where there is no such file; where the object shows it
   pub files : Option (List ℕ → Option (List ℕ))
   -- what its calls answered
   pub pieces : List Piece
@@ -21,7 +21,7 @@ faults_after None n = one_more n
 abbrev pub after_piece : ShelfState → Piece → ShelfState
 after_piece s piece = record { files = s.files; pieces = s.pieces ++ piece ∷ []; faults = faults_after piece.gave s.faults }
 
--- The files give this for the name at that place, where they are told.
-abbrev pub GivesTold : Option (List ℕ → Option (List ℕ)) → (name : List ℕ) → (at : ℕ) → Option (List ℕ) → Type 0
-GivesTold (Some files) name at gave = GivesAt (files name) at gave
-GivesTold None name at gave = Unit {0}
+-- The files give this for the name at that place, where they are shown.
+abbrev pub GivesShown : Option (List ℕ → Option (List ℕ)) → (name : List ℕ) → (at : ℕ) → Option (List ℕ) → Type 0
+GivesShown (Some files) name at gave = GivesAt (files name) at gave
+GivesShown None name at gave = Unit {0}

@@ -6,7 +6,7 @@ use Rattle.station.specs.Outside.{one_more}
 
 -- a source, by what its calls answered so far
 pub record SourceState : Type 0 where
-  -- all its bytes, given or not, where the object tells them
+  -- all its bytes, given or not, where the object shows them
   pub whole : Option (List ℕ)
   -- the bytes that its calls gave
   pub seen : List ℕ

@@ -2,7 +2,7 @@
 //!
 //! Each object is seen as a state: what its calls answered so far, and how many of them failed. Each call makes one answer more of
 //! it. So code over these traits tells exactly what was read and written, can't blame the outside for a fault that never came, and
-//! can't hide one. The objects in memory tell besides all that they have, and fail at the calls that they are told to; the sure ones
+//! can't hide one. The objects in memory show besides all that they have, and fail at the calls that they are told to; the sure ones
 //! never fail. The adapters over std's readers and writers note what these answered. Nothing here takes memory but the room of a
 //! `MemorySink`.
 #![tactic(auto)]

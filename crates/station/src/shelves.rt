@@ -1,7 +1,7 @@
 //! Files by name.
 
 ghost use Rattle.std.specs.Prelude.{◌≡◌, ◌<◌, length};
-ghost use Rattle.station.specs.Shelves.{ShelfState, GivesTold, after_piece};
+ghost use Rattle.station.specs.Shelves.{ShelfState, GivesShown, after_piece};
 ghost use Rattle.station.specs.Sources.{TakesWithin, pulled};
 
 use crate::sources::Pull;
@@ -17,6 +17,6 @@ pub trait Shelf {
         ensures within { TakesWithin result buf.new }
         ensures after { state self.new ≡ after_piece (state self.old) (record { name = name.now; at = at; gave = pulled result buf.new }) }
 
-        // Where it tells its files, they give what was answered.
-        ensures gives { GivesTold (state self.old).files name.now at (pulled result buf.new) };
+        // Where it shows its files, they give what was answered.
+        ensures gives { GivesShown (state self.old).files name.now at (pulled result buf.new) };
 }

@@ -5,7 +5,7 @@ ghost use Rattle.station.specs.Copies.{pull_of};
 ghost use Rattle.station.specs.Files.{NamesDiffer, sure_content_in};
 ghost use Rattle.station.specs.Pieces.{GivesAt};
 ghost use Rattle.station.specs.Plans.{Bytes, bytes_left, bytes_state, files_state};
-ghost use Rattle.station.specs.Shelves.{GivesTold, after_piece};
+ghost use Rattle.station.specs.Shelves.{GivesShown, after_piece};
 ghost use Rattle.station.specs.Sinks.{GivesWithin};
 ghost use Rattle.station.specs.Sources.{TakesWithin, after_pull, pulled};
 

@@ -1,6 +1,6 @@
 use Rattle.std.proofs.Common.{◌-◌}
 use Rattle.run_frame.specs.Turns.{PlaysOn}
-use Rattle.drive_command.specs.declared.driver.TheConstants.{MOST_LINES}
+use Rattle.definitions.specs.declared.limits.TheConstants.{MOST_LINES}
 use Rattle.drive_command.specs.Outcomes.{driven_from}
 use Rattle.drive_command.proofs.playing.answer_lines.Given as goal
 

@@ -6,4 +6,4 @@ pub returns-in-None : goal.returns-in-None
 returns-in-None g c = rw (← c.in-None.ensures) (unasked _ _ refl)
 
 pub returns-in-Some : goal.returns-in-Some
-returns-in-Some g c = rw (← c.in-Some.ensures) c.drive.ensures
+returns-in-Some g c = rw (← c.in-Some.ensures) c.obey.ensures

@@ -2,7 +2,7 @@ use Rattle.std.proofs.Common.{List, ℕ, sym, ◌∙◌, subst}
 use Rattle.old_log.specs.Old.{old_fault}
 use Rattle.peer_cli.specs.Games.{IsStartFor, old_beginning}
 use Rattle.peer_cli.proofs.Shelves.{log_front_read}
-use Rattle.peer_cli.proofs.sessions.begin_with_file.Goals as goal
+use Rattle.peer_cli.proofs.old_logs.begin_with_file.Goals as goal
 
 pub returns-in-Ok-clause-due : goal.returns-in-Ok-clause-due
 returns-in-Ok-clause-due g c = λ content h.
