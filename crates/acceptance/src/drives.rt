@@ -1,5 +1,6 @@
 //! Each row's text and status.
 
+use crate::ahead::AHEAD;
 use crate::brought::BROUGHT;
 use crate::received::RECEIVED;
 use crate::rows::{ROWS, Row};
@@ -26,6 +27,15 @@ fn choices_print_their_texts(rt: HostRuntime) -> Result<(), Fail> {
 #[test]
 fn frames_that_come_print_their_texts(rt: HostRuntime) -> Result<(), Fail> {
     for row in &RECEIVED {
+        let agrees = agrees(rt.alloc(), row)?;
+        assert!(rt; agrees, "{}", row.name);
+    }
+    Ok(())
+}
+
+#[test]
+fn sessions_of_version_2_print_their_texts(rt: HostRuntime) -> Result<(), Fail> {
+    for row in &AHEAD {
         let agrees = agrees(rt.alloc(), row)?;
         assert!(rt; agrees, "{}", row.name);
     }

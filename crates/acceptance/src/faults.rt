@@ -157,7 +157,7 @@ struct Ended {
 static ENDED: [Ended; 9] = [
     Ended {
         name: "a session that is none",
-        session: b"playout 2\n",
+        session: b"playout 3\n",
         player: b"0",
         old: b"",
         script: b"log\n",

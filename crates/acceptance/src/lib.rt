@@ -5,6 +5,8 @@
 #![tactic(auto)]
 
 #[cfg(test)]
+mod ahead;
+#[cfg(test)]
 mod brought;
 #[cfg(test)]
 mod drives;
@@ -28,5 +30,7 @@ mod runs;
 mod silent;
 #[cfg(test)]
 mod stopped;
+#[cfg(test)]
+mod upgrades;
 #[cfg(test)]
 mod walled;

@@ -24,13 +24,23 @@ enum Walls {
     DeadEnd,
 }
 
-/// A ground, and how far a player steps. The two players start in two corners, strike one cell far, and play 12 turns.
+/// What a session of version 2 says besides: how many turns ahead players commit, and how far player 1 walks and strikes.
+#[derive(Clone, Copy)]
+struct Further {
+    ahead: u32,
+    speed: u8,
+    reach: u8,
+}
+
+/// A ground, and how far a player walks. The two players start in two corners, strike one cell far, and play 12 turns. Without anything
+/// further the session is one of version 1.
 struct Setting {
     name: &'static str,
     width: u16,
     height: u16,
     speed: u8,
     walls: Walls,
+    further: Option<Further>,
 }
 
 const TURNS: u32 = 12;
@@ -46,13 +56,14 @@ fn other_of(setting: &Setting) -> Cell {
     }
 }
 
-static SETTINGS: [Setting; 20] = [
+static SETTINGS: [Setting; 26] = [
     Setting {
         name: "a corridor",
         width: 40,
         height: 1,
         speed: 1,
         walls: Walls::None,
+        further: None,
     },
     Setting {
         name: "a shaft",
@@ -60,6 +71,7 @@ static SETTINGS: [Setting; 20] = [
         height: 40,
         speed: 2,
         walls: Walls::None,
+        further: None,
     },
     Setting {
         name: "a column with walls",
@@ -67,6 +79,7 @@ static SETTINGS: [Setting; 20] = [
         height: 40,
         speed: 2,
         walls: Walls::Scattered(9),
+        further: None,
     },
     Setting {
         name: "a room",
@@ -74,6 +87,7 @@ static SETTINGS: [Setting; 20] = [
         height: 7,
         speed: 1,
         walls: Walls::None,
+        further: None,
     },
     Setting {
         name: "rooms with doors",
@@ -81,6 +95,7 @@ static SETTINGS: [Setting; 20] = [
         height: 17,
         speed: 2,
         walls: Walls::Rooms,
+        further: None,
     },
     Setting {
         name: "a labyrinth",
@@ -88,6 +103,7 @@ static SETTINGS: [Setting; 20] = [
         height: 9,
         speed: 3,
         walls: Walls::Labyrinth,
+        further: None,
     },
     Setting {
         name: "diagonal gaps",
@@ -95,6 +111,7 @@ static SETTINGS: [Setting; 20] = [
         height: 12,
         speed: 1,
         walls: Walls::Gaps,
+        further: None,
     },
     Setting {
         name: "a dead end",
@@ -102,6 +119,7 @@ static SETTINGS: [Setting; 20] = [
         height: 5,
         speed: 2,
         walls: Walls::DeadEnd,
+        further: None,
     },
     Setting {
         name: "scattered walls",
@@ -109,6 +127,7 @@ static SETTINGS: [Setting; 20] = [
         height: 20,
         speed: 2,
         walls: Walls::Scattered(3),
+        further: None,
     },
     Setting {
         name: "thick walls",
@@ -116,6 +135,7 @@ static SETTINGS: [Setting; 20] = [
         height: 20,
         speed: 4,
         walls: Walls::Scattered(2),
+        further: None,
     },
     Setting {
         name: "63 columns",
@@ -123,6 +143,7 @@ static SETTINGS: [Setting; 20] = [
         height: 9,
         speed: 5,
         walls: Walls::Scattered(4),
+        further: None,
     },
     Setting {
         name: "64 columns",
@@ -130,6 +151,7 @@ static SETTINGS: [Setting; 20] = [
         height: 9,
         speed: 5,
         walls: Walls::Scattered(4),
+        further: None,
     },
     Setting {
         name: "65 columns",
@@ -137,6 +159,7 @@ static SETTINGS: [Setting; 20] = [
         height: 9,
         speed: 5,
         walls: Walls::Scattered(4),
+        further: None,
     },
     Setting {
         name: "a labyrinth of 64 columns",
@@ -144,6 +167,7 @@ static SETTINGS: [Setting; 20] = [
         height: 5,
         speed: 8,
         walls: Walls::Labyrinth,
+        further: None,
     },
     Setting {
         name: "a labyrinth of 65 columns",
@@ -151,6 +175,7 @@ static SETTINGS: [Setting; 20] = [
         height: 5,
         speed: 8,
         walls: Walls::Labyrinth,
+        further: None,
     },
     Setting {
         name: "256 columns",
@@ -158,6 +183,7 @@ static SETTINGS: [Setting; 20] = [
         height: 3,
         speed: 8,
         walls: Walls::Scattered(5),
+        further: None,
     },
     Setting {
         name: "256 rows",
@@ -165,6 +191,7 @@ static SETTINGS: [Setting; 20] = [
         height: 256,
         speed: 8,
         walls: Walls::Scattered(5),
+        further: None,
     },
     Setting {
         name: "the largest ground, open",
@@ -172,6 +199,7 @@ static SETTINGS: [Setting; 20] = [
         height: 256,
         speed: 8,
         walls: Walls::None,
+        further: None,
     },
     Setting {
         name: "the largest ground",
@@ -179,6 +207,7 @@ static SETTINGS: [Setting; 20] = [
         height: 256,
         speed: 8,
         walls: Walls::Scattered(4),
+        further: None,
     },
     Setting {
         name: "rooms on the largest ground",
@@ -186,6 +215,79 @@ static SETTINGS: [Setting; 20] = [
         height: 256,
         speed: 8,
         walls: Walls::Rooms,
+        further: None,
+    },
+    Setting {
+        name: "a corridor, two turns ahead",
+        width: 40,
+        height: 1,
+        speed: 1,
+        walls: Walls::None,
+        further: Some(Further {
+            ahead: 2,
+            speed: 2,
+            reach: 0,
+        }),
+    },
+    Setting {
+        name: "a room, eight turns ahead, beside one that walks and strikes far",
+        width: 30,
+        height: 30,
+        speed: 1,
+        walls: Walls::None,
+        further: Some(Further {
+            ahead: 8,
+            speed: 3,
+            reach: 8,
+        }),
+    },
+    Setting {
+        name: "rooms with doors, beside one that strikes nothing",
+        width: 25,
+        height: 17,
+        speed: 3,
+        walls: Walls::Rooms,
+        further: Some(Further {
+            ahead: 3,
+            speed: 1,
+            reach: 0,
+        }),
+    },
+    Setting {
+        name: "scattered walls, beside a slow one",
+        width: 40,
+        height: 20,
+        speed: 4,
+        walls: Walls::Scattered(3),
+        further: Some(Further {
+            ahead: 1,
+            speed: 1,
+            reach: 4,
+        }),
+    },
+    Setting {
+        name: "1,024 columns",
+        width: 1024,
+        height: 2,
+        speed: 8,
+        walls: Walls::Scattered(5),
+        further: Some(Further {
+            ahead: 4,
+            speed: 7,
+            reach: 1,
+        }),
+    },
+    Setting {
+        name: "1,000 rows of rooms",
+        width: 30,
+        height: 1000,
+        speed: 8,
+        walls: Walls::Rooms,
+        further: Some(Further {
+            ahead: 5,
+            speed: 8,
+            reach: 8,
+        }),
     },
 ];
 
@@ -248,10 +350,49 @@ fn add_walls(text: &mut Vec<u8>, setting: &Setting) -> Result<(), AllocError> {
     Ok(())
 }
 
+/// The first line.
+fn version_of(setting: &Setting) -> &'static [u8] {
+    match setting.further {
+        None => b"playout 1\n",
+        Some(_) => b"playout 2\n",
+    }
+}
+
+/// Adds the line of the turns ahead, if there is one.
+fn add_ahead(text: &mut Vec<u8>, setting: &Setting) -> Result<(), AllocError> {
+    if let Some(further) = setting.further {
+        add(text, b"ahead ")?;
+        add(text, Buffer::new().format(further.ahead).as_bytes())?;
+        text.push(b'\n')?;
+    }
+    Ok(())
+}
+
+/// Adds the line of player 1.
+fn add_other(text: &mut Vec<u8>, setting: &Setting) -> Result<(), AllocError> {
+    let other = other_of(setting);
+    add(text, b"player 1 ")?;
+    match setting.further {
+        None => add_pair(text, b"", u32::from(other.x), u32::from(other.y)),
+        Some(further) => {
+            add(text, Buffer::new().format(other.x).as_bytes())?;
+            text.push(b' ')?;
+            add(text, Buffer::new().format(other.y).as_bytes())?;
+            text.push(b' ')?;
+            add_pair(
+                text,
+                b"",
+                u32::from(further.speed),
+                u32::from(further.reach),
+            )
+        }
+    }
+}
+
 /// The session text of a setting.
 fn text_of(alloc: Global, setting: &Setting) -> Result<Vec<u8>, AllocError> {
     let mut text = Vec::new(alloc);
-    add(&mut text, b"playout 1\n")?;
+    add(&mut text, version_of(setting))?;
     add_pair(
         &mut text,
         b"grid ",
@@ -263,15 +404,11 @@ fn text_of(alloc: Global, setting: &Setting) -> Result<Vec<u8>, AllocError> {
     add_pair(&mut text, b" ", 1, 0)?;
     add(&mut text, b"charge 0 0 0\nturns ")?;
     add(&mut text, Buffer::new().format(TURNS).as_bytes())?;
-    add(&mut text, b"\nplayers 2\n")?;
+    text.push(b'\n')?;
+    add_ahead(&mut text, setting)?;
+    add(&mut text, b"players 2\n")?;
     add_pair(&mut text, b"player 0 ", 0, 0)?;
-    let other = other_of(setting);
-    add_pair(
-        &mut text,
-        b"player 1 ",
-        u32::from(other.x),
-        u32::from(other.y),
-    )?;
+    add_other(&mut text, setting)?;
     add_walls(&mut text, setting)?;
     add(&mut text, b"end\n")?;
     Ok(text)
@@ -317,8 +454,9 @@ fn should_answer(session: &Session, reached: bool, to: Cell) -> Option<OwnFault>
 
 /// Whether peer and plain program agree on all targets near the corner at which player 0 starts.
 fn agree_on_moves(alloc: Global, session: &Session, at: Cell) -> Result<bool, AllocError> {
+    session.facts();
     let start = mark_of(alloc, session.grid(), at)?;
-    let reached = walk(alloc, session.grid(), start, session.rules().speed)?;
+    let reached = walk(alloc, session.grid(), start, session.speed(0))?;
     for y in 0..10 {
         for x in 0..10 {
             let to = Cell { x, y };
@@ -332,6 +470,7 @@ fn agree_on_moves(alloc: Global, session: &Session, at: Cell) -> Result<bool, Al
 
 /// Whether peer and plain program agree on how many turns player 0 goes on alone, and on its targets.
 fn agree_on(alloc: Global, session: &Session, other: Cell) -> Result<bool, AllocError> {
+    session.facts();
     let alone = turns_alone(alloc, session, AT, other)?;
     let played = turns_played(alloc, session, AT)?;
     let moves = agree_on_moves(alloc, session, AT)?;

@@ -1,25 +1,68 @@
-//! The longest match that a session can be, by one peer.
+//! The longest matches that a session can be, by one peer.
 
 use commitment::digest_of;
-use definitions::{Cell, GotAnswer, Move, Nonce, Opening, PlayerId, Progress, Turn, TurnFrame};
+use definitions::{
+    Cell, GotAnswer, Move, Nonce, Opening, Place, PlayerId, Progress, Slot, Turn, TurnFrame, What,
+};
 use grid_world::{Session, read_session};
+use itoa::Buffer;
 use peer_core::Peer;
 use std::alloc::{AllocError, Global};
 use std::test::Fail;
 
-/// All players stand on one cell, so everyone waits for everyone.
-static CROWD: &[u8] =
-    b"playout 1\ngrid 1 1\nrules 1 0 0\ncharge 0 0 0\nturns 4096\nplayers 16\nplayer 0 0 0\nplayer 1 0 0\nplayer 2 0 0\nplayer 3 0 0\nplayer 4 0 0\nplayer 5 0 0\nplayer 6 0 0\nplayer 7 0 0\nplayer 8 0 0\nplayer 9 0 0\nplayer 10 0 0\nplayer 11 0 0\nplayer 12 0 0\nplayer 13 0 0\nplayer 14 0 0\nplayer 15 0 0\nend\n";
+/// A match of this many turns and players, all of whom stand on one cell, so that everyone waits for everyone.
+struct Crowd {
+    // what stands before the line of the players
+    head: &'static [u8],
+    turns: Turn,
+    players: PlayerId,
+}
 
-const TURNS: Turn = 4096;
-
-const PLAYERS: PlayerId = 16;
+static CROWDS: [Crowd; 3] = [
+    Crowd {
+        head: b"playout 1\ngrid 1 1\nrules 1 0 0\ncharge 0 0 0\nturns 4096\n",
+        turns: 4096,
+        players: 16,
+    },
+    Crowd {
+        head: b"playout 2\ngrid 1 1\nrules 1 0 0\ncharge 0 0 0\nturns 8192\nahead 1\n",
+        turns: 8192,
+        players: 48,
+    },
+    Crowd {
+        head: b"playout 2\ngrid 1 1\nrules 1 0 0\ncharge 0 0 0\nturns 6144\nahead 8\n",
+        turns: 6144,
+        players: 64,
+    },
+];
 
 /// Everyone stays on the only cell.
 const STAYS: Move = Move {
     to: Cell { x: 0, y: 0 },
     strike: None,
 };
+
+/// Adds a text at the end.
+fn add(text: &mut Vec<u8>, part: &[u8]) -> Result<(), AllocError> {
+    for byte in part {
+        text.push(*byte)?;
+    }
+    Ok(())
+}
+
+/// The session's text.
+fn text_of(alloc: Global, crowd: &Crowd) -> Result<Vec<u8>, AllocError> {
+    let mut text = Vec::from_slice(alloc, crowd.head)?;
+    add(&mut text, b"players ")?;
+    add(&mut text, Buffer::new().format(crowd.players).as_bytes())?;
+    for player in 0..crowd.players {
+        add(&mut text, b"\nplayer ")?;
+        add(&mut text, Buffer::new().format(player).as_bytes())?;
+        add(&mut text, b" 0 0")?;
+    }
+    add(&mut text, b"\nend\n")?;
+    Ok(text)
+}
 
 /// The nonce of a player's turn.
 fn nonce_of(player: PlayerId, turn: Turn) -> Nonce {
@@ -54,50 +97,45 @@ fn reveal(player: PlayerId, turn: Turn) -> TurnFrame {
     }
 }
 
-/// Whether the peer takes the commitments of all others of a turn as the next frames of their streams.
-fn takes_commits(peer: &mut Peer, session: &Session, turn: Turn) -> bool {
-    for player in 1..PLAYERS {
-        if peer.got(player, &commit(session, player, turn)) != GotAnswer::Taken {
+/// The player's frame of a slot.
+fn frame_of(session: &Session, player: PlayerId, slot: Slot) -> TurnFrame {
+    match slot.what {
+        What::Commit => commit(session, player, slot.turn),
+        What::Reveal => reveal(player, slot.turn),
+    }
+}
+
+/// Whether the peer takes the frames of all others at a place as the next ones of their streams.
+fn takes(peer: &mut Peer, session: &Session, slot: Slot) -> bool {
+    for player in 1..session.players() {
+        if peer.got(player, &frame_of(session, player, slot)) != GotAnswer::Taken {
             return false;
         }
     }
     true
 }
 
-/// Whether the peer takes the reveals of all others of a turn as the next frames of their streams.
-fn takes_reveals(peer: &mut Peer, turn: Turn) -> bool {
-    for player in 1..PLAYERS {
-        if peer.got(player, &reveal(player, turn)) != GotAnswer::Taken {
-            return false;
-        }
+/// Makes what the peer may make now; a move is chosen where one may be. Says whether the own frame of the place is made then.
+fn makes(peer: &mut Peer, place: Place) -> bool {
+    let choice = peer.choice();
+    // a refusal changes nothing
+    let _ = peer.choose(STAYS, nonce_of(0, choice.turn));
+    peer.advance();
+    peer.made_count() > place
+}
+
+/// Whether a place of all players goes as the protocol says: the own frame is made, and those of all others are taken.
+fn plays(peer: &mut Peer, session: &Session, place: Place) -> bool {
+    match session.slot_at(place) {
+        None => false,
+        Some(slot) => makes(peer, place) && takes(peer, session, slot),
     }
-    true
 }
 
-/// Whether the peer commits in a turn and then waits for the commitments of all others.
-fn commits(peer: &mut Peer, turn: Turn) -> bool {
-    peer.choose(STAYS, nonce_of(0, turn)).is_ok()
-        && peer.advance() == Progress::Made(1)
-        && peer.needs().as_slice().len() == 15
-}
-
-/// Whether the peer reveals in a turn, once all others committed, and then waits for the reveals of all others.
-fn reveals(peer: &mut Peer) -> bool {
-    peer.advance() == Progress::Made(1) && peer.needs().as_slice().len() == 15
-}
-
-/// Whether a turn of all players goes as the protocol says.
-fn plays(peer: &mut Peer, session: &Session, turn: Turn) -> bool {
-    commits(peer, turn)
-        && takes_commits(peer, session, turn)
-        && reveals(peer)
-        && takes_reveals(peer, turn)
-}
-
-/// Whether a match of all turns goes as the protocol says.
+/// Whether a match goes as the protocol says, place by place.
 fn plays_all(peer: &mut Peer, session: &Session) -> bool {
-    for turn in 0..TURNS {
-        if !plays(peer, session, turn) {
+    for place in 0..2 * session.turns() {
+        if !plays(peer, session, place) {
             return false;
         }
     }
@@ -106,9 +144,10 @@ fn plays_all(peer: &mut Peer, session: &Session) -> bool {
 
 /// Whether the peer shows all turns of all players.
 fn shows_all(peer: &Peer) -> bool {
+    let turns = peer.session().turns();
     for player in 0..peer.session().players() {
         let view = peer.player(player);
-        if view.turns != TURNS || view.next != 2 * TURNS {
+        if view.turns != turns || view.next != 2 * turns {
             return false;
         }
     }
@@ -118,6 +157,8 @@ fn shows_all(peer: &Peer) -> bool {
 /// What a match came to.
 #[derive(Clone, Copy, Debug, PartialEq, Eq)]
 struct Came {
+    // how many others are waited for behind the first own frame of all that they were to answer
+    waits: usize,
     played: bool,
     last: Progress,
     needs: usize,
@@ -128,9 +169,16 @@ struct Came {
 
 /// What a match of all turns comes to.
 fn outcome_of(peer: &mut Peer, session: &Session) -> Came {
+    for turn in 0..session.ahead() {
+        // a refusal changes nothing
+        let _ = peer.choose(STAYS, nonce_of(0, turn));
+        peer.advance();
+    }
+    let waits = peer.needs().as_slice().len();
     let played = plays_all(peer, session);
     let last = peer.advance();
     Came {
+        waits,
         played,
         last,
         needs: peer.needs().as_slice().len(),
@@ -147,21 +195,33 @@ fn outcome(alloc: Global, session: &Session) -> Result<Came, AllocError> {
     Ok(outcome_of(&mut peer, session))
 }
 
-/// At each call a peer looks at the frames of a turn, and never at its whole log: one look at that in each call would be more
-/// than eight thousand million entries here.
-#[test]
-fn the_longest_match_ends(rt: HostRuntime) -> Result<(), Fail> {
-    let session = read_session(rt.alloc(), CROWD).map_err(|_| "refused")?;
-    let came = outcome(rt.alloc(), &session)?;
-    let wanted = Came {
+/// What it should come to: a choice and two frames made a turn, and two frames got from each other player.
+fn wanted(crowd: &Crowd) -> Came {
+    let turns = crowd.turns as usize;
+    let others = usize::from(crowd.players).wrapping_sub(1);
+    let made = turns.wrapping_mul(2);
+    Came {
+        waits: others,
         played: true,
         last: Progress::Done,
         needs: 0,
-        made: 8192,
+        made: crowd.turns.wrapping_mul(2),
         shown: true,
-        // a choice and two frames made a turn, and two frames got from each of 15 others
-        entries: 3 * 4096 + 2 * 4096 * 15,
-    };
-    assert_eq!(rt; came, wanted);
+        entries: turns
+            .wrapping_add(made)
+            .wrapping_add(made.wrapping_mul(others)),
+    }
+}
+
+/// At each call a peer looks at the frames of a turn, and never at its whole log: one look at that in each call would be more
+/// than a hundred thousand million entries here.
+#[test]
+fn the_longest_matches_end(rt: HostRuntime) -> Result<(), Fail> {
+    for crowd in &CROWDS {
+        let text = text_of(rt.alloc(), crowd)?;
+        let session = read_session(rt.alloc(), text.as_slice()).map_err(|_| "refused")?;
+        let came = outcome(rt.alloc(), &session)?;
+        assert_eq!(rt; came, wanted(crowd));
+    }
     Ok(())
 }

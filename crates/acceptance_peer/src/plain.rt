@@ -1,6 +1,9 @@
 //! Walks and spheres computed cell by cell: the plain program beside the rows of bits.
 
-use definitions::Cell;
+ghost use Rattle.std.specs.Prelude.{◌<◌};
+ghost use Rattle.definitions.specs.World.{players_of};
+
+use definitions::{Cell, PlayerId};
 use grid_world::{Grid, Session};
 use std::alloc::{AllocError, Global};
 
@@ -123,13 +126,20 @@ fn square(alloc: Global, grid: &Grid, marks: &Marks, radius: usize) -> Result<Ma
     Ok(across)
 }
 
-/// The sphere of influence of the marked cells.
-fn sphere(alloc: Global, session: &Session, marks: &Marks) -> Result<Marks, AllocError> {
-    let rules = session.rules();
+/// The player's sphere of influence from the marked cells.
+fn sphere(
+    alloc: Global,
+    session: &Session,
+    player: PlayerId,
+    marks: &Marks,
+) -> Result<Marks, AllocError>
+    requires { player < players_of session.now }
+{
     let grid = session.grid();
     let first = step(alloc, grid, marks)?;
-    let walked = walk(alloc, grid, first, rules.speed.saturating_sub(1))?;
-    let radius = usize::from(rules.reach).wrapping_add(usize::from(rules.blast));
+    let walked = walk(alloc, grid, first, session.speed(player).saturating_sub(1))?;
+    let blast = usize::from(session.rules().blast);
+    let radius = usize::from(session.reach(player)).wrapping_add(blast);
     square(alloc, grid, &walked, radius)
 }
 
@@ -150,23 +160,25 @@ pub fn has(marks: &Marks, cell: Cell) -> bool {
     is_marked(marks, usize::from(cell.x), usize::from(cell.y))
 }
 
-/// In how many turns a player that stays on one cell needs no word from another one who was last seen on its start: the
-/// first turn in which their spheres have a cell in common, or the number of turns.
+/// In how many turns player 0, who stays on one cell, needs no word from player 1, who was last seen on its start: the first turn in
+/// which their spheres have a cell in common, or the number of turns.
 pub fn turns_alone(
     alloc: Global,
     session: &Session,
     at: Cell,
     other: Cell,
-) -> Result<u32, AllocError> {
+) -> Result<u32, AllocError>
+    requires { 1 < players_of session.now }
+{
     let grid = session.grid();
-    let own = sphere(alloc, session, &mark_of(alloc, grid, at)?)?;
+    let own = sphere(alloc, session, 0, &mark_of(alloc, grid, at)?)?;
     let mut reached = mark_of(alloc, grid, other)?;
     for turn in 0..session.turns() {
-        let theirs = sphere(alloc, session, &reached)?;
+        let theirs = sphere(alloc, session, 1, &reached)?;
         if have_common(&own, &theirs) {
             return Ok(turn);
         }
-        reached = walk(alloc, grid, reached, session.rules().speed)?;
+        reached = walk(alloc, grid, reached, session.speed(1))?;
     }
     Ok(session.turns())
 }

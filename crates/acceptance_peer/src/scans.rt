@@ -12,14 +12,44 @@ use std::alloc::{AllocError, Global};
 use std::test::Fail;
 use streams::known_stream;
 
-static PATH: &[u8] =
-    b"playout 1\ngrid 12 1\nrules 1 1 0\ncharge 1 2 1\nturns 12\nplayers 3\nplayer 0 0 0\nplayer 1 9 0\nplayer 2 5 0\nend\n";
+/// A session on a path, and how many turns ahead its players commit.
+struct Path {
+    text: &'static [u8],
+    ahead: u64,
+}
 
-/// How many turns the session has.
+static PATHS: [Path; 6] = [
+    Path {
+        text: b"playout 1\ngrid 12 1\nrules 1 1 0\ncharge 1 2 1\nturns 12\nplayers 3\nplayer 0 0 0\nplayer 1 9 0\nplayer 2 5 0\nend\n",
+        ahead: 1,
+    },
+    Path {
+        text: b"playout 2\ngrid 12 1\nrules 1 1 0\ncharge 1 2 1\nturns 12\nahead 1\nplayers 3\nplayer 0 0 0\nplayer 1 9 0 2 0\nplayer 2 5 0\nend\n",
+        ahead: 1,
+    },
+    Path {
+        text: b"playout 2\ngrid 12 1\nrules 1 1 0\ncharge 1 2 1\nturns 12\nahead 2\nplayers 3\nplayer 0 0 0\nplayer 1 9 0\nplayer 2 5 0 1 3\nend\n",
+        ahead: 2,
+    },
+    Path {
+        text: b"playout 2\ngrid 12 1\nrules 1 1 0\ncharge 1 2 1\nturns 12\nahead 3\nplayers 3\nplayer 0 0 0 4 0\nplayer 1 9 0\nplayer 2 5 0 2 2\nend\n",
+        ahead: 3,
+    },
+    Path {
+        text: b"playout 2\ngrid 12 1\nrules 1 1 0\ncharge 1 2 1\nturns 12\nahead 5\nplayers 3\nplayer 0 0 0\nplayer 1 9 0\nplayer 2 5 0\nend\n",
+        ahead: 5,
+    },
+    Path {
+        text: b"playout 2\ngrid 12 1\nrules 1 1 0\ncharge 1 2 1\nturns 12\nahead 8\nplayers 3\nplayer 0 0 0\nplayer 1 9 0 3 1\nplayer 2 5 0\nend\n",
+        ahead: 8,
+    },
+];
+
+/// How many turns the sessions have.
 const TURNS: u64 = 12;
 
-/// How many scripts there are, one a seed.
-const SCRIPTS: u64 = 200;
+/// How many scripts there are for each session, one a seed.
+const SCRIPTS: u64 = 100;
 
 /// A copy of a log.
 fn copy_of(alloc: Global, log: &[Entry]) -> Result<Vec<Entry>, AllocError>
@@ -99,18 +129,28 @@ fn shows_both(alloc: Global, peer: &Peer) -> Result<bool, AllocError> {
     Ok(first && second)
 }
 
-/// The place of a frame in its player's stream.
-fn place_of(frame: &TurnFrame) -> u64 {
+/// The place of a frame in its player's stream, where players commit so many turns ahead.
+fn place_of(ahead: u64, frame: &TurnFrame) -> u64 {
+    let turn = u64::from(frame.turn());
+    let (commit, reveal) = if turn >= TURNS {
+        (turn * 2, turn * 2 + 1)
+    } else {
+        let after = turn.wrapping_add(ahead);
+        (
+            turn + (turn + 1).saturating_sub(ahead),
+            turn.wrapping_add(after.min(TURNS)),
+        )
+    };
     match frame {
-        TurnFrame::Commit { turn, .. } => u64::from(*turn) * 2,
-        TurnFrame::Reveal { turn, .. } => u64::from(*turn) * 2 + 1,
+        TurnFrame::Commit { .. } => commit,
+        TurnFrame::Reveal { .. } => reveal,
     }
 }
 
 /// Whether an answer calls a frame far exactly where its place is: more than eight behind the one that comes next, or past
 /// the last turn.
-fn fits_the_window(answer: &GotAnswer, next: u32, frame: &TurnFrame) -> bool {
-    let place = place_of(frame);
+fn fits_the_window(ahead: u64, answer: &GotAnswer, next: u32, frame: &TurnFrame) -> bool {
+    let place = place_of(ahead, frame);
     let far = place > u64::from(next) + 8 || place >= 2 * TURNS;
     match answer {
         GotAnswer::Closed | GotAnswer::Foreign => true,
@@ -123,13 +163,14 @@ fn fits_the_window(answer: &GotAnswer, next: u32, frame: &TurnFrame) -> bool {
 /// show.
 fn agreed(
     alloc: Global,
+    ahead: u64,
     peer: &mut Peer,
     coming: &Coming,
 ) -> Result<Option<GotAnswer>, AllocError> {
     let next = next_of(peer, coming.from);
     let scanned = scanned_answer(alloc, peer, coming.from, &coming.frame)?;
     let answer = peer.got(coming.from, &coming.frame);
-    if answer != scanned || !fits_the_window(&answer, next, &coming.frame) {
+    if answer != scanned || !fits_the_window(ahead, &answer, next, &coming.frame) {
         return Ok(None);
     }
     let alike = shows_both(alloc, peer)?;
@@ -150,6 +191,7 @@ fn plays(peer: &mut Peer) {
 /// One frame of a script, before which the peer may play by itself.
 fn one_frame(
     alloc: Global,
+    ahead: u64,
     peer: &mut Peer,
     dice: &mut Dice,
     manner: &Manner,
@@ -158,7 +200,7 @@ fn one_frame(
         plays(peer);
     }
     let coming = any_coming(dice, peer, manner);
-    agreed(alloc, peer, &coming)
+    agreed(alloc, ahead, peer, &coming)
 }
 
 /// The place of an answer among the counts.
@@ -198,13 +240,14 @@ impl Counts {
 /// Whether the peer and the scans agree on each frame of a script.
 fn agree_on(
     alloc: Global,
+    ahead: u64,
     peer: &mut Peer,
     dice: &mut Dice,
     manner: &Manner,
     counts: &mut Counts,
 ) -> Result<bool, AllocError> {
     for _frame in 0..manner.frames {
-        match one_frame(alloc, peer, dice, manner)? {
+        match one_frame(alloc, ahead, peer, dice, manner)? {
             None => return Ok(false),
             Some(answer) => counts.add(&answer),
         }
@@ -215,6 +258,7 @@ fn agree_on(
 /// Whether the peer and the scans agree on the script of a seed.
 fn agree(
     alloc: Global,
+    ahead: u64,
     session: &Session,
     seed: u64,
     counts: &mut Counts,
@@ -223,21 +267,23 @@ fn agree(
     let mut peer = Peer::new(alloc, session, 0)?;
     let mut dice = Dice::new(seed);
     let manner = any_manner(&mut dice);
-    agree_on(alloc, &mut peer, &mut dice, &manner, counts)
+    agree_on(alloc, ahead, &mut peer, &mut dice, &manner, counts)
 }
 
 #[test]
 fn windows_answer_as_scans_do(rt: HostRuntime) -> Result<(), Fail> {
     let alloc = rt.alloc();
-    let session = read_session(alloc, PATH).map_err(|_| "refused")?;
-    let mut counts = Counts { counts: [0; 10] };
-    for seed in 0..SCRIPTS {
-        let agree = agree(alloc, &session, seed, &mut counts)?;
-        assert!(rt; agree, "{seed}");
-    }
-    // each answer comes, apart from two moves with one digest
-    for (at, count) in counts.counts.iter().enumerate() {
-        assert!(rt; (*count > 0) == (at != 8), "{at}");
+    for path in &PATHS {
+        let session = read_session(alloc, path.text).map_err(|_| "refused")?;
+        let mut counts = Counts { counts: [0; 10] };
+        for seed in 0..SCRIPTS {
+            let agree = agree(alloc, path.ahead, &session, seed, &mut counts)?;
+            assert!(rt; agree, "{seed} {}", path.ahead);
+        }
+        // each answer comes, apart from two moves with one digest
+        for (at, count) in counts.counts.iter().enumerate() {
+            assert!(rt; (*count > 0) == (at != 8), "{at} {}", path.ahead);
+        }
     }
     Ok(())
 }

@@ -6,7 +6,7 @@
 ghost use Rattle.std.specs.Prelude.{◌<◌};
 
 use commitment::digest_of;
-use definitions::{Cell, Move, Nonce, Opening, PlayerId, Turn, TurnFrame};
+use definitions::{Cell, Move, Nonce, Opening, Place, PlayerId, Turn, TurnFrame, What};
 use grid_world::Session;
 use peer_core::Peer;
 use rand_core::utils::NextWord;
@@ -123,6 +123,14 @@ fn any_place(dice: &mut Dice, next: u32) -> u32 {
     }
 }
 
+/// The turn of the frame at this place, and whether it is the reveal; past the last turn, two places a turn.
+fn slot_of(session: &Session, place: Place) -> (Turn, bool) {
+    match session.slot_at(place) {
+        Some(slot) => (slot.turn, slot.what == What::Reveal),
+        None => (place / 2, place % 2 == 1),
+    }
+}
+
 /// A turn's frame near the place that comes next, now and then far from it.
 fn any_frame(
     dice: &mut Dice,
@@ -132,10 +140,11 @@ fn any_frame(
     manner: &Manner,
 ) -> TurnFrame {
     let place = any_place(dice, next);
-    let turn = if dice.once_in(100) { LATEST } else { place / 2 };
+    let (turn, reveals) = slot_of(session, place);
+    let turn = if dice.once_in(100) { LATEST } else { turn };
     let other = dice.once_in(manner.others.max(1));
     let opening = opening_of(player, turn, other, turn == manner.illegal);
-    frame_of(session, &opening, place % 2 == 1)
+    frame_of(session, &opening, reveals)
 }
 
 /// Player 1 or 2, now and then the peer itself or a player that the session doesn't have.

@@ -4,7 +4,7 @@ use Rattle.std.specs.Prelude.{nat_le}
 use Rattle.std.proofs.lemmas.Bool.{and_from, and_parts, le-leb, leb-true}
 use Rattle.definitions.specs.declared.world.Cell.{Cell}
 use Rattle.definitions.specs.declared.logs.Entry.{Entry}
-use Rattle.definitions.specs.World.{Game, Ground, cell_eq, distance, has_cell, is_open, seat_of}
+use Rattle.definitions.specs.World.{Game, Ground, distance, has_cell, is_open, seat_of}
 use Rattle.definitions.specs.Walk.{Walk, is_step, reach_of, walked}
 use Rattle.definitions.specs.Sphere.{sphere_of}
 use Rattle.definitions.specs.Held.{resolved_count}

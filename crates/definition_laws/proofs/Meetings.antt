@@ -1,12 +1,11 @@
 -- Meetings can end and can't begin as a log grows.
-use Rattle.std.proofs.Common.{Bool, List, [], ap, arith, length, length-append, subst, suc, sym, true, zero, ℕ, ◌*◌, ◌++◌, ◌+◌, ◌-◌, ◌∙◌, ◌∷◌, ◌≡◌, ◌≤◌}
+use Rattle.std.proofs.Common.{List, [], ap, arith, length, length-append, subst, suc, sym, true, zero, ℕ, ◌*◌, ◌++◌, ◌+◌, ◌-◌, ◌∙◌, ◌∷◌, ◌≡◌, ◌≤◌}
 use Rattle.std.proofs.lemmas.List.{take-append-le}
-use Rattle.std.specs.Prelude.{nat_le, take, ◌&&◌}
+use Rattle.std.specs.Prelude.{nat_le, take}
 use Rattle.std.proofs.lemmas.Bool.{and_from, and_parts, le-leb, leb-true}
-use Rattle.std.specs.List.{list_any}
 use Rattle.definitions.specs.Meets.{cell_before, cells_before, meets}
 use Rattle.definitions.specs.Walk.{Walk, is_step, reach_of, walked}
-use Rattle.definitions.specs.World.{Game, Ground, cells_of, distance, has_cell, is_inside, is_open, seat_of}
+use Rattle.definitions.specs.World.{Game, Ground, distance, has_cell, is_open, seat_of}
 use Rattle.definitions.specs.Sphere.{have_common, sphere_of, spread}
 use Rattle.definitions.specs.declared.world.Cell.{Cell}
 use Rattle.definitions.specs.Moves.{are_legal_from, is_legal, start_track, track_after, track_from}

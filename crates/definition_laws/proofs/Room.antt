@@ -1,17 +1,17 @@
 -- Room: the received frames of a clean honest log have places that all differ, so there are few of them.
-use Rattle.std.proofs.Common.{◌≡◌, ℕ, ◌+◌, ◌-◌, ◌*◌, ◌/◌, ◌≤◌, ◌<◌, List, [], ◌∷◌, ◌++◌, length, length-append, append_assoc, refl, true, false, sym, ◌∙◌, ap, subst, arith, inl, inr, ◌⊎◌}
+use Rattle.std.proofs.Common.{◌≡◌, ℕ, zero, suc, ◌+◌, ◌-◌, ◌*◌, ◌/◌, ◌≤◌, ◌<◌, List, [], ◌∷◌, ◌++◌, length, length-append, append_assoc, refl, true, false, sym, ◌∙◌, ap, subst, arith, inl, inr, ◌⊎◌}
 use Rattle.std.specs.Prelude.{◌==◌, not, flat_map, nat_lt, if◌then◌else◌}
 use Rattle.std.specs.List.{list_any, IsDistinct, AllByRecursion}
 use Rattle.std.proofs.lemmas.Bool.{and_parts, cases_lt, cond-true, cond-false, lt-ltb, le-ltb, ltb-true, eq-eqb, eqb-true, ne_eqb, or_cases, false≢true}
 use Rattle.std.proofs.lemmas.Nat.{div-mul-add}
-use Rattle.std.proofs.Math.Nat.{mul-le-mul, mul-le-mul_right}
+use Rattle.std.proofs.Math.Nat.{mul-le-mul_right}
 use Rattle.std.proofs.lemmas.Map.Steps.{length-le_from_distinct_below}
 use Rattle.definitions.specs.declared.frames.TurnFrame.{TurnFrame}
 use Rattle.definitions.specs.declared.frames.TurnFrame.TheVariants.{Commit, Reveal}
 use Rattle.definitions.specs.declared.logs.Entry.{Entry}
 use Rattle.definitions.specs.declared.logs.Entry.TheVariants.{Chose, Made, Got}
 use Rattle.definitions.specs.declared.findings.Finding.{Finding}
-use Rattle.definitions.specs.declared.limits.TheConstants.{MOST_ENTRIES, MOST_PLAYERS, MOST_TURNS}
+use Rattle.definitions.specs.declared.limits.TheConstants.{MOST_ENTRIES, MOST_TURNS, MOST_TURNS_OF_ALL}
 use Rattle.definitions.specs.World.{Game, players_of}
 use Rattle.definitions.specs.Logs.{made, chosen, turn_of}
 use Rattle.definitions.specs.Findings.{findings, is_clean}
@@ -230,9 +230,14 @@ logs_fit game me h ahead my i = go (last_of h)
         let more = length-append r.0 (r.1 ∷ []) in
         omega arith
 
--- a session has so many turns and players at most
-pub room_small : (game : Game) → game.turns ≤ MOST_TURNS → players_of game ≤ MOST_PLAYERS → room_of game ≤ MOST_ENTRIES
-room_small game turns players =
-    let rows : 2 * game.turns * (players_of game - 1) ≤ 2 * MOST_TURNS * (MOST_PLAYERS - 1) =
-    mul-le-mul {n₁ = 2 * game.turns} {m₁ = players_of game - 1} {n₂ = 2 * MOST_TURNS} {m₂ = MOST_PLAYERS - 1} (omega arith) (omega arith) in
+-- so many turns of one player, and of all players together
+few_turns : (n t : ℕ) → t ≤ MOST_TURNS → n * t ≤ MOST_TURNS_OF_ALL → 3 * t + 2 * t * (n - 1) ≤ MOST_ENTRIES
+few_turns zero t turns all = omega arith
+few_turns (suc n) t turns all =
+    let others : suc n - 1 ≡ n = omega arith in
+    let frames : 2 * t * (suc n - 1) ≡ 2 * t * n = ap (λ (k : ℕ). 2 * t * k) others in
+    let own : suc n * t ≡ t + n * t = omega arith in
     omega arith
+
+pub room_small : (game : Game) → game.turns ≤ MOST_TURNS → players_of game * game.turns ≤ MOST_TURNS_OF_ALL → room_of game ≤ MOST_ENTRIES
+room_small game turns all = few_turns (players_of game) game.turns turns all

@@ -15,7 +15,7 @@ use Rattle.definitions.specs.Answers.{got_answer, is_far, is_same, place_of}
 use Rattle.definitions.specs.Honest.{allows, allows_choice, allows_frame, honest_from, may_commit, may_reveal, others}
 use Rattle.definitions.specs.Needs.{choice_fault, may_choose, needs}
 use Rattle.definitions.specs.Advance.{advance, advance_by, next_made, progress}
-use Rattle.definition_laws.specs.Rows.{BeginsWithAChoice, PlaysBlindUntilSpheresMeet, WaitsWhereSpheresMeet, GoesWhereSpheresAreApart, WallsKeepSpheresApart, RunnersAreWaitedForSooner, CommitsTwoAhead, LogsChoiceCommitmentReveal, GoesOnWhenTheOtherIsKnown, TakesAFrameOnce, StashesWhatComesEarly, CatchesTwoCommitments, CatchesBadOpenings, CatchesIllegalMoves, KeepsAWindowOfEight, StrikesCostCharge, TakesCommitmentsAhead, FindsTwoFaces, EndsDone, RefusesMovesByCause}
+use Rattle.definition_laws.specs.Rows.{BeginsWithAChoice, PlaysBlindUntilSpheresMeet, WaitsWhereSpheresMeet, GoesWhereSpheresAreApart, WallsKeepSpheresApart, RunnersAreWaitedForSooner, CommitsTwoAhead, CommitsThreeAhead, PlayersDiffer, LogsChoiceCommitmentReveal, GoesOnWhenTheOtherIsKnown, TakesAFrameOnce, StashesWhatComesEarly, CatchesTwoCommitments, CatchesBadOpenings, CatchesIllegalMoves, CatchesIllegalMovesAhead, KeepsAWindowOfEight, StrikesCostCharge, TakesCommitmentsAhead, KeepsRevealsInOrder, FindsTwoFaces, EndsDone, RefusesMovesByCause}
 
 pub begins : BeginsWithAChoice
 unfolding BeginsWithAChoice sha256 digest_bytes hash_after compress rounds schedule first_words cells_in row_of walked stepped spread is_legal opening commitment cell_bytes move_bytes commit_place reveal_place slot_at known known_to next_known digest_of made got_of chosen meets findings findings_in finding_at first_pair show_kind sightings sightings_from is_clean are_illegal others may_reveal may_commit allows allows_frame allows_choice honest_from needs may_choose choice_fault advance advance_by next_made progress got_answer is_far is_same place_of
@@ -45,6 +45,14 @@ pub two_ahead : CommitsTwoAhead
 unfolding CommitsTwoAhead sha256 digest_bytes hash_after compress rounds schedule first_words cells_in row_of walked stepped spread is_legal opening commitment cell_bytes move_bytes commit_place reveal_place slot_at known known_to next_known digest_of made got_of chosen meets findings findings_in finding_at first_pair show_kind sightings sightings_from is_clean are_illegal others may_reveal may_commit allows allows_frame allows_choice honest_from needs may_choose choice_fault advance advance_by next_made progress got_answer is_far is_same place_of
 two_ahead = (refl, refl, refl)
 
+pub three_ahead : CommitsThreeAhead
+unfolding CommitsThreeAhead sha256 digest_bytes hash_after compress rounds schedule first_words cells_in row_of walked stepped spread is_legal opening commitment cell_bytes move_bytes commit_place reveal_place slot_at known known_to next_known digest_of made got_of chosen meets findings findings_in finding_at first_pair show_kind sightings sightings_from is_clean are_illegal others may_reveal may_commit allows allows_frame allows_choice honest_from needs may_choose choice_fault advance advance_by next_made progress got_answer is_far is_same place_of
+three_ahead = (refl, refl, refl, refl, refl)
+
+pub players_differ : PlayersDiffer
+unfolding PlayersDiffer sha256 digest_bytes hash_after compress rounds schedule first_words cells_in row_of walked stepped spread is_legal opening commitment cell_bytes move_bytes commit_place reveal_place slot_at known known_to next_known digest_of made got_of chosen meets findings findings_in finding_at first_pair show_kind sightings sightings_from is_clean are_illegal others may_reveal may_commit allows allows_frame allows_choice honest_from needs may_choose choice_fault advance advance_by next_made progress got_answer is_far is_same place_of
+players_differ = (refl, refl, refl, refl, refl, refl, refl, refl, refl, refl)
+
 pub logs_choice : LogsChoiceCommitmentReveal
 unfolding LogsChoiceCommitmentReveal sha256 digest_bytes hash_after compress rounds schedule first_words cells_in row_of walked stepped spread is_legal opening commitment cell_bytes move_bytes commit_place reveal_place slot_at known known_to next_known digest_of made got_of chosen meets findings findings_in finding_at first_pair show_kind sightings sightings_from is_clean are_illegal others may_reveal may_commit allows allows_frame allows_choice honest_from needs may_choose choice_fault advance advance_by next_made progress got_answer is_far is_same place_of
 logs_choice = refl
@@ -73,6 +81,10 @@ pub catches_illegal : CatchesIllegalMoves
 unfolding CatchesIllegalMoves sha256 digest_bytes hash_after compress rounds schedule first_words cells_in row_of walked stepped spread is_legal opening commitment cell_bytes move_bytes commit_place reveal_place slot_at known known_to next_known digest_of made got_of chosen meets findings findings_in finding_at first_pair show_kind sightings sightings_from is_clean are_illegal others may_reveal may_commit allows allows_frame allows_choice honest_from needs may_choose choice_fault advance advance_by next_made progress got_answer is_far is_same place_of
 catches_illegal = (refl, refl, refl)
 
+pub catches_illegal_ahead : CatchesIllegalMovesAhead
+unfolding CatchesIllegalMovesAhead sha256 digest_bytes hash_after compress rounds schedule first_words cells_in row_of walked stepped spread is_legal opening commitment cell_bytes move_bytes commit_place reveal_place slot_at known known_to next_known digest_of made got_of chosen meets findings findings_in finding_at first_pair show_kind sightings sightings_from is_clean are_illegal others may_reveal may_commit allows allows_frame allows_choice honest_from needs may_choose choice_fault advance advance_by next_made progress got_answer is_far is_same place_of
+catches_illegal_ahead = (refl, refl, refl, refl)
+
 pub window_of_eight : KeepsAWindowOfEight
 unfolding KeepsAWindowOfEight sha256 digest_bytes hash_after compress rounds schedule first_words cells_in row_of walked stepped spread is_legal opening commitment cell_bytes move_bytes commit_place reveal_place slot_at known known_to next_known digest_of made got_of chosen meets findings findings_in finding_at first_pair show_kind sightings sightings_from is_clean are_illegal others may_reveal may_commit allows allows_frame allows_choice honest_from needs may_choose choice_fault advance advance_by next_made progress got_answer is_far is_same place_of
 window_of_eight = (refl, refl, refl)
@@ -84,6 +96,10 @@ strikes_cost = (refl, refl, refl, refl)
 pub takes_ahead : TakesCommitmentsAhead
 unfolding TakesCommitmentsAhead sha256 digest_bytes hash_after compress rounds schedule first_words cells_in row_of walked stepped spread is_legal opening commitment cell_bytes move_bytes commit_place reveal_place slot_at known known_to next_known digest_of made got_of chosen meets findings findings_in finding_at first_pair show_kind sightings sightings_from is_clean are_illegal others may_reveal may_commit allows allows_frame allows_choice honest_from needs may_choose choice_fault advance advance_by next_made progress got_answer is_far is_same place_of
 takes_ahead = (refl, refl, refl)
+
+pub reveals_in_order : KeepsRevealsInOrder
+unfolding KeepsRevealsInOrder sha256 digest_bytes hash_after compress rounds schedule first_words cells_in row_of walked stepped spread is_legal opening commitment cell_bytes move_bytes commit_place reveal_place slot_at known known_to next_known digest_of made got_of chosen meets findings findings_in finding_at first_pair show_kind sightings sightings_from is_clean are_illegal others may_reveal may_commit allows allows_frame allows_choice honest_from needs may_choose choice_fault advance advance_by next_made progress got_answer is_far is_same place_of
+reveals_in_order = (refl, refl, refl, refl, refl, refl)
 
 pub finds_two_faces : FindsTwoFaces
 unfolding FindsTwoFaces sha256 digest_bytes hash_after compress rounds schedule first_words cells_in row_of walked stepped spread is_legal opening commitment cell_bytes move_bytes commit_place reveal_place slot_at known known_to next_known digest_of made got_of chosen meets findings findings_in finding_at first_pair show_kind sightings sightings_from is_clean are_illegal others may_reveal may_commit allows allows_frame allows_choice honest_from needs may_choose choice_fault advance advance_by next_made progress got_answer is_far is_same place_of

@@ -1,7 +1,7 @@
 -- Fits: how many entries an honest log has at most.
 use Rattle.std.specs.Prelude.{ℕ, ◌+◌, ◌-◌, ◌*◌, ◌<◌, ◌≤◌, List, length, IsTrue}
 use Rattle.definitions.specs.declared.logs.Entry.{Entry}
-use Rattle.definitions.specs.declared.limits.TheConstants.{MOST_ENTRIES, MOST_PLAYERS, MOST_TURNS}
+use Rattle.definitions.specs.declared.limits.TheConstants.{MOST_ENTRIES, MOST_TURNS, MOST_TURNS_OF_ALL}
 use Rattle.definitions.specs.World.{Game, players_of}
 use Rattle.definitions.specs.Findings.{is_clean}
 use Rattle.definitions.specs.Honest.{IsHonest}
@@ -18,6 +18,6 @@ CleanLogsFit = (game : Game) (me : ℕ) (h : List Entry) → 1 ≤ game.ahead �
 abbrev pub LogsFit : Type 0
 LogsFit = (game : Game) (me : ℕ) (h : List Entry) → 1 ≤ game.ahead → me < players_of game → IsHonest game me h → length h ≤ room_of game + 1
 
--- and in the longest session with the most players that is no more than a known number
+-- and in a session of the most turns, of one player and of all together, that is no more than a known number
 abbrev pub RoomIsSmall : Type 0
-RoomIsSmall = (game : Game) → game.turns ≤ MOST_TURNS → players_of game ≤ MOST_PLAYERS → room_of game ≤ MOST_ENTRIES
+RoomIsSmall = (game : Game) → game.turns ≤ MOST_TURNS → players_of game * game.turns ≤ MOST_TURNS_OF_ALL → room_of game ≤ MOST_ENTRIES

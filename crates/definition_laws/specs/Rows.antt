@@ -5,6 +5,7 @@ use Rattle.definitions.specs.declared.world.Cell.{Cell}
 use Rattle.definitions.specs.declared.world.Move.{Move}
 use Rattle.definitions.specs.declared.world.MoveFault.{MoveFault}
 use Rattle.definitions.specs.declared.world.MoveFault.TheVariants.{Outside, Wall, TooFar, StrikeOutside, StrikeFar, NoCharge}
+use Rattle.definitions.specs.declared.world.Seat.{Seat}
 use Rattle.definitions.specs.declared.world.Track.{Track}
 use Rattle.definitions.specs.declared.openings.Nonce.{Nonce}
 use Rattle.definitions.specs.declared.frames.TurnFrame.{TurnFrame}
@@ -20,7 +21,7 @@ use Rattle.definitions.specs.declared.answers.Need.{Need}
 use Rattle.definitions.specs.declared.answers.OwnFault.TheVariants.{NotNow}
 use Rattle.definitions.specs.declared.answers.GotAnswer.TheVariants.{Taken, Stashed, Same, Far, Caught, Closed}
 use Rattle.definitions.specs.declared.answers.Progress.TheVariants.{Choose, Done}
-use Rattle.definitions.specs.World.{Game, Seat, has_cell}
+use Rattle.definitions.specs.World.{Game, has_cell}
 use Rattle.definitions.specs.Sphere.{sphere_of}
 use Rattle.definitions.specs.Moves.{next_track, move_fault, start_track, track_after}
 use Rattle.definitions.specs.Openings.{commitment}
@@ -43,7 +44,7 @@ seat x speed reach = record { start = at x 0; speed = speed; reach = reach }
 -- twelve cells in a row, with walls, and players of whom the first stands at the left end
 abbrev pub corridor_of : (turns ahead : ℕ) → List Cell → List Seat → Game
 corridor_of turns ahead walls others = record {
-  version = 1;
+  version = 2;
   id = replicate 32 0;
   grid = record { width = 12; height = 1; walls = walls };
   rules = record { speed = 1; reach = 1; blast = 0; start_charge = 1; cap = 2; cost = 1 };
@@ -63,6 +64,10 @@ nonce n = record { bytes = replicate 32 n }
 -- to the cell of the row, with no strike
 abbrev pub to : ℕ → Move
 to x = record { to = at x 0; strike = None }
+
+-- to the cell of the row, with a strike at another
+abbrev pub hitting : (x struck : ℕ) → Move
+hitting x struck = record { to = at x 0; strike = Some (at struck 0) }
 
 -- choices to stay, with nonces in order from the first
 abbrev pub stays : ℕ → List LogStep
@@ -135,6 +140,29 @@ CommitsTwoAhead =
     (needs (ahead_of 9) 0 (log_by (ahead_of 9) (stays 7)) ≡ waits_for 5 0 Commit) × (made_count (log_by (ahead_of 9) (stays 7)) ≡ 12) ×
     (choice_fault (ahead_of 9) 0 (log_by (ahead_of 9) (stays 7)) (to 0) ≡ Some NotNow)
 
+-- committing three turns ahead, the first reveal follows the third choice; all turns are committed and five revealed
+abbrev pub further_ahead_of : ℕ → Game
+further_ahead_of x = corridor_of 8 3 [] (seat x 1 1 ∷ [])
+
+unfoldable pub CommitsThreeAhead : Type 0
+CommitsThreeAhead =
+    (made_count (log_by (further_ahead_of 9) (stays 2)) ≡ 2) × (made_count (log_by (further_ahead_of 9) (stays 3)) ≡ 4) ×
+    (needs (further_ahead_of 9) 0 (log_by (further_ahead_of 9) (stays 8)) ≡ waits_for 5 0 Commit) × (made_count (log_by (further_ahead_of 9) (stays 8)) ≡ 13) ×
+    (choice_fault (further_ahead_of 9) 0 (log_by (further_ahead_of 9) (stays 8)) (to 0) ≡ Some NotNow)
+
+-- a first player that steps and reaches two cells, and a second, nine cells away, that steps one cell and reaches none
+abbrev pub uneven : Game
+uneven = record (corridor 9) { seats = seat 0 2 2 ∷ seat 9 1 0 ∷ [] }
+
+-- each walks and strikes by its own seat, and the fifth turn is the first that waits
+unfoldable pub PlayersDiffer : Type 0
+PlayersDiffer =
+    (made_count (log_by uneven (stays 5)) ≡ 9) × (needs uneven 0 (log_by uneven (stays 5)) ≡ waits_for 4 0 Commit) ×
+    (move_fault uneven 0 (start_track uneven 0) (to 2) ≡ None) × (move_fault uneven 0 (start_track uneven 0) (to 3) ≡ Some TooFar) ×
+    (move_fault uneven 1 (start_track uneven 1) (to 8) ≡ None) × (move_fault uneven 1 (start_track uneven 1) (to 7) ≡ Some TooFar) ×
+    (move_fault uneven 0 (start_track uneven 0) (hitting 0 2) ≡ None) × (move_fault uneven 0 (start_track uneven 0) (hitting 0 3) ≡ Some StrikeFar) ×
+    (move_fault uneven 1 (start_track uneven 1) (hitting 9 9) ≡ None) × (move_fault uneven 1 (start_track uneven 1) (hitting 9 8) ≡ Some StrikeFar)
+
 -- the log of a choice, its commitment and its reveal
 unfoldable pub LogsChoiceCommitmentReveal : Type 0
 LogsChoiceCommitmentReveal =
@@ -190,6 +218,21 @@ CatchesIllegalMoves =
     (got_answer (corridor 9) 0 (Got 1 (commit_by (corridor 9) 1 0 7 0) ∷ []) 1 (reveal_by 1 0 7 0) ≡ Caught (found 0 K.Illegal 0 1)) ×
     (move_fault (corridor 9) 1 (start_track (corridor 9) 1) (to 7) ≡ Some TooFar)
 
+-- committing three turns ahead, a move too far is caught although commitments at lower places are missing, also by a commitment
+-- that comes late; one of a turn behind one that isn't resolved is caught with the commitment that resolves it, before what
+-- that commitment shows of its own turn
+abbrev pub too_far_later : List Entry
+too_far_later =
+    Got 1 (commit_by (further_ahead_of 9) 1 0 9 0) ∷ Got 1 (commit_by (further_ahead_of 9) 1 1 7 1) ∷
+    Got 1 (reveal_by 1 0 9 0) ∷ Got 1 (reveal_by 1 1 7 1) ∷ Got 1 (reveal_by 1 2 9 9) ∷ []
+
+unfoldable pub CatchesIllegalMovesAhead : Type 0
+CatchesIllegalMovesAhead =
+    (got_answer (further_ahead_of 9) 0 (Got 1 (commit_by (further_ahead_of 9) 1 0 7 0) ∷ []) 1 (reveal_by 1 0 7 0) ≡ Caught (found 0 K.Illegal 0 1)) ×
+    (got_answer (further_ahead_of 9) 0 (Got 1 (commit_by (further_ahead_of 9) 1 1 9 1) ∷ Got 1 (reveal_by 1 0 7 0) ∷ []) 1 (commit_by (further_ahead_of 9) 1 0 7 0) ≡ Caught (found 0 K.Illegal 1 2)) ×
+    (findings (further_ahead_of 9) (too_far_later ∷ []) ≡ []) ×
+    (got_answer (further_ahead_of 9) 0 too_far_later 1 (commit_by (further_ahead_of 9) 1 2 9 2) ≡ Caught (found 1 K.Illegal 1 3))
+
 -- a frame up to eight places past the next one is kept, and one further is refused, as is one past the last turn
 unfoldable pub KeepsAWindowOfEight : Type 0
 KeepsAWindowOfEight =
@@ -217,6 +260,23 @@ unfoldable pub TakesCommitmentsAhead : Type 0
 TakesCommitmentsAhead =
     (got_answer (ahead_of 4) 0 (log_by (ahead_of 4) (stays 2)) 1 (commit_by (ahead_of 4) 1 1 4 1) ≡ Stashed) ×
     (needs (ahead_of 4) 0 (log_by (ahead_of 4) two_commitments) ≡ waits_for 0 2 Reveal) × (made_count (log_by (ahead_of 4) two_commitments) ≡ 3)
+
+-- committing three turns ahead, a later turn's reveal counts once the turns before are resolved and all lower places are there
+abbrev pub later_reveal : List LogStep
+later_reveal =
+    Comes 1 (commit_by (further_ahead_of 9) 1 0 9 0) ∷ Comes 1 (commit_by (further_ahead_of 9) 1 1 9 1) ∷ Comes 1 (reveal_by 1 1 9 1) ∷ []
+
+abbrev pub earlier_reveal : List LogStep
+earlier_reveal = later_reveal ++ Comes 1 (commit_by (further_ahead_of 9) 1 2 9 2) ∷ Comes 1 (reveal_by 1 0 9 0) ∷ []
+
+abbrev pub last_commitment : List LogStep
+last_commitment = earlier_reveal ++ Comes 1 (commit_by (further_ahead_of 9) 1 3 9 3) ∷ []
+
+unfoldable pub KeepsRevealsInOrder : Type 0
+KeepsRevealsInOrder =
+    (resolved_count (further_ahead_of 9) 0 (log_by (further_ahead_of 9) later_reveal) 1 ≡ 0) × (next_place (further_ahead_of 9) 0 (log_by (further_ahead_of 9) later_reveal) 1 ≡ 2) ×
+    (resolved_count (further_ahead_of 9) 0 (log_by (further_ahead_of 9) earlier_reveal) 1 ≡ 1) × (next_place (further_ahead_of 9) 0 (log_by (further_ahead_of 9) earlier_reveal) 1 ≡ 4) ×
+    (resolved_count (further_ahead_of 9) 0 (log_by (further_ahead_of 9) last_commitment) 1 ≡ 2) × (next_place (further_ahead_of 9) 0 (log_by (further_ahead_of 9) last_commitment) 1 ≡ 6)
 
 -- three players, of whom the last shows one face to the first and another to the second
 abbrev pub three : Game

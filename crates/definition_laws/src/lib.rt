@@ -19,7 +19,7 @@ ghost use Rattle.definition_laws.specs.Stepping.{StepsKeepHonest, RunsKeepHonest
 ghost use Rattle.definition_laws.specs.Accusing.{FindingsAreListed, FindingsAreTheLeastPairs, DifferentMovesAreFound, CollisionsAreTwoStrings, HonestPlayersAreNotNamed, AcceptedMovesAreChosen};
 ghost use Rattle.definition_laws.specs.Fits.{CleanLogsFit, LogsFit, RoomIsSmall};
 ghost use Rattle.definition_laws.specs.Replies.{StepsAreTheAnswer};
-ghost use Rattle.definition_laws.specs.Rows.{RefusesMovesByCause, BeginsWithAChoice, LogsChoiceCommitmentReveal, PlaysBlindUntilSpheresMeet, WaitsWhereSpheresMeet, GoesWhereSpheresAreApart, WallsKeepSpheresApart, RunnersAreWaitedForSooner, CommitsTwoAhead, EndsDone, TakesAFrameOnce, StashesWhatComesEarly, KeepsAWindowOfEight, GoesOnWhenTheOtherIsKnown, StrikesCostCharge, TakesCommitmentsAhead, CatchesTwoCommitments, CatchesBadOpenings, CatchesIllegalMoves, FindsTwoFaces};
+ghost use Rattle.definition_laws.specs.Rows.{RefusesMovesByCause, BeginsWithAChoice, LogsChoiceCommitmentReveal, PlaysBlindUntilSpheresMeet, WaitsWhereSpheresMeet, GoesWhereSpheresAreApart, WallsKeepSpheresApart, RunnersAreWaitedForSooner, CommitsTwoAhead, CommitsThreeAhead, PlayersDiffer, EndsDone, TakesAFrameOnce, StashesWhatComesEarly, KeepsAWindowOfEight, GoesOnWhenTheOtherIsKnown, StrikesCostCharge, TakesCommitmentsAhead, KeepsRevealsInOrder, CatchesTwoCommitments, CatchesBadOpenings, CatchesIllegalMoves, CatchesIllegalMovesAhead, FindsTwoFaces};
 
 /// What the reaching test means.
 pub fn walks()
@@ -181,6 +181,8 @@ pub fn worked_choices()
     ensures walled { WallsKeepSpheresApart }
     ensures runner { RunnersAreWaitedForSooner }
     ensures ahead { CommitsTwoAhead }
+    ensures further_ahead { CommitsThreeAhead }
+    ensures differ { PlayersDiffer }
     ensures ends { EndsDone }
     ensures moves { RefusesMovesByCause }
 {}
@@ -193,6 +195,7 @@ pub fn worked_frames()
     ensures goes_on { GoesOnWhenTheOtherIsKnown }
     ensures strikes { StrikesCostCharge }
     ensures ahead { TakesCommitmentsAhead }
+    ensures reveals { KeepsRevealsInOrder }
 {}
 
 /// Worked scripts of frames that break the protocol, and what is found.
@@ -200,5 +203,6 @@ pub fn worked_findings()
     ensures commitments { CatchesTwoCommitments }
     ensures openings { CatchesBadOpenings }
     ensures moves { CatchesIllegalMoves }
+    ensures moves_ahead { CatchesIllegalMovesAhead }
     ensures faces { FindsTwoFaces }
 {}

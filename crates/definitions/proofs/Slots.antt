@@ -1,5 +1,5 @@
 -- Slots: which frame stands at a place, and which place a frame has, for any number of turns that players commit ahead.
-use Rattle.std.proofs.Common.{None, Some, ap, arith, sym, true, ℕ, ◌+◌, ◌-◌, ◌*◌, ◌<◌, ◌∙◌, ◌≡◌, ◌≤◌}
+use Rattle.std.proofs.Common.{None, Some, ap, arith, sym, true, ℕ, ◌+◌, ◌-◌, ◌<◌, ◌∙◌, ◌≡◌, ◌≤◌}
 use Rattle.std.specs.Prelude.{Option, find, min, ◌==◌}
 use Rattle.std.proofs.lemmas.Bool.{eqb-true}
 use Rattle.std.specs.List.{range_with_len}

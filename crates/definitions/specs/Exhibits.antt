@@ -51,5 +51,8 @@ are_of_kind game q t Collision fs = are_two_of q t (are_collision game) fs
 are_of_kind game q t Illegal fs = end_illegal game q t fs []
 
 -- the frames show this kind of a player and turn of the session
+abbrev pub shows : Game → ℕ → ℕ → Kind → List TurnFrame → Bool
+shows game q t kind fs = nat_lt q (players_of game) && nat_lt t game.turns && are_of_kind game q t kind fs
+
 abbrev pub Shows : Game → ℕ → ℕ → Kind → List TurnFrame → Type 0
-Shows game q t kind fs = IsTrue (nat_lt q (players_of game) && nat_lt t game.turns && are_of_kind game q t kind fs)
+Shows game q t kind fs = IsTrue (shows game q t kind fs)

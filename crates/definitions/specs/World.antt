@@ -2,6 +2,7 @@
 use Rattle.std.specs.Prelude.{ℕ, ◌+◌, ◌-◌, Bool, true, not, ◌&&◌, ◌||◌, List, [], ◌∷◌, map, length, nat_lt, ◌==◌, max, flat_map}
 use Rattle.std.specs.List.{list_any, range_with_len}
 use Rattle.definitions.specs.declared.world.Cell.{Cell}
+use Rattle.definitions.specs.declared.world.Seat.{Seat}
 use Rattle.definitions.specs.Lists.{item_or}
 
 -- a rectangle of cells, some of which are walls, in row order
@@ -10,7 +11,7 @@ pub record Ground : Type 0 where
   pub height : ℕ
   pub walls : List Cell
 
--- the numbers of a session's text; how far a player steps and strikes is read from its seat
+-- the numbers of a session's text; how far a player walks and strikes is read from its seat
 pub record Rules : Type 0 where
   pub speed : ℕ
   pub reach : ℕ
@@ -18,12 +19,6 @@ pub record Rules : Type 0 where
   pub start_charge : ℕ
   pub cap : ℕ
   pub cost : ℕ
-
--- where a player begins, and how far it steps and strikes
-pub record Seat : Type 0 where
-  pub start : Cell
-  pub speed : ℕ
-  pub reach : ℕ
 
 -- a session as the players see it
 pub record Game : Type 0 where

@@ -6,7 +6,7 @@ use crate::openings::{Digest, Nonce};
 use crate::world::{Move, PlayerId, Turn};
 
 /// A frame of a player's stream, as it goes over a link.
-#[derive(Clone, Copy, Debug, PartialEq, Eq)]
+#[derive(Clone, Copy, Debug, PartialEq, Eq, Hash)]
 pub enum TurnFrame {
     /// The player announces the digest of its opening of the turn.
     Commit {

@@ -27,4 +27,4 @@ pub use logs::{Entry, LogWhy};
 pub use openings::{Digest, Nonce, Opening};
 pub use places::{FramePlace, Place, Slot};
 pub use sessions::SessionRule;
-pub use world::{Cell, Move, MoveFault, PlayerId, Track, Turn};
+pub use world::{Cell, Move, MoveFault, PlayerId, Seat, Track, Turn};

@@ -7,13 +7,31 @@ pub const WINDOW: u32 = 8;
 pub const FEWEST_PLAYERS: u8 = 2;
 
 /// The most players of a session.
-pub const MOST_PLAYERS: u8 = 16;
+pub const MOST_PLAYERS: u8 = 64;
+
+/// The most players of a session of version 1.
+pub const MOST_PLAYERS_AT_FIRST: u8 = 16;
 
 /// The most turns of a session.
-pub const MOST_TURNS: u32 = 4096;
+pub const MOST_TURNS: u32 = 8192;
+
+/// The most turns of a session of version 1.
+pub const MOST_TURNS_AT_FIRST: u32 = 4096;
+
+/// The most turns of a session's players together: the number of players times the number of turns.
+pub const MOST_TURNS_OF_ALL: u32 = 393_216;
+
+/// The most turns that players commit ahead of their reveals. In version 1 it is one.
+pub const MOST_AHEAD: u32 = 8;
 
 /// The most cells of a side of the grid.
-pub const WIDEST_SIDE: u16 = 256;
+pub const WIDEST_SIDE: u16 = 1024;
+
+/// The most cells of a side of the grid in a session of version 1.
+pub const WIDEST_SIDE_AT_FIRST: u16 = 256;
+
+/// The last version of session texts.
+pub const LAST_VERSION: u8 = 2;
 
 /// The most king steps that a player walks in a turn.
 pub const MOST_SPEED: u8 = 8;
@@ -27,8 +45,8 @@ pub const WIDEST_BLAST: u8 = 2;
 /// The greatest charge that a session may speak of.
 pub const MOST_CHARGE: u8 = 255;
 
-/// The most entries of an honest log that has no finding, in the longest session with the most players.
-pub const MOST_ENTRIES: u32 = 135_168;
+/// The most entries of an honest log that has no finding, in the session of which it is the longest.
+pub const MOST_ENTRIES: u32 = 794_624;
 
 /// The most bytes of a log.
 pub const LONGEST_LOG: usize = 67_108_864;
@@ -37,13 +55,19 @@ pub const LONGEST_LOG: usize = 67_108_864;
 pub const LOG_FRONT: usize = 67_108_865;
 
 /// How many bytes of a file decide what a session's text says.
-pub const SESSION_FRONT: usize = 1_048_576;
+pub const SESSION_FRONT: usize = 16_777_216;
 
 /// The most lines of a script that are answered.
 pub const MOST_LINES: u32 = 1_048_576;
 
 /// The most bytes of a script's line, its end not counted.
 pub const LONGEST_LINE: usize = 1024;
+
+/// The most bytes that a script's line brings from a player: two digits of the line spell one.
+pub const LONGEST_PIECE: usize = 512;
+
+/// The greatest number by which a line may name a player.
+pub const GREATEST_PLAYER: u8 = 255;
 
 /// The most players whose needs are listed at once.
 pub const MOST_NEEDS: usize = 64;

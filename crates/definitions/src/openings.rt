@@ -3,13 +3,13 @@
 use crate::world::{Move, PlayerId, Turn};
 
 /// The 32 random bytes that an opening ends with.
-#[derive(Clone, Copy, Debug, PartialEq, Eq)]
+#[derive(Clone, Copy, Debug, PartialEq, Eq, Hash)]
 pub struct Nonce {
     pub bytes: [u8; 32],
 }
 
 /// A SHA-256 digest (FIPS 180-4).
-#[derive(Clone, Copy, Debug, PartialEq, Eq)]
+#[derive(Clone, Copy, Debug, PartialEq, Eq, Hash)]
 pub struct Digest {
     pub bytes: [u8; 32],
 }

@@ -7,14 +7,25 @@ pub type PlayerId = u8;
 pub type Turn = u32;
 
 /// A cell of the grid: its column and its row, each counted from 0.
-#[derive(Clone, Copy, Debug, PartialEq, Eq)]
+#[derive(Clone, Copy, Debug, PartialEq, Eq, Hash)]
 pub struct Cell {
     pub x: u16,
     pub y: u16,
 }
 
-/// What a player decides for a turn: the cell that it goes to, and the cell that it strikes from there, if any.
+/// Where a player begins, and how far it walks and strikes.
 #[derive(Clone, Copy, Debug, PartialEq, Eq)]
+pub struct Seat {
+    /// The cell at which the player stands before the first turn.
+    pub start: Cell,
+    /// The most king steps that the player walks in a turn.
+    pub speed: u8,
+    /// The greatest square distance from the player's target to the cell that it strikes.
+    pub reach: u8,
+}
+
+/// What a player decides for a turn: the cell that it goes to, and the cell that it strikes from there, if any.
+#[derive(Clone, Copy, Debug, PartialEq, Eq, Hash)]
 pub struct Move {
     pub to: Cell,
     pub strike: Option<Cell>,

@@ -3,7 +3,7 @@ use Rattle.std.proofs.Common.{◌≡◌, ℕ, suc, ◌+◌, ◌-◌, ◌*◌, �
 use Rattle.std.specs.Prelude.{not, ◌↔◌, IsTrue}
 use Rattle.std.proofs.lemmas.Bool.{false≢true}
 use Rattle.definitions.specs.declared.world.Cell.{Cell}
-use Rattle.definitions.specs.World.{Ground, Game, has_cell, is_open}
+use Rattle.definitions.specs.World.{Ground, Game, has_cell, is_open, seat_of}
 use Rattle.definitions.specs.Walk.{stepped, walked}
 use Rattle.definitions.proofs.Walks.{walked_open}
 use Rattle.cell_set.specs.Regions.{Region, IsSizeOf, AreOpen, with_cells}
@@ -20,10 +20,10 @@ followed_begun grid cell kept size is partial opens = record {
 }
 
 -- nor for a turn
-pub kept_begun : (game : Game) (cell : Cell) (kept : Kept) → kept.turns ≡ 0 → IsSizeOf game.grid kept.reached → kept.reached.cells ≡ cell ∷ [] → kept.full ≡ false → is_open game.grid cell ≡ true → IsKept game cell kept
-kept_begun game cell kept none size is partial opens =
+pub kept_begun : (game : Game) (player : ℕ) (cell : Cell) (kept : Kept) → kept.turns ≡ 0 → IsSizeOf game.grid kept.reached → kept.reached.cells ≡ cell ∷ [] → kept.full ≡ false → is_open game.grid cell ≡ true → IsKept game player cell kept
+kept_begun game player cell kept none size is partial opens =
     let P : ℕ → Type 0 = λ n. IsFollowed game.grid cell n kept in
-    let no_steps : kept.turns * game.rules.speed ≡ 0 = ap (λ n. n * game.rules.speed) none ∙ omega arith in
+    let no_steps : kept.turns * (seat_of game player).speed ≡ 0 = ap (λ n. n * (seat_of game player).speed) none ∙ omega arith in
     record {
       within = omega (arith, none);
       followed = subst P (sym no_steps) (followed_begun game.grid cell kept size is partial opens);

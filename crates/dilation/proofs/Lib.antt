@@ -1,5 +1,5 @@
 pub mod Still
 pub mod Seats
-pub mod Pairs
+pub mod Items
 pub mod Followed
 pub mod Reached

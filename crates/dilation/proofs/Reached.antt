@@ -1,63 +1,95 @@
 -- Reached: what the calls of a dilation find and leave, by its fields.
-use Rattle.std.proofs.Common.{◌≡◌, ℕ, ◌+◌, ◌*◌, ◌<◌, List, [], ◌∷◌, ◌++◌, length-append, sym, ap, ◌∙◌, arith, get_or, subst, refl}
+use Rattle.std.proofs.Common.{◌≡◌, ℕ, ◌+◌, ◌<◌, List, [], ◌∷◌, ◌++◌, length-append, sym, ap, ◌∙◌, arith, inl, inr, get_or, subst, length, refl}
+use Rattle.std.proofs.lemmas.Bool.{cases_eq, cases_lt}
 use Rattle.std.specs.Prelude.{IsTrue, map, slice_set}
 use Rattle.definitions.specs.declared.world.Cell.{Cell}
 use Rattle.definitions.specs.Lists.{item_or}
 use Rattle.definitions.specs.World.{Game, no_seat, seat_of, players_of, is_open}
-use Rattle.definitions.specs.Walk.{walked}
+use Rattle.definitions.specs.Walk.{reach_of}
 use Rattle.grid_world.specs.Sessions.{IsSession}
-use Rattle.grid_world.proofs.Facts.{seat_speed}
 use Rattle.cell_set.specs.Regions.{Region}
 use Rattle.dilation.specs.declared.growth.Kept.{Kept}
 use Rattle.dilation.specs.Dilated.{Dilated, starts_of, cell_of, kept_of, none_kept, kept_set}
-use Rattle.dilation.specs.Following.{IsKept, IsDilated, AreFresh}
-use Rattle.dilation.proofs.Seats.{first_starts, start_more, item_read, starts_length, starts_open}
-use Rattle.dilation.proofs.Pairs.{pair_at, pair_right, pair_both, pair_more, map_set, map_more, map_item, map_length, length_set, item_set, each_set}
+use Rattle.dilation.specs.Following.{IsKept, AreKept, IsDilated, AreFresh, no_kept}
+use Rattle.dilation.proofs.Seats.{first_starts, first_length, start_more, item_read, starts_length, starts_open}
+use Rattle.dilation.proofs.Items.{map_set, map_more, map_item, map_length, length_set, item_before, item_last, item_set, item_set_other, each_set}
 
 -- for how many turns each player was followed
 abbrev pub turns_of : List Kept → List ℕ
 turns_of kept = map (λ k. k.turns) kept
 
--- a set that was read is its player's, who was last seen at the cell of the same place
-pub kept_at : (game : Game) (cells : List Cell) (kept : List Kept) (i : ℕ) (cell : Cell) (k : Kept) → IsDilated game cells kept → i < players_of game →
-    cell ≡ get_or cells i cell → k ≡ get_or kept i k → IsKept game cell k
-kept_at game cells kept i cell k facts lt at_cells at_kept =
-    let of_cell : Cell → Type 0 = λ c. IsKept game c (item_or kept i k) in
-    let of_kept : Kept → Type 0 = λ n. IsKept game cell n in
-    subst of_kept (sym (item_read kept i k k (omega (arith, facts.one_each)) at_kept))
-    (subst of_cell (sym (item_read cells i cell cell (omega (arith, facts.seen.one_each)) at_cells))
-    (pair_at (IsKept game) cells kept i cell k facts.each_kept (omega (arith, facts.seen.one_each)) (omega (arith, facts.one_each))))
+-- the set that was read at a place, by the cell that the list has
+pub kept_here : (game : Game) (cells : List Cell) (kept : List Kept) (q : ℕ) (k : Kept) → IsDilated game cells kept → q < players_of game → k ≡ get_or kept q k → IsKept game q (cell_of cells q) k
+kept_here game cells kept q k facts lt at_kept =
+    let of_kept : Kept → Type 0 = λ n. IsKept game q (cell_of cells q) n in
+    subst of_kept (sym (item_read kept q k no_kept (omega (arith, facts.one_each)) at_kept)) (facts.each_kept q (omega (arith, facts.seen.one_each)))
 
--- the same, by the cell that the list has
-pub kept_here : (game : Game) (cells : List Cell) (kept : List Kept) (i : ℕ) (k : Kept) → IsDilated game cells kept → i < players_of game → k ≡ get_or kept i k → IsKept game (cell_of cells i) k
-kept_here game cells kept i k facts lt at_kept =
-    let of_kept : Kept → Type 0 = λ n. IsKept game (cell_of cells i) n in
-    subst of_kept (sym (item_read kept i k k (omega (arith, facts.one_each)) at_kept))
-    (pair_at (IsKept game) cells kept i no_seat.start k facts.each_kept (omega (arith, facts.seen.one_each)) (omega (arith, facts.one_each)))
+-- the same, by the cell that was read at the same place
+pub kept_at : (game : Game) (cells : List Cell) (kept : List Kept) (i q : ℕ) (cell : Cell) (k : Kept) → IsDilated game cells kept → i ≡ q → q < players_of game →
+    cell ≡ get_or cells i cell → k ≡ get_or kept i k → IsKept game q cell k
+kept_at game cells kept i q cell k facts is lt at_cells at_kept =
+    let of_cell : Cell → Type 0 = λ c. IsKept game q c k in
+    subst of_cell (sym (item_read cells q cell no_seat.start (omega (arith, facts.seen.one_each)) (at_cells ∙ ap (λ n. get_or cells n cell) is)))
+    (kept_here game cells kept q k facts lt (at_kept ∙ ap (λ n. get_or kept n k) is))
+
+-- where one set is another one that fits its place, all fit
+kept_set-each : (game : Game) (cells : List Cell) (kept : List Kept) (q : ℕ) (new : Kept) → length kept ≡ length cells → AreKept game cells kept → IsKept game q (cell_of cells q) new →
+    AreKept game cells (slice_set kept q new)
+kept_set-each game cells kept q new same each is p lt =
+    let P : ℕ → Type 0 = λ n. IsKept game n (cell_of cells n) (item_or (slice_set kept q new) n no_kept) in
+    let of_kept : Kept → Type 0 = λ n. IsKept game p (cell_of cells p) n in
+    elim (cases_eq p q) [
+      | inl here ↦
+          let of_new : Kept → Type 0 = λ n. IsKept game q (cell_of cells q) n in
+          subst P (sym here) (subst of_new (sym (item_set kept q new no_kept (omega (arith, here)))) is)
+      | inr other ↦ subst of_kept (sym (item_set_other kept q p new no_kept other)) (each p lt)
+    ]
+
+-- the same, where the cell is another one too
+seen_set-each : (game : Game) (cells : List Cell) (kept : List Kept) (q : ℕ) (cell : Cell) (new : Kept) → length kept ≡ length cells → AreKept game cells kept → IsKept game q cell new →
+    AreKept game (slice_set cells q cell) (slice_set kept q new)
+seen_set-each game cells kept q cell new same each is p lt =
+    let at : ℕ → Cell → Kept → Type 0 = λ n c k. IsKept game n c k in
+    let within : p < length cells = omega (arith, length_set cells q cell) in
+    elim (cases_eq p q) [
+      | inl here ↦
+          let short : q < length cells = omega (arith, here) in
+          let P : ℕ → Type 0 = λ n. at n (cell_of (slice_set cells q cell) n) (item_or (slice_set kept q new) n no_kept) in
+          subst P (sym here)
+          (subst (λ (k : Kept). at q (cell_of (slice_set cells q cell) q) k) (sym (item_set kept q new no_kept (omega arith)))
+          (subst (λ (c : Cell). at q c new) (sym (item_set cells q cell no_seat.start short)) is))
+      | inr other ↦
+          subst (λ (k : Kept). at p (cell_of (slice_set cells q cell) p) k) (sym (item_set_other kept q p new no_kept other))
+          (subst (λ (c : Cell). at p c (item_or kept p no_kept)) (sym (item_set_other cells q p cell no_seat.start other)) (each p within))
+    ]
 
 -- a player's set is another one of the same cell
-pub dilated_grown : (game : Game) (cells : List Cell) (kept : List Kept) (i : ℕ) (cell : Cell) (new : Kept) → IsDilated game cells kept → i < players_of game →
-    cell ≡ get_or cells i cell → IsKept game cell new → IsDilated game cells (slice_set kept i new)
-dilated_grown game cells kept i cell new facts lt at_cells is =
-    let of_cell : Cell → Type 0 = λ c. IsKept game c new in
-    record {
+pub dilated_grown : (game : Game) (cells : List Cell) (kept : List Kept) (i q : ℕ) (cell : Cell) (new : Kept) → IsDilated game cells kept → i ≡ q → q < players_of game →
+    cell ≡ get_or cells i cell → IsKept game q cell new → IsDilated game cells (slice_set kept i new)
+dilated_grown game cells kept i q cell new facts is lt at_cells fits =
+    let of_cell : Cell → Type 0 = λ c. IsKept game q c new in
+    let P : ℕ → Type 0 = λ n. IsDilated game cells (slice_set kept n new) in
+    subst P (sym is) (record {
       seen = facts.seen;
-      one_each = length_set kept i new ∙ facts.one_each;
-      each_kept = pair_right (IsKept game) cells kept i cell new facts.each_kept (subst of_cell (item_read cells i cell cell (omega (arith, facts.seen.one_each)) at_cells) is);
-    }
+      one_each = length_set kept q new ∙ facts.one_each;
+      each_kept = kept_set-each game cells kept q new (facts.one_each ∙ sym facts.seen.one_each) facts.each_kept
+          (subst of_cell (item_read cells q cell no_seat.start (omega (arith, facts.seen.one_each)) (at_cells ∙ ap (λ n. get_or cells n cell) is)) fits);
+    })
 
 -- a player was seen
-pub dilated_seen : (game : Game) (cells : List Cell) (kept : List Kept) (i : ℕ) (cell : Cell) (new : Kept) → IsDilated game cells kept → IsTrue (is_open game.grid cell) →
-    IsKept game cell new → IsDilated game (slice_set cells i cell) (slice_set kept i new)
-dilated_seen game cells kept i cell new facts opens is = record {
-  seen = record {
-    session = facts.seen.session;
-    one_each = length_set cells i cell ∙ facts.seen.one_each;
-    each_open = each_set (λ c. IsTrue (is_open game.grid c)) cells i cell facts.seen.each_open opens;
-  };
-  one_each = length_set kept i new ∙ facts.one_each;
-  each_kept = pair_both (IsKept game) cells kept i cell new facts.each_kept is;
-}
+pub dilated_seen : (game : Game) (cells : List Cell) (kept : List Kept) (i q : ℕ) (cell : Cell) (new : Kept) → IsDilated game cells kept → i ≡ q → IsTrue (is_open game.grid cell) →
+    IsKept game q cell new → IsDilated game (slice_set cells i cell) (slice_set kept i new)
+dilated_seen game cells kept i q cell new facts is opens fits =
+    let P : ℕ → Type 0 = λ n. IsDilated game (slice_set cells n cell) (slice_set kept n new) in
+    subst P (sym is) (record {
+      seen = record {
+        session = facts.seen.session;
+        one_each = length_set cells q cell ∙ facts.seen.one_each;
+        each_open = each_set (λ c. IsTrue (is_open game.grid c)) cells q cell facts.seen.each_open opens;
+      };
+      one_each = length_set kept q new ∙ facts.one_each;
+      each_kept = seen_set-each game cells kept q cell new (facts.one_each ∙ sym facts.seen.one_each) facts.each_kept fits;
+    })
 
 -- what contracts see of a dilation with these fields
 abbrev pub seen_as : Game → List Cell → List Kept → Dilated
@@ -98,21 +130,37 @@ kept_set_is game cells kept s i q k facts seen is lt at =
     ap (λ w. sized w k.reached.height k.reached.cells) known.followed.size.width
     ∙ ap (λ h. sized game.grid.width h k.reached.cells) known.followed.size.height
     ∙ ap (sized game.grid.width game.grid.height)
-    (known.followed.cells ∙ ap (λ n. walked game.grid (n * game.rules.speed) (cell_of cells q ∷ [])) turns
-    ∙ ap (λ n. walked game.grid (kept_of (turns_of kept) q * n) (cell_of cells q ∷ [])) (sym (seat_speed game q facts.seen.session lt)))
+    (known.followed.cells ∙ ap (λ n. reach_of game q n (cell_of cells q ∷ [])) turns)
     ∙ ap (λ (v : Dilated). kept_set v q) seen
 
+-- one cell and its set more
+kept_more : (game : Game) (n : ℕ) (cells : List Cell) (kept : List Kept) (cell : Cell) (k : Kept) → n ≡ length cells → length kept ≡ length cells → AreKept game cells kept → IsKept game n cell k →
+    AreKept game (cells ++ cell ∷ []) (kept ++ k ∷ [])
+kept_more game n cells kept cell k here same each is p lt =
+    let at : ℕ → Cell → Kept → Type 0 = λ m c x. IsKept game m c x in
+    let all = length-append cells (cell ∷ []) in
+    elim (cases_lt p n) [
+      | inl before ↦
+          subst (λ (x : Kept). at p (cell_of (cells ++ cell ∷ []) p) x) (sym (item_before kept k p no_kept (omega arith)))
+          (subst (λ (c : Cell). at p c (item_or kept p no_kept)) (sym (item_before cells cell p no_seat.start (omega arith))) (each p (omega arith)))
+      | inr past ↦
+          let last : p ≡ n = omega arith in
+          subst (λ (x : Kept). at p (cell_of (cells ++ cell ∷ []) p) x) (sym (item_last kept k p no_kept (omega arith)))
+          (subst (λ (c : Cell). at p c k) (sym (item_last cells cell p no_seat.start (omega arith))) (subst (λ (m : ℕ). at m cell k) (sym last) is))
+    ]
+
 -- one player more stands at its start
-pub fresh_more : (game : Game) (n : ℕ) (start : Cell) (kept after : List Kept) (k : Kept) → n < players_of game → start ≡ (seat_of game n).start → AreFresh game (first_starts game n) kept →
-    IsKept game start k → k.turns ≡ 0 → after ≡ kept ++ k ∷ [] → AreFresh game (first_starts game (n + 1)) after
-fresh_more game n start kept after k lt is fresh new none more =
+pub fresh_more : (game : Game) (n : ℕ) (kept after : List Kept) (k : Kept) → n < players_of game → AreFresh game (first_starts game n) kept →
+    IsKept game n (seat_of game n).start k → k.turns ≡ 0 → after ≡ kept ++ k ∷ [] → AreFresh game (first_starts game (n + 1)) after
+fresh_more game n kept after k lt fresh new none more =
+    let start = (seat_of game n).start in
     let cells = first_starts game n ++ start ∷ [] in
-    let all : cells ≡ first_starts game (n + 1) = start_more game n start (first_starts game n) cells lt is refl refl in
+    let all : cells ≡ first_starts game (n + 1) = start_more game n start (first_starts game n) cells lt refl refl refl in
     let P : List Cell → Type 0 = λ cs. AreFresh game cs after in
     let Q : List Kept → Type 0 = λ ks. AreFresh game cells ks in
     subst P all (subst Q (sym more) (record {
       one_each = length-append kept (k ∷ []) ∙ ap (λ m. m + 1) fresh.one_each ∙ sym (length-append (first_starts game n) (start ∷ []));
-      each_kept = pair_more (IsKept game) (first_starts game n) kept start k fresh.one_each fresh.each_kept new;
+      each_kept = kept_more game n (first_starts game n) kept start k (sym (first_length game n (omega arith))) fresh.one_each fresh.each_kept new;
       turns = map_more (λ (x : Kept). x.turns) kept k ∙ ap (λ (xs : List ℕ). xs ++ k.turns ∷ []) fresh.turns ∙ ap (λ m. none_kept (first_starts game n) ++ m ∷ []) none
           ∙ sym (map_more (λ _. 0) (first_starts game n) start);
     }))

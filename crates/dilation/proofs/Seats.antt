@@ -1,14 +1,23 @@
 -- Seats: where the players start, one after another, and what holds of the cells at which they were last seen.
-use Rattle.std.proofs.Common.{◌≡◌, ℕ, zero, suc, ◌+◌, ◌<◌, List, [], ◌∷◌, ◌++◌, length, take, refl, sym, ap, ◌∙◌, arith, get_or}
+use Rattle.std.proofs.Common.{◌≡◌, ℕ, zero, suc, ◌+◌, ◌<◌, ◌≤◌, List, [], ◌∷◌, ◌++◌, length, take, refl, sym, ap, ◌∙◌, arith, get_or}
 use Rattle.std.specs.Prelude.{map}
 use Rattle.definitions.specs.declared.world.Cell.{Cell}
+use Rattle.definitions.specs.declared.world.Seat.{Seat}
 use Rattle.definitions.specs.Lists.{EachIs, item_or}
-use Rattle.definitions.specs.World.{Game, Seat, no_seat, seat_of, players_of}
+use Rattle.definitions.specs.World.{Game, no_seat, seat_of, players_of}
 use Rattle.dilation.specs.Dilated.{starts_of}
 
 -- the starts of the first n players
 abbrev pub first_starts : Game → ℕ → List Cell
 first_starts game n = map (λ s. s.start) (take n game.seats)
+
+taken_length : (seats : List Seat) (n : ℕ) → n ≤ length seats → length (map (λ s. s.start) (take n seats)) ≡ n
+taken_length seats zero le = refl
+taken_length [] (suc n) le = absurd (omega arith)
+taken_length (s ∷ seats) (suc n) le = ap suc (taken_length seats n (omega arith))
+
+pub first_length : (game : Game) (n : ℕ) → n ≤ players_of game → length (first_starts game n) ≡ n
+first_length game n le = taken_length game.seats n le
 
 starts_more : (seats : List Seat) (n : ℕ) → n < length seats → map (λ s. s.start) (take n seats) ++ (item_or seats n no_seat).start ∷ [] ≡ map (λ s. s.start) (take (n + 1) seats)
 starts_more [] n lt = absurd (omega arith)

@@ -1,12 +1,12 @@
 -- Following: what holds of the sets that are kept of the players.
-use Rattle.std.specs.Prelude.{◌≡◌, ℕ, ◌*◌, ◌≤◌, true, List, [], ◌∷◌, length, map}
-use lib.Lanes.{Each2}
+use Rattle.std.specs.Prelude.{◌≡◌, ℕ, ◌*◌, ◌<◌, ◌≤◌, true, false, List, [], ◌∷◌, length, map}
 use Rattle.definitions.specs.declared.world.Cell.{Cell}
-use Rattle.definitions.specs.World.{Ground, Game, players_of}
+use Rattle.definitions.specs.Lists.{item_or}
+use Rattle.definitions.specs.World.{Ground, Game, players_of, seat_of}
 use Rattle.definitions.specs.Walk.{stepped, walked}
 use Rattle.cell_set.specs.Regions.{IsSizeOf}
 use Rattle.dilation.specs.declared.growth.Kept.{Kept}
-use Rattle.dilation.specs.Dilated.{AreSeen, none_kept}
+use Rattle.dilation.specs.Dilated.{AreSeen, cell_of, none_kept}
 
 -- the set has the grid's size and the cells to which walks of so many steps lead from this one; where it is called full, a
 -- step more adds none
@@ -15,19 +15,27 @@ pub record IsFollowed (grid : Ground) (cell : Cell) (steps : ℕ) (kept : Kept) 
   pub cells : kept.reached.cells ≡ walked grid steps (cell ∷ [])
   pub full : kept.full ≡ true → stepped grid kept.reached.cells ≡ kept.reached.cells
 
--- the set of a player that was last seen at this cell: it was followed for no more turns than are played
-pub record IsKept (game : Game) (cell : Cell) (kept : Kept) : Type 0 where
+-- the set of a player that was last seen at this cell: it was followed for no more turns than are played, by its own speed
+pub record IsKept (game : Game) (player : ℕ) (cell : Cell) (kept : Kept) : Type 0 where
   pub within : kept.turns ≤ game.turns
-  pub followed : IsFollowed game.grid cell (kept.turns * game.rules.speed) kept
+  pub followed : IsFollowed game.grid cell (kept.turns * (seat_of game player).speed) kept
+
+-- a set that no player has
+abbrev pub no_kept : Kept
+no_kept = record { turns = 0; full = false; reached = record { width = 0; height = 0; cells = [] } }
+
+-- the set at each place is that of the player of this number, who was last seen at the cell of the same place
+abbrev pub AreKept : Game → List Cell → List Kept → Type 0
+AreKept game cells kept = (q : ℕ) → q < length cells → IsKept game q (cell_of cells q) (item_or kept q no_kept)
 
 -- the players are seen, and each is followed from its cell
 pub record IsDilated (game : Game) (cells : List Cell) (kept : List Kept) : Type 0 where
   pub seen : AreSeen game cells
   pub one_each : length kept ≡ players_of game
-  pub each_kept : Each2 (IsKept game) cells kept
+  pub each_kept : AreKept game cells kept
 
 -- each of these cells has a set, which was followed from it for no turn yet
 pub record AreFresh (game : Game) (cells : List Cell) (kept : List Kept) : Type 0 where
   pub one_each : length kept ≡ length cells
-  pub each_kept : Each2 (IsKept game) cells kept
+  pub each_kept : AreKept game cells kept
   pub turns : map (λ k. k.turns) kept ≡ none_kept cells

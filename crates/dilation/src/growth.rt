@@ -1,14 +1,14 @@
 //! How the set that is kept of a player grows, step by step.
 
-ghost use Rattle.std.specs.Prelude.{◌≡◌, ◌+◌, ◌≤◌, IsTrue, IfOk};
-ghost use Rattle.definitions.specs.World.{is_open};
+ghost use Rattle.std.specs.Prelude.{◌≡◌, ◌+◌, ◌<◌, ◌≤◌, IsTrue, IfOk};
+ghost use Rattle.definitions.specs.World.{is_open, players_of, seat_of};
 ghost use Rattle.cell_set.specs.Regions.{IsSizeOf};
 ghost use Rattle.dilation.specs.Dilated.{most_growths};
 ghost use Rattle.dilation.specs.Following.{IsFollowed, IsKept};
 
 use crate::steps::Steps;
 use cell_set::CellSet;
-use definitions::Cell;
+use definitions::{Cell, PlayerId};
 use grid_world::{Grid, Session};
 use std::alloc::{AllocError, Global};
 use std::sync::ledger::Ledger;
@@ -23,14 +23,14 @@ pub(crate) struct Kept {
     pub reached: CellSet,
 }
 
-/// The set of a player that stands on this cell, and was followed for no turn.
-pub(crate) fn keep(alloc: Global, session: &Session, cell: Cell) -> Result<Kept, AllocError>
-    requires { IsTrue (is_open session.now.grid cell) }
-    ensures kept { IfOk result (IsKept session.now cell) }
+/// The set of a player that stands at its start, and was followed for no turn.
+pub(crate) fn keep(alloc: Global, session: &Session, player: PlayerId) -> Result<Kept, AllocError>
+    requires { player < players_of session.now }
+    ensures kept { IfOk result (IsKept session.now player (seat_of session.now player).start) }
     ensures turns { IfOk result (λ k. k.turns ≡ 0) }
 {
     let grid = session.grid();
-    let reached = CellSet::one(alloc, grid.width(), grid.height(), cell)?;
+    let reached = CellSet::one(alloc, grid.width(), grid.height(), session.start(player))?;
     Ok(Kept {
         turns: 0,
         full: false,
@@ -38,11 +38,11 @@ pub(crate) fn keep(alloc: Global, session: &Session, cell: Cell) -> Result<Kept,
     })
 }
 
-/// Follows a player anew, who stands on this cell, for no turn yet.
-pub(crate) fn begin(kept: &mut Kept, _session: &Session, cell: Cell)
+/// Follows the player anew, who stands on this cell, for no turn yet.
+pub(crate) fn begin(kept: &mut Kept, _session: &Session, _player: PlayerId, cell: Cell)
     requires size { IsSizeOf _session.now.grid kept.old.reached }
     requires open { IsTrue (is_open _session.now.grid cell) }
-    ensures kept { IsKept _session.now cell kept.new }
+    ensures kept { IsKept _session.now _player cell kept.new }
     ensures turns { kept.new.turns ≡ 0 }
 {
     kept.reached.set_one(cell);
@@ -85,27 +85,30 @@ fn grow<L: Ledger>(
     }
 }
 
-/// Follows the player that was last seen at this cell for so many turns: on from those that it was followed for, or anew
-/// where they are too many.
+/// Follows the player that was last seen at this cell for so many turns, as many steps a turn as its own speed: on from those
+/// that it was followed for, or anew where they are too many.
 pub(crate) fn follow<L: Ledger>(
     kept: &mut Kept,
     session: &Session,
+    player: PlayerId,
     cell: Cell,
     missed: u32,
     steps: &mut Steps<L>,
 )
-    requires kept { IsKept session.now cell kept.old }
+    requires player { player < players_of session.now }
+    requires kept { IsKept session.now player cell kept.old }
     requires open { IsTrue (is_open session.now.grid cell) }
     requires missed { missed ≤ session.now.turns }
-    ensures kept { IsKept session.now cell kept.new }
+    ensures kept { IsKept session.now player cell kept.new }
     ensures turns { kept.new.turns ≡ missed }
     ensures counted { steps.old ≤ steps.new }
-    ensures cost { steps.new ≤ steps.old + most_growths session.now.rules.speed kept.old.turns missed }
+    ensures cost { steps.new ≤ steps.old + most_growths (seat_of session.now player).speed kept.old.turns missed }
 {
+    session.facts();
     if missed < kept.turns {
-        begin(kept, session, cell);
+        begin(kept, session, player, cell);
     }
-    let speed = u32::from(session.rules().speed);
+    let speed = u32::from(session.speed(player));
     let from = kept.turns * speed;
     grow(kept, session.grid(), cell, from, missed * speed, steps);
     kept.turns = missed;

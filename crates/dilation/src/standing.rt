@@ -1,7 +1,7 @@
 //! Where each player was last seen, and where it can be by now.
 
 ghost use Rattle.std.specs.Prelude.{◌≡◌, ◌+◌, ◌<◌, ◌≤◌, IsTrue, IfOk, slice_set};
-ghost use Rattle.definitions.specs.World.{players_of, is_open};
+ghost use Rattle.definitions.specs.World.{players_of, is_open, seat_of};
 ghost use Rattle.dilation.specs.Dilated.{AreSeen, starts_of, cell_of, kept_of, none_kept, kept_set, most_growths};
 ghost use Rattle.dilation.specs.Following.{AreFresh};
 
@@ -54,7 +54,7 @@ fn keep_starts(alloc: Global, session: &Session) -> Result<Vec<Kept>, AllocError
 {
     let mut kept = Vec::with_capacity(alloc, usize::from(session.players()))?;
     for player in 0..session.players() {
-        kept.push(keep(alloc, session, session.start(player))?)?;
+        kept.push(keep(alloc, session, player)?)?;
     }
     Ok(kept)
 }
@@ -107,23 +107,30 @@ impl Dilation {
     {
         let at = usize::from(player);
         self.cells[at] = cell;
-        begin(&mut self.kept[at], &self.session, cell);
+        begin(&mut self.kept[at], &self.session, player, cell);
     }
 
-    /// Follows the player to all cells at which it can be, so many turns after it was seen at its cell. It goes on from the
-    /// turns for which the player was followed before, or begins anew where they are too many; and `steps` counts each time
-    /// that the set grows by a step. A set that no step makes larger doesn't grow.
+    /// Follows the player, by its own speed, to all cells at which it can be, so many turns after it was seen at its cell. It
+    /// goes on from the turns for which the player was followed before, or begins anew where they are too many; and `steps`
+    /// counts each time that the set grows by a step. A set that no step makes larger doesn't grow.
     pub fn advance<L: Ledger>(&mut self, player: PlayerId, missed: u32, steps: &mut Steps<L>)
         requires player { player < players_of self.old.game }
         requires missed { missed ≤ self.old.game.turns }
         ensures kept { self.new ≡ record self.old { kept = slice_set self.old.kept player missed } }
         ensures turns { kept_of self.new.kept player ≡ missed }
         ensures counted { steps.old ≤ steps.new }
-        ensures cost { steps.new ≤ steps.old + most_growths self.old.game.rules.speed (kept_of self.old.kept player) missed }
+        ensures cost { steps.new ≤ steps.old + most_growths (seat_of self.old.game player).speed (kept_of self.old.kept player) missed }
     {
         let at = usize::from(player);
         let cell = self.cells[at];
-        follow(&mut self.kept[at], &self.session, cell, missed, steps);
+        follow(
+            &mut self.kept[at],
+            &self.session,
+            player,
+            cell,
+            missed,
+            steps,
+        );
     }
 
     /// Advances, and counts in a ledger that no one reads.

@@ -1,7 +1,7 @@
 //! A player on a corridor, and how often its set grows at most.
 
 ghost use Rattle.std.specs.Prelude.{◌≡◌, ◌+◌, ◌<◌, ◌≤◌};
-ghost use Rattle.definitions.specs.World.{players_of};
+ghost use Rattle.definitions.specs.World.{players_of, seat_of};
 ghost use Rattle.dilation.specs.Dilated.{kept_of};
 
 use crate::{Dilation, Steps};
@@ -19,7 +19,7 @@ static CORRIDOR: &[u8] =
 /// Follows player 1, who was followed for no turn yet and goes a step a turn: for 3 turns, which takes 3 growths at most; for
 /// 5, which takes 2 more; for 5 again, which takes none; and for 4, which begins anew and takes 4.
 fn follow<L: Ledger>(dilation: &mut Dilation, steps: &mut Steps<L>)
-    requires speed { dilation.old.game.rules.speed ≡ 1 }
+    requires speed { (seat_of dilation.old.game 1).speed ≡ 1 }
     requires player { 1 < players_of dilation.old.game }
     requires turns { 5 ≤ dilation.old.game.turns }
     requires fresh { kept_of dilation.old.kept 1 ≡ 0 }
@@ -42,7 +42,9 @@ fn follow_on_corridor<L: Ledger, R: Abort>(rt: &R, alloc: Global, blank: Blank) 
 {
     let session = read_session(alloc, CORRIDOR).map_err(|_| "refused")?;
     let mut dilation = Dilation::new(alloc, &session)?;
-    let as_written = session.rules().speed == 1 && session.turns() == 8;
+    session.facts();
+    let speed = session.speed(1);
+    let as_written = speed == 1 && session.turns() == 8;
     assert!(rt; as_written);
     assert_eq!(rt; dilation.kept(1), 0);
     let mut steps = Steps::<L>::new(blank);

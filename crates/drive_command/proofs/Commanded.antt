@@ -14,21 +14,21 @@ use Rattle.drive_command.proofs.Tellings.{drive_tells}
 
 -- A run that began, over a script that is read to its end.
 module _ (player : ℕ) (b : Beginning) (input : Input) (ends : ending_of input ≡ AtEnd) where
-  status_is : (begun_answer player b input).status ≡ status_for (is_clean b.game (log_behind player b input)) (bad_line 0 (lines_in input)) AtEnd
-  status_is = drive_status b.game player b.first input ∙ ap (status_for (is_clean b.game (log_behind player b input)) (bad_line 0 (lines_in input))) ends
+  status_is : (begun_answer player b input).status ≡ status_for (is_clean b.game (log_behind player b input)) (bad_line b.game 0 (lines_in input)) AtEnd
+  status_is = drive_status b.game player b.first input ∙ ap (status_for (is_clean b.game (log_behind player b input)) (bad_line b.game 0 (lines_in input))) ends
 
-  by_log : (clean : Bool) → is_clean b.game (log_behind player b input) ≡ clean → (bad : Option ℕ) → bad_line 0 (lines_in input) ≡ bad → DriveCause player b input (status_for clean bad AtEnd)
+  by_log : (clean : Bool) → is_clean b.game (log_behind player b input) ≡ clean → (bad : Option ℕ) → bad_line b.game 0 (lines_in input) ≡ bad → DriveCause player b input (status_for clean bad AtEnd)
   by_log false e bad l = e
   by_log true e None l = record { clean = e; lines = l }
   by_log true e (Some n) l = record { clean = e; lines = l }
 
   -- the status that is due has its cause
   pub drive_caused : DriveCause player b input (begun_answer player b input).status
-  drive_caused = subst (λ (s : Status). DriveCause player b input s) (sym status_is) (by_log (is_clean b.game (log_behind player b input)) refl (bad_line 0 (lines_in input)) refl)
+  drive_caused = subst (λ (s : Status). DriveCause player b input s) (sym status_is) (by_log (is_clean b.game (log_behind player b input)) refl (bad_line b.game 0 (lines_in input)) refl)
 
   -- where all is good, the end of the command is due
   pub drive_done : IsPlayed player b input None → (begun_answer player b input).status ≡ Done
-  drive_done p = status_is ∙ ap (λ (c : Bool). status_for c (bad_line 0 (lines_in input)) AtEnd) p.clean ∙ ap (λ (o : Option ℕ). status_for true o AtEnd) p.lines
+  drive_done p = status_is ∙ ap (λ (c : Bool). status_for c (bad_line b.game 0 (lines_in input)) AtEnd) p.clean ∙ ap (λ (o : Option ℕ). status_for true o AtEnd) p.lines
 
 -- the answer tells a log of fair play, where the log that the run begins with is honest
 pub drive_tells_play : (player : ℕ) (b : Beginning) (input : Input) → 1 ≤ b.game.ahead → IsHonest b.game player b.first → TellsPlay player b input (begun_answer player b input).body

@@ -36,28 +36,28 @@ line_status game true n text rest now last bad ending c e = clean_status (is_cle
 line_status game false n text rest now last bad ending c e = e
 
 from_status : (game : Game) (me : ℕ) (s : State) (n : ℕ) (input : Input) → is_clean game s.log ≡ true →
-    (drive_from game me s n input).status ≡ status_for (is_clean game (log_from game me s n (lines_in input))) (bad_line n (lines_in input)) (ending_of input)
+    (drive_from game me s n input).status ≡ status_for (is_clean game (log_from game me s n (lines_in input))) (bad_line game n (lines_in input)) (ending_of input)
 from_status game me s n End c = clean_status (is_clean game s.log) None AtEnd _ c refl
 from_status game me s n Fault c = clean_status (is_clean game s.log) None AtFault _ c refl
 from_status game me s n (Line line input) c =
-    let d = said_behind n line in
+    let d = said_behind game n line in
     let next : State = state_behind game me s d in
     let lines = lines_in input in
-    line_status game (is_bad d) (n + 1) (text_behind game me s d) (going_on game me next.log (drive_from game me next (n + 1) input)) s.log (log_on game next.log (log_from game me next (n + 1) lines)) (bad_line (n + 1) lines) (ending_of input) c
-    (on_status game me next.log (log_from game me next (n + 1) lines) (drive_from game me next (n + 1) input) (bad_line (n + 1) lines) (ending_of input) (from_status game me next (n + 1) input))
+    line_status game (is_bad d) (n + 1) (text_behind game me s d) (going_on game me next.log (drive_from game me next (n + 1) input)) s.log (log_on game next.log (log_from game me next (n + 1) lines)) (bad_line game (n + 1) lines) (ending_of input) c
+    (on_status game me next.log (log_from game me next (n + 1) lines) (drive_from game me next (n + 1) input) (bad_line game (n + 1) lines) (ending_of input) (from_status game me next (n + 1) input))
 
 pub drive_status : (game : Game) (me : ℕ) (first : List Entry) (input : Input) →
-    (drive game me first input).status ≡ status_for (is_clean game (drive_log game me first input)) (bad_line 0 (lines_in input)) (ending_of input)
+    (drive game me first input).status ≡ status_for (is_clean game (drive_log game me first input)) (bad_line game 0 (lines_in input)) (ending_of input)
 unfolding drive drive_log
 drive_status game me first input =
     let next = advance game me first in
-    on_status game me next (log_from game me (fresh_state next) 0 (lines_in input)) (drive_from game me (fresh_state next) 0 input) (bad_line 0 (lines_in input)) (ending_of input) (from_status game me (fresh_state next) 0 input)
+    on_status game me next (log_from game me (fresh_state next) 0 (lines_in input)) (drive_from game me (fresh_state next) 0 input) (bad_line game 0 (lines_in input)) (ending_of input) (from_status game me (fresh_state next) 0 input)
 
 -- the status that is due from a driver on
 pub driven_status : (d : Driven) (input : Input) → (clean : Bool) × (bad : Option ℕ) × ((driven_from d input).status ≡ status_for clean bad (ending_of input))
 driven_status d input =
     let last = log_from d.game d.me d.state d.lines (lines_in input) in (
       is_clean d.game (log_on d.game d.state.log last),
-      bad_line d.lines (lines_in input),
-      on_status d.game d.me d.state.log last (drive_from d.game d.me d.state d.lines input) (bad_line d.lines (lines_in input)) (ending_of input) (from_status d.game d.me d.state d.lines input),
+      bad_line d.game d.lines (lines_in input),
+      on_status d.game d.me d.state.log last (drive_from d.game d.me d.state d.lines input) (bad_line d.game d.lines (lines_in input)) (ending_of input) (from_status d.game d.me d.state d.lines input),
     )

@@ -70,9 +70,9 @@ by_honest game me now last false i j = j
 from_honest : (game : Game) (me : ℕ) (s : State) (n : ℕ) (lines : List (List ℕ)) → 1 ≤ game.ahead → IsHonest game me s.log → IsHonest game me (log_from game me s n lines)
 from_honest game me s n [] a i = i
 from_honest game me s n (line ∷ lines) a i =
-    let next : State = state_behind game me s (said_behind n line) in
-    let j = behind_honest game me s (said_behind n line) a i in
-    by_honest game me s.log (log_on game next.log (log_from game me next (n + 1) lines)) (is_bad (said_behind n line)) i
+    let next : State = state_behind game me s (said_behind game n line) in
+    let j = behind_honest game me s (said_behind game n line) a i in
+    by_honest game me s.log (log_on game next.log (log_from game me next (n + 1) lines)) (is_bad (said_behind game n line)) i
     (on_honest game me next.log (log_from game me next (n + 1) lines) j (from_honest game me next (n + 1) lines a j))
 
 -- a log that begins honest ends so

@@ -10,3 +10,4 @@ pub mod Digits
 pub mod Streams
 pub mod Runs
 pub mod Commanded
+pub mod Fresh

@@ -23,9 +23,9 @@ use Rattle.line_io.proofs.Writing.{bytes_none}
 use Rattle.script_grammar.specs.declared.grammar.DriveLine.{DriveLine}
 use Rattle.script_grammar.specs.declared.grammar.DriveLine.TheVariants.{Bad, Nothing, Choose, Got, Bytes, Log}
 use Rattle.script_grammar.specs.Grammar.{is_bad, line_of}
-use Rattle.line_io.specs.declared.lines.TheConstants.{LONGEST_LINE}
+use Rattle.definitions.specs.declared.limits.TheConstants.{LONGEST_LINE}
 use Rattle.definitions.specs.declared.limits.TheConstants.{MOST_LINES}
-use Rattle.drive_command.specs.Driven.{State, state_with_log}
+use Rattle.drive_command.specs.Driven.{State, last_reader, state_with_log}
 use Rattle.drive_command.specs.Coming.{received_text, bytes_text, bytes_state}
 use Rattle.drive_command.specs.Drive.{answer_by, drive_from, going_on, said_behind, state_behind, text_behind}
 use Rattle.report_lines.specs.Lines.{added_text, choice_text, got_text}
@@ -43,20 +43,20 @@ abbrev pub answer_from : Game → ℕ → State → ℕ → Input → Answer
 answer_from game me s n input = going_on game me s.log (drive_from game me s n input)
 
 -- the answer from a line on that says this
-from_said : (game : Game) (me : ℕ) (s : State) (n : ℕ) (line : List ℕ) (input : Input) (d : DriveLine) → is_clean game s.log ≡ true → d ≡ said_behind n line →
+from_said : (game : Game) (me : ℕ) (s : State) (n : ℕ) (line : List ℕ) (input : Input) (d : DriveLine) → is_clean game s.log ≡ true → d ≡ said_behind game n line →
     answer_from game me s n (Line line input) ≡ answer_by (is_bad d) (n + 1) (text_behind game me s d) (answer_from game me (state_behind game me s d) (n + 1) input)
 from_said game me s n line input d c e =
     goes_on game me s.log (drive_from game me s n (Line line input)) c ∙
     ap (λ (d : DriveLine). answer_by (is_bad d) (n + 1) (text_behind game me s d) (answer_from game me (state_behind game me s d) (n + 1) input)) (sym e)
 
 -- a line that is passed over
-pub passed_over : (game : Game) (me : ℕ) (s : State) (n : ℕ) (line : List ℕ) (input : Input) → is_clean game s.log ≡ true → Nothing ≡ said_behind n line →
+pub passed_over : (game : Game) (me : ℕ) (s : State) (n : ℕ) (line : List ℕ) (input : Input) → is_clean game s.log ≡ true → Nothing ≡ said_behind game n line →
     answer_from game me s n (Line line input) ≡ answer_from game me s (n + 1) input
 unfolding text_behind state_behind
 passed_over game me s n line input c e = from_said game me s n line input Nothing c e
 
 -- a line that chooses
-pub answered : (game : Game) (me : ℕ) (s : State) (n : ℕ) (line : List ℕ) (input : Input) (mv : Move) (nonce : Nonce) → is_clean game s.log ≡ true → Choose mv nonce ≡ said_behind n line →
+pub answered : (game : Game) (me : ℕ) (s : State) (n : ℕ) (line : List ℕ) (input : Input) (mv : Move) (nonce : Nonce) → is_clean game s.log ≡ true → Choose mv nonce ≡ said_behind game n line →
     answer_from game me s n (Line line input) ≡
     after_text (choice_text (length (chosen me s.log)) (choice_fault game me s.log mv) ++ added_text (length s.log) (after_choice game me s.log mv nonce))
     (answer_from game me (state_with_log s (after_choice game me s.log mv nonce)) (n + 1) input)
@@ -64,7 +64,7 @@ unfolding text_behind state_behind
 answered game me s n line input mv nonce c e = from_said game me s n line input (Choose mv nonce) c e
 
 -- a line that brings a frame
-pub received : (game : Game) (me : ℕ) (s : State) (n : ℕ) (line : List ℕ) (input : Input) (q : ℕ) (f : TurnFrame) → is_clean game s.log ≡ true → Got q f ≡ said_behind n line →
+pub received : (game : Game) (me : ℕ) (s : State) (n : ℕ) (line : List ℕ) (input : Input) (q : ℕ) (f : TurnFrame) → is_clean game s.log ≡ true → Got q f ≡ said_behind game n line →
     answer_from game me s n (Line line input) ≡
     after_text (got_text q (place_of game f) (got_answer game me s.log q f) ++ added_text (length s.log) (after_got game me s.log q f))
     (answer_from game me (state_with_log s (after_got game me s.log q f)) (n + 1) input)
@@ -72,36 +72,36 @@ unfolding text_behind state_behind received_text
 received game me s n line input q f c e = from_said game me s n line input (Got q f) c e
 
 -- a line that brings bytes
-pub brought : (game : Game) (me : ℕ) (s : State) (n : ℕ) (line : List ℕ) (input : Input) (q : ℕ) (bytes : List ℕ) → is_clean game s.log ≡ true → Bytes q bytes ≡ said_behind n line →
+pub brought : (game : Game) (me : ℕ) (s : State) (n : ℕ) (line : List ℕ) (input : Input) (q : ℕ) (bytes : List ℕ) → is_clean game s.log ≡ true → Bytes q bytes ≡ said_behind game n line →
     answer_from game me s n (Line line input) ≡ after_text (bytes_text game me s q bytes) (answer_from game me (bytes_state game me s q bytes) (n + 1) input)
 unfolding text_behind state_behind
 brought game me s n line input q bytes c e = from_said game me s n line input (Bytes q bytes) c e
 
 -- a line that prints the log
-pub printed : (game : Game) (me : ℕ) (s : State) (n : ℕ) (line : List ℕ) (input : Input) → is_clean game s.log ≡ true → Log ≡ said_behind n line →
+pub printed : (game : Game) (me : ℕ) (s : State) (n : ℕ) (line : List ℕ) (input : Input) → is_clean game s.log ≡ true → Log ≡ said_behind game n line →
     answer_from game me s n (Line line input) ≡ after_text (log_text game me s.log) (answer_from game me s (n + 1) input)
 unfolding text_behind state_behind
 printed game me s n line input c e = from_said game me s n line input Log c e
 
 -- a line in no grammar
-pub refused : (game : Game) (me : ℕ) (s : State) (n : ℕ) (line : List ℕ) (input : Input) → is_clean game s.log ≡ true → Bad ≡ said_behind n line →
+pub refused : (game : Game) (me : ℕ) (s : State) (n : ℕ) (line : List ℕ) (input : Input) → is_clean game s.log ≡ true → Bad ≡ said_behind game n line →
     answer_from game me s n (Line line input) ≡ bare_answer (BadLine Script (n + 1))
 unfolding text_behind state_behind
 refused game me s n line input c e = from_said game me s n line input Bad c e
 
 -- a line that is too long
-overlong : (n : ℕ) (line : List ℕ) → LONGEST_LINE < length line → said_behind n line ≡ Bad
+overlong : (game : Game) (n : ℕ) (line : List ℕ) → LONGEST_LINE < length line → said_behind game n line ≡ Bad
 unfolding said_behind
-overlong n line l = go (nat_lt LONGEST_LINE (length line)) (lt-ltb LONGEST_LINE (length line) l)
+overlong game n line l = go (nat_lt LONGEST_LINE (length line)) (lt-ltb LONGEST_LINE (length line) l)
   where
-    go : (b : Bool) → b ≡ true → (if b || nat_le MOST_LINES n then Bad else line_of line) ≡ Bad
+    go : (b : Bool) → b ≡ true → (if b || nat_le MOST_LINES n then Bad else line_of (last_reader game) line) ≡ Bad
     go true e = refl
     go false e = cc
 
 pub too_long : (game : Game) (me : ℕ) (s : State) (n : ℕ) (lines : List (List ℕ)) (last : Input) → is_clean game s.log ≡ true → StartsLonger LONGEST_LINE lines →
     answer_from game me s n (lines_then lines last) ≡ bare_answer (BadLine Script (n + 1))
 too_long game me s n [] last c l = absurd l
-too_long game me s n (line ∷ lines) last c l = refused game me s n line (lines_then lines last) c (sym (overlong n line l))
+too_long game me s n (line ∷ lines) last c l = refused game me s n line (lines_then lines last) c (sym (overlong game n line l))
 
 -- a status that is all that is due ends the run, and nothing is written
 bare_ends : (a : SinkState) (p : Answer) (s : Status) → p ≡ bare_answer s → (a ≡ after_bytes a p.body) × (s ≡ p.status)

@@ -68,7 +68,7 @@ module _ (game : Game) (me : ℕ) where
   from_run s n (line ∷ lines) = go (is_bad d) (run_on next.log (log_from game me next (n + 1) lines) (steps_from game me next (n + 1) lines) (from_run next (n + 1) lines))
     where
       d : DriveLine
-      d = said_behind n line
+      d = said_behind game n line
 
       next : State
       next = state_behind game me s d

@@ -19,9 +19,9 @@ use Rattle.drive_command.specs.Drive.{said_behind, state_behind}
 use Rattle.drive_command.specs.Laws.{GivesTheNext, bytes_of, piece_of, state_from}
 
 -- the pieces that lines bring from the player
-pieces : (q n : ℕ) → List (List ℕ) → List (List ℕ)
-pieces q n [] = []
-pieces q n (line ∷ lines) = piece_of q (said_behind n line) ++ pieces q (n + 1) lines
+pieces : Game → (q n : ℕ) → List (List ℕ) → List (List ℕ)
+pieces game q n [] = []
+pieces game q n (line ∷ lines) = piece_of q (said_behind game n line) ++ pieces game q (n + 1) lines
 
 joined : List (List ℕ) → List ℕ
 joined ps = flat_map (λ (p : List ℕ). p) ps
@@ -30,11 +30,11 @@ joined_append : (a b : List (List ℕ)) → joined (a ++ b) ≡ joined a ++ join
 unfolding joined
 joined_append a b = flat_map-append (λ (p : List ℕ). p) a b
 
-bytes_joined : (q n : ℕ) (lines : List (List ℕ)) → bytes_of q n lines ≡ joined (pieces q n lines)
+bytes_joined : (game : Game) (q n : ℕ) (lines : List (List ℕ)) → bytes_of game q n lines ≡ joined (pieces game q n lines)
 unfolding pieces joined
-bytes_joined q n [] = refl
-bytes_joined q n (line ∷ lines) =
-    ap (λ (t : List ℕ). joined (piece_of q (said_behind n line)) ++ t) (bytes_joined q (n + 1) lines) ∙ sym (joined_append (piece_of q (said_behind n line)) (pieces q (n + 1) lines))
+bytes_joined game q n [] = refl
+bytes_joined game q n (line ∷ lines) =
+    ap (λ (t : List ℕ). joined (piece_of q (said_behind game n line)) ++ t) (bytes_joined game q (n + 1) lines) ∙ sym (joined_append (piece_of q (said_behind game n line)) (pieces game q (n + 1) lines))
 
 -- one more piece behind others
 more_given : (r : Reading) (ps : List (List ℕ)) (bytes : List ℕ) → let g : Given = given_over r ps in let h : Given = given_of g.reader bytes in
@@ -82,31 +82,31 @@ line_count game me s Log = refl
 line_count game me s Bad = refl
 
 lines_reader : (game : Game) (me q : ℕ) (s : State) (n : ℕ) (lines : List (List ℕ)) → length s.readers ≡ READERS → q < READERS →
-    reader_of (state_from game me s n lines) q ≡ (given_over (reader_of s q) (pieces q n lines)).reader
+    reader_of (state_from game me s n lines) q ≡ (given_over (reader_of s q) (pieces game q n lines)).reader
 unfolding pieces
 lines_reader game me q s n [] l k = refl
 lines_reader game me q s n (line ∷ lines) l k =
-    let d = said_behind n line in
+    let d = said_behind game n line in
     let next : State = state_behind game me s d in
     lines_reader game me q next (n + 1) lines (line_count game me s d ∙ l) k ∙
-    ap (λ (r : Reading). (given_over r (pieces q (n + 1) lines)).reader) (line_reader game me q s d l k) ∙
-    sym (reader_more (reader_of s q) (piece_of q d) (pieces q (n + 1) lines))
+    ap (λ (r : Reading). (given_over r (pieces game q (n + 1) lines)).reader) (line_reader game me q s d l k) ∙
+    sym (reader_more (reader_of s q) (piece_of q d) (pieces game q (n + 1) lines))
 
 pub gives_next : (game : Game) (me : ℕ) (first : List Entry) (lines : List (List ℕ)) (q : ℕ) (bytes : List ℕ) → q < READERS → GivesTheNext game me first lines q bytes
 unfolding joined
 gives_next game me first lines q bytes k =
     let s : State = state_from game me (fresh_state first) 0 lines in
-    let ps = pieces q 0 lines in
+    let ps = pieces game q 0 lines in
     let g : Given = given_over at_start ps in
     let start : reader_of (fresh_state first) q ≡ at_start = get_or-replicate READERS q at_start at_start k in
     let at : reader_of s q ≡ g.reader = lines_reader game me q (fresh_state first) 0 lines refl k ∙ ap (λ (r : Reading). (given_over r ps).reader) start in
-    let before : stream_of (bytes_of q 0 lines) ≡ seen_by g = ap stream_of (bytes_joined q 0 lines) ∙ sym (pieces_same ps) in
-    let all : bytes_of q 0 lines ++ bytes ≡ joined (ps ++ bytes ∷ []) =
-    ap (λ (t : List ℕ). t ++ bytes) (bytes_joined q 0 lines) ∙ ap (λ (t : List ℕ). joined ps ++ t) (sym (append-nil bytes)) ∙ sym (joined_append ps (bytes ∷ [])) in
-    let whole : stream_of (bytes_of q 0 lines ++ bytes) ≡ seen_by (record { frames = g.frames ++ (given_of g.reader bytes).frames; reader = (given_of g.reader bytes).reader }) =
+    let before : stream_of (bytes_of game q 0 lines) ≡ seen_by g = ap stream_of (bytes_joined game q 0 lines) ∙ sym (pieces_same ps) in
+    let all : bytes_of game q 0 lines ++ bytes ≡ joined (ps ++ bytes ∷ []) =
+    ap (λ (t : List ℕ). t ++ bytes) (bytes_joined game q 0 lines) ∙ ap (λ (t : List ℕ). joined ps ++ t) (sym (append-nil bytes)) ∙ sym (joined_append ps (bytes ∷ [])) in
+    let whole : stream_of (bytes_of game q 0 lines ++ bytes) ≡ seen_by (record { frames = g.frames ++ (given_of g.reader bytes).frames; reader = (given_of g.reader bytes).reader }) =
     ap stream_of all ∙ sym (pieces_same (ps ++ bytes ∷ [])) ∙ ap seen_by (more_given at_start ps bytes) in
     record {
       frames = ap (λ (t : Stream). t.frames) whole ∙ ap (λ (t : Stream). t.frames ++ (given_of g.reader bytes).frames) (sym before) ∙
-          ap (λ (r : Reading). (stream_of (bytes_of q 0 lines)).frames ++ (given_of r bytes).frames) (sym at);
+          ap (λ (r : Reading). (stream_of (bytes_of game q 0 lines)).frames ++ (given_of r bytes).frames) (sym at);
       ends = ap (λ (t : Stream). t.ends) whole ∙ ap (λ (r : Reading). end_of (given_of r bytes).reader) (sym at);
     }

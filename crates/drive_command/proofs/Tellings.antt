@@ -219,7 +219,7 @@ module _ (game : Game) (me : ℕ) where
   tells_from s n End = tells_none s.log (end_text game me s.log) (inr refl)
   tells_from s n Fault = tells_none s.log [] (inl refl)
   tells_from s n (Line line input) =
-      let d = said_behind n line in
+      let d = said_behind game n line in
       let next : State = state_behind game me s d in
       tells_line s d (n + 1) (log_on game next.log (log_from game me next (n + 1) (lines_in input))) (going_on game me next.log (drive_from game me next (n + 1) input))
       (tells_on next.log (log_from game me next (n + 1) (lines_in input)) (drive_from game me next (n + 1) input) (tells_from next (n + 1) input))

@@ -11,7 +11,7 @@ use Rattle.drive_command.specs.Drive.{bad_line}
 -- The script is played to its end without a finding, and this is the number of its first bad line, if there is one.
 pub record IsPlayed (player : ℕ) (b : Beginning) (input : Input) (bad : Option ℕ) : Type 0 where
   pub clean : IsTrue (is_clean b.game (log_behind player b input))
-  pub lines : bad_line 0 (lines_in input) ≡ bad
+  pub lines : bad_line b.game 0 (lines_in input) ≡ bad
 
 -- Why a run that began so may end so behind this script: at the end of the command or at a bad line, as the log has no finding;
 -- or because it has one. Want of memory and faults have their causes outside.

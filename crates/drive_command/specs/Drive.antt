@@ -15,17 +15,17 @@ use Rattle.line_io.specs.Inputs.{Input, Line, End, Fault, Ending, AtEnd, AtFault
 use Rattle.script_grammar.specs.declared.grammar.DriveLine.{DriveLine}
 use Rattle.script_grammar.specs.declared.grammar.DriveLine.TheVariants.{Nothing, Choose, Got, Bytes, Log, Bad}
 use Rattle.script_grammar.specs.Grammar.{line_of, is_bad}
-use Rattle.line_io.specs.declared.lines.TheConstants.{LONGEST_LINE}
+use Rattle.definitions.specs.declared.limits.TheConstants.{LONGEST_LINE}
 use Rattle.definitions.specs.declared.limits.TheConstants.{MOST_LINES}
-use Rattle.drive_command.specs.Driven.{State, fresh_state, state_with_log}
+use Rattle.drive_command.specs.Driven.{State, fresh_state, last_reader, state_with_log}
 use Rattle.drive_command.specs.Coming.{received_text, bytes_text, bytes_state, log_on}
 use Rattle.report_lines.specs.Lines.{choice_text, found_text, added_text}
 use Rattle.drive_command.specs.Report.{log_text, end_text}
 
 -- what the line says that comes behind n lines: a line longer than a line may be, and one behind the most lines that a
 -- script has, is in no grammar
-unfoldable pub said_behind : ℕ → List ℕ → DriveLine
-said_behind n line = if nat_lt LONGEST_LINE (length line) || nat_le MOST_LINES n then Bad else line_of line
+unfoldable pub said_behind : Game → ℕ → List ℕ → DriveLine
+said_behind game n line = if nat_lt LONGEST_LINE (length line) || nat_le MOST_LINES n then Bad else line_of (last_reader game) line
 
 -- what the peer has behind the line: a choice or a frame that is refused changes nothing, and behind one that is taken the peer
 -- advances
@@ -63,8 +63,8 @@ abbrev pub drive_from : Game → ℕ → State → ℕ → Input → Answer
 drive_from game me s n End = record { body = end_text game me s.log; status = Done }
 drive_from game me s n Fault = bare_answer InputFault
 drive_from game me s n (Line line input) =
-    answer_by (is_bad (said_behind n line)) (n + 1) (text_behind game me s (said_behind n line))
-    (going_on game me (state_behind game me s (said_behind n line)).log (drive_from game me (state_behind game me s (said_behind n line)) (n + 1) input))
+    answer_by (is_bad (said_behind game n line)) (n + 1) (text_behind game me s (said_behind game n line))
+    (going_on game me (state_behind game me s (said_behind game n line)).log (drive_from game me (state_behind game me s (said_behind game n line)) (n + 1) input))
 
 -- what is written before the first line: each frame that the peer makes, and the first finding of its log, if it has one
 unfoldable pub start_text : Game → ℕ → List Entry → List ℕ
@@ -84,17 +84,17 @@ log_by bad now last = if bad then now else last
 abbrev pub log_from : Game → ℕ → State → ℕ → List (List ℕ) → List Entry
 log_from game me s n [] = s.log
 log_from game me s n (line ∷ lines) =
-    log_by (is_bad (said_behind n line)) s.log
-    (log_on game (state_behind game me s (said_behind n line)).log (log_from game me (state_behind game me s (said_behind n line)) (n + 1) lines))
+    log_by (is_bad (said_behind game n line)) s.log
+    (log_on game (state_behind game me s (said_behind game n line)).log (log_from game me (state_behind game me s (said_behind game n line)) (n + 1) lines))
 
 -- the log that the peer has at the end of its run, behind the answer `drive`
 unfoldable pub drive_log : Game → ℕ → List Entry → Input → List Entry
 drive_log game me first input = log_on game (advance game me first) (log_from game me (fresh_state (advance game me first)) 0 (lines_in input))
 
 -- the number of the first of these lines, which come behind n lines, that is in no grammar, if there is one
-abbrev pub bad_line : ℕ → List (List ℕ) → Option ℕ
-bad_line n [] = None
-bad_line n (line ∷ lines) = if is_bad (said_behind n line) then Some (n + 1) else bad_line (n + 1) lines
+abbrev pub bad_line : Game → ℕ → List (List ℕ) → Option ℕ
+bad_line game n [] = None
+bad_line game n (line ∷ lines) = if is_bad (said_behind game n line) then Some (n + 1) else bad_line game (n + 1) lines
 
 -- how a run ends, by whether its last log has no finding, by the number of the first bad line of its script, and by what reading
 -- it comes to

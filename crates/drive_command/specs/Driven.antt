@@ -1,7 +1,8 @@
 -- Driven: what a peer that is driven has, and what contracts see of it.
-use Rattle.std.specs.Prelude.{ℕ, List, replicate, get_or, set}
+use Rattle.std.specs.Prelude.{ℕ, ◌-◌, List, replicate, get_or, set}
 use Rattle.definitions.specs.declared.logs.Entry.{Entry}
 use Rattle.definitions.specs.World.{Game}
+use Rattle.grid_world.specs.Sessions.{most_players}
 use Rattle.wire_frames.specs.Reading.{Reading, at_start}
 use Rattle.drive_command.specs.declared.readers.TheConstants.{READERS}
 
@@ -9,6 +10,10 @@ use Rattle.drive_command.specs.declared.readers.TheConstants.{READERS}
 pub record State : Type 0 where
   pub log : List Entry
   pub readers : List Reading
+
+-- the last player whose bytes a script may bring: the last that a session of this version may have
+abbrev pub last_reader : Game → ℕ
+last_reader game = most_players game.version - 1
 
 -- the log, and readers to whom nothing came, one for each player that a session may have
 abbrev pub fresh_state : List Entry → State

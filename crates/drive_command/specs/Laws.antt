@@ -22,7 +22,7 @@ use Rattle.drive_command.specs.Telling.{TellsLog}
 -- a run ends by a finding of its last log, or else by the first bad line of its script, or else as reading the script ends
 abbrev pub LogsAndLinesDecide : Type 0
 LogsAndLinesDecide = (game : Game) (me : ℕ) (first : List Entry) (input : Input) →
-    (drive game me first input).status ≡ status_for (is_clean game (drive_log game me first input)) (bad_line 0 (lines_in input)) (ending_of input)
+    (drive game me first input).status ≡ status_for (is_clean game (drive_log game me first input)) (bad_line game 0 (lines_in input)) (ending_of input)
 
 -- a peer that begins with an honest log plays fair, whatever the script says
 abbrev pub PeersPlayFair : Type 0
@@ -44,21 +44,21 @@ piece_of q Log = []
 piece_of q Bad = []
 
 -- all bytes that these lines bring from the player, which come behind n lines
-abbrev pub bytes_of : (q n : ℕ) → List (List ℕ) → List ℕ
-bytes_of q n [] = []
-bytes_of q n (line ∷ lines) = flat_map (λ piece. piece) (piece_of q (said_behind n line)) ++ bytes_of q (n + 1) lines
+abbrev pub bytes_of : Game → (q n : ℕ) → List (List ℕ) → List ℕ
+bytes_of game q n [] = []
+bytes_of game q n (line ∷ lines) = flat_map (λ piece. piece) (piece_of q (said_behind game n line)) ++ bytes_of game q (n + 1) lines
 
 -- what the peer has behind these lines, which come behind n lines
 abbrev pub state_from : Game → ℕ → State → ℕ → List (List ℕ) → State
 state_from game me s n [] = s
-state_from game me s n (line ∷ lines) = state_from game me (state_behind game me s (said_behind n line)) (n + 1) lines
+state_from game me s n (line ∷ lines) = state_from game me (state_behind game me s (said_behind game n line)) (n + 1) lines
 
 -- The frames that a line's bytes give behind these lines, and the bad byte that they come to, are those which the stream of all
 -- that came from the player has with these bytes and hadn't without them.
 pub record GivesTheNext (game : Game) (me : ℕ) (first : List Entry) (lines : List (List ℕ)) (q : ℕ) (bytes : List ℕ) : Type 0 where
-  pub frames : (stream_of (bytes_of q 0 lines ++ bytes)).frames ≡
-      (stream_of (bytes_of q 0 lines)).frames ++ (given_of (reader_of (state_from game me (fresh_state first) 0 lines) q) bytes).frames
-  pub ends : (stream_of (bytes_of q 0 lines ++ bytes)).ends ≡ end_of (given_of (reader_of (state_from game me (fresh_state first) 0 lines) q) bytes).reader
+  pub frames : (stream_of (bytes_of game q 0 lines ++ bytes)).frames ≡
+      (stream_of (bytes_of game q 0 lines)).frames ++ (given_of (reader_of (state_from game me (fresh_state first) 0 lines) q) bytes).frames
+  pub ends : (stream_of (bytes_of game q 0 lines ++ bytes)).ends ≡ end_of (given_of (reader_of (state_from game me (fresh_state first) 0 lines) q) bytes).reader
 
 -- what comes from a player in lines is one stream, however the lines cut it
 abbrev pub LinesAreOneStream : Type 0
@@ -84,7 +84,7 @@ steps_of s Bad = []
 abbrev pub steps_from : Game → ℕ → State → ℕ → List (List ℕ) → List LogStep
 steps_from game me s n [] = []
 steps_from game me s n (line ∷ lines) =
-    if is_bad (said_behind n line) then [] else steps_of s (said_behind n line) ++ steps_from game me (state_behind game me s (said_behind n line)) (n + 1) lines
+    if is_bad (said_behind game n line) then [] else steps_of s (said_behind game n line) ++ steps_from game me (state_behind game me s (said_behind game n line)) (n + 1) lines
 
 -- The log that a peer has at the end of its run is that of the protocol's steps, one behind the other, which its script's lines
 -- bring: behind a finding no step changes a log.

@@ -8,7 +8,7 @@ use Rattle.run_frame.specs.declared.statuses.TextName.TheVariants.{Script}
 use Rattle.run_frame.specs.Frame.{Answer, after_text, bare_answer}
 use Rattle.line_io.specs.Inputs.{Input}
 use Rattle.definitions.specs.declared.limits.TheConstants.{MOST_LINES}
-use Rattle.drive_command.specs.declared.driver.TheConstants.{LONGEST_PIECE}
+use Rattle.definitions.specs.declared.limits.TheConstants.{LONGEST_PIECE}
 use Rattle.drive_command.specs.declared.readers.TheConstants.{READERS}
 use Rattle.drive_command.specs.declared.outcomes.Outcome.{Outcome}
 use Rattle.drive_command.specs.declared.outcomes.Outcome.TheVariants.{Bad, AtOnce, Bytes}

@@ -11,8 +11,8 @@ use crate::driver::Driver;
 use crate::outcomes::{Outcome, is_last};
 use crate::printing::{put_answered, put_part};
 use definitions::PlayerId;
-use definitions::limits::MOST_LINES;
-use line_io::{LONGEST_LINE, Written};
+use definitions::limits::{LONGEST_LINE, MOST_LINES};
+use line_io::Written;
 use run_frame::{LoopTurn, Status, TextName};
 use station::Sink;
 

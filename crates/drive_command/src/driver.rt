@@ -8,7 +8,7 @@ ghost use Rattle.definitions.specs.Findings.{is_clean};
 ghost use Rattle.definitions.specs.Answers.{got_answer, place_of};
 ghost use Rattle.definitions.specs.Steps.{after_choice, after_got};
 ghost use Rattle.script_grammar.specs.Grammar.{IsFew, is_bad};
-ghost use Rattle.drive_command.specs.Driven.{fresh_state, reader_of, state_with_log};
+ghost use Rattle.drive_command.specs.Driven.{fresh_state, last_reader, reader_of, state_with_log};
 ghost use Rattle.drive_command.specs.Coming.{coming_text, log_behind_frame};
 ghost use Rattle.drive_command.specs.Drive.{said_behind};
 ghost use Rattle.drive_command.specs.Outcomes.{driven_from, bytes_from, rest_from, part_text, is_last, AnswersBy, Counts, HasBefore, MayCome, Unless};
@@ -16,17 +16,13 @@ ghost use Rattle.run_frame.specs.Frame.{after_text};
 ghost use Rattle.line_io.specs.Inputs.{Input, Line};
 
 use crate::outcomes::{Answered, Arrival, Outcome, Part, Reply};
-use crate::readers::Readers;
-use definitions::limits::MOST_LINES;
+use crate::readers::{READERS, Readers, last_reader};
+use definitions::limits::{LONGEST_LINE, LONGEST_PIECE, MOST_LINES};
 use definitions::{GotAnswer, Move, Nonce, OwnFault, PlayerId, TurnFrame};
-use line_io::LONGEST_LINE;
 use peer_core::{Peer, is_logged};
 use script_grammar::{DriveLine, read_line};
 use std::marker::Model;
 use wire_frames::{FedWhat, Frame};
-
-/// The most bytes that a line brings from a player.
-pub(crate) const LONGEST_PIECE: usize = 512;
 
 /// Lets the peer's player choose, and then makes what the peer may make by itself. A choice that is refused changes nothing.
 fn choose_and_advance(peer: &mut Peer, mv: Move, nonce: Nonce) -> Option<OwnFault>
@@ -67,7 +63,7 @@ impl Model for Driver {
     ghost use Rattle.wire_frames.specs.Reading.{at_start};
     ghost use Rattle.drive_command.specs.Driven.{Driven};
     ghost use Rattle.definitions.specs.declared.limits.TheConstants.{MOST_LINES};
-    ghost use Rattle.drive_command.specs.declared.driver.TheConstants.{LONGEST_PIECE};
+    ghost use Rattle.definitions.specs.declared.limits.TheConstants.{LONGEST_PIECE};
 
     ghost Value = { Driven };
 
@@ -107,14 +103,16 @@ impl Driver {
     #[tactic(auto, unfolding(crate::specs::Drive::said_behind))]
     fn said(&self, line: &[u8]) -> DriveLine
         requires { length line.now ≤ LONGEST_LINE }
-        ensures value { result ≡ said_behind self.now.lines line.now }
-        ensures known { IsFew result }
+        ensures value { result ≡ said_behind self.now.game self.now.lines line.now }
+        ensures known { IsFew (last_reader self.now.game) result }
+        ensures readers { last_reader self.now.game < READERS }
         ensures few { Unless (is_bad result) (self.now.lines < MOST_LINES) }
     {
+        let last = last_reader(self.peer.session());
         if self.lines >= MOST_LINES {
             return DriveLine::Bad;
         }
-        read_line(line)
+        read_line(last, line)
     }
 
     /// Counts a line, which may bring `LONGEST_PIECE` bytes from any player.

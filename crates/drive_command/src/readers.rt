@@ -3,15 +3,29 @@
 ghost use Rattle.std.specs.Prelude.{◌≡◌, ◌<◌, ◌+◌, ◌≤◌, ◌^◌, length, drop, get_or, replicate};
 ghost use Rattle.wire_frames.specs.Reading.{at_start, IsFedSo};
 ghost use Rattle.wire_frames.specs.Streams.{given_of, given_on};
-ghost use Rattle.drive_command.specs.Driven.{with_reader};
+ghost use Rattle.drive_command.specs.Driven.{last_reader, with_reader};
 
 use definitions::PlayerId;
+use definitions::limits::{MOST_PLAYERS, MOST_PLAYERS_AT_FIRST};
+use grid_world::Session;
 use std::array::from_fn;
 use std::marker::Model;
 use wire_frames::{Fed, FrameReader};
 
-/// How many readers there are: one for each player that a session may have, 0 to 15.
-pub(crate) const READERS: usize = 16;
+/// How many readers there are: one for each player that a session may have.
+pub(crate) const READERS: usize = MOST_PLAYERS as usize;
+
+/// The last player whose bytes a script may bring: the last that a session of this version may have.
+pub(crate) fn last_reader(session: &Session) -> PlayerId
+    ensures value { result ≡ last_reader session.now }
+    ensures known { result < READERS }
+{
+    if session.version() == 1 {
+        MOST_PLAYERS_AT_FIRST - 1
+    } else {
+        MOST_PLAYERS - 1
+    }
+}
 
 /// The readers of the players.
 #[derive(Drop)]

@@ -4,10 +4,11 @@ ghost use Rattle.std.specs.Prelude.{◌≡◌, map, option_map};
 ghost use Rattle.drive_command.specs.Words.{driving_in, driving_named, driving_said};
 
 use definitions::PlayerId;
+use definitions::limits::MOST_PLAYERS;
 use script_grammar::read_number;
 
-/// The number of the last player that a session may have.
-const LAST_PLAYER: u32 = 15;
+/// The number of the last player that a session of any version may have.
+const LAST_PLAYER: u32 = MOST_PLAYERS as u32 - 1;
 
 /// What the words say: the session's file, the player, and the file of a log to go on from, if one is named.
 #[derive(Clone, Copy)]

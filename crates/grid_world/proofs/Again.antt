@@ -1,32 +1,34 @@
 -- What is spelled is read: the text of a session is read as that session.
-use Rattle.std.proofs.Common.{◌≡◌, ℕ, suc, ◌+◌, ◌^◌, ◌≤◌, ◌<◌, true, false, List, [], ◌∷◌, ◌++◌, length, map, Option, Some, None, Ok, refl, sym, ap, ◌∙◌, arith}
-use Rattle.std.specs.Prelude.{codes, not, ◌&&◌, nat_le, nat_lt, IsTrue}
-use Rattle.std.proofs.lemmas.Bool.{eq-eqb, le-leb, ltb-true, and_parts, and_from, not-true}
+use Rattle.std.proofs.Common.{◌≡◌, ℕ, suc, ◌+◌, ◌^◌, ◌≤◌, ◌<◌, Bool, true, false, List, [], ◌∷◌, ◌++◌, length, map, Option, Some, None, Ok, refl, sym, ap, ◌∙◌, append_assoc, arith, inl, inr}
+use Rattle.std.specs.Prelude.{codes, not, ◌*◌, ◌==◌, ◌&&◌, nat_le, nat_lt, IsTrue}
+use Rattle.std.proofs.lemmas.Bool.{cases_Bool, eq-eqb, eqb-true, le-leb, ltb-true, and_parts, and_from, not-true, false≢true}
 use Rattle.definitions.specs.declared.world.Cell.{Cell}
+use Rattle.definitions.specs.declared.world.Seat.{Seat}
+use Rattle.definitions.specs.declared.limits.TheConstants.{FARTHEST_REACH, FEWEST_PLAYERS, LAST_VERSION, MOST_AHEAD, MOST_CHARGE, MOST_PLAYERS, MOST_PLAYERS_AT_FIRST, MOST_SPEED, MOST_TURNS, MOST_TURNS_AT_FIRST, MOST_TURNS_OF_ALL, WIDEST_BLAST, WIDEST_SIDE, WIDEST_SIDE_AT_FIRST}
 use Rattle.definitions.specs.Lists.{EachIs}
 use Rattle.definitions.specs.World as world
-use Rattle.definitions.specs.World.{Ground, Seat, Game, has_cell, is_inside, is_wall, is_open, is_before_first, in_row_order, players_of}
-use Rattle.grid_world.specs.Lines.{line_of, ended_lines_of, joined}
-use Rattle.grid_world.specs.Text.{head_lines, player_lines, wall_line, end_line, session_lines, session_text}
-use Rattle.grid_world.specs.Sessions.{IsSession, GoesByTheRules, seat_at, game_of}
-use Rattle.grid_world.specs.Reading.{version_at, sides_at, steps_at, charges_at, turns_at, players_at, Head, head_at, start_at, starts_at, is_after, is_within, wall_at, walls_at, Said, said_by}
-use Rattle.grid_world.proofs.Forms.{one_of-spelled, two_of-spelled, three_of-spelled}
-use Rattle.grid_world.proofs.Joined.{has_no_lf, ended_lines_of-line}
-use Rattle.grid_world.proofs.Taken.{are_sides, are_steps, are_charges, head_pieces, player_pieces, follow, follow-Some}
-use Rattle.grid_world.proofs.Kept.{apart_turned}
+use Rattle.definitions.specs.World.{Ground, Game, has_cell, is_inside, is_wall, is_open, is_before_first, in_row_order, players_of}
+use Rattle.text_lines.specs.Lines.{line_of, ended_lines_of, joined}
+use Rattle.grid_world.specs.Text.{own_numbers, player_line, player_lines, wall_line, end_line, session_lines, session_text}
+use Rattle.grid_world.specs.Sessions.{IsSession, IsSeat, GoesByTheRules, most_players, most_turns, starts_of, widest_side}
+use Rattle.grid_world.specs.Reading.{version_at, sides_at, steps_at, charges_at, turns_at, ahead_at, first_player_line, players_at, Head, head_at, seat_at, seats_at, is_after, is_within, wall_at, walls_at, Said, said_by}
+use Rattle.text_lines.proofs.Forms.{one_of-spelled, two_of-spelled, three_of-spelled, three_or_five_of-three, three_or_five_of-five}
+use Rattle.text_lines.proofs.Joined.{has_no_lf, AreSmall, ended_lines_of-line}
+use Rattle.grid_world.proofs.Taken.{are_sides, are_steps, are_charges, ahead_pieces, head_pieces, follow, follow-Some}
+use Rattle.grid_world.proofs.Kept.{apart_turned, limit_by}
 
 from_within : (low high n : ℕ) → (low ≤ n) × (n ≤ high) → is_within low high n ≡ true
 from_within low high n h = and_from (nat_le low n) (nat_le n high) (le-leb low n h.0) (le-leb n high h.1)
 
--- ---- the first six lines
+-- ---- the lines before those of the players
 
-version_again : (rest : List (List ℕ)) → version_at (line_of (codes "playout") (1 ∷ []) ∷ rest) ≡ Ok rest
+version_again : (v : ℕ) (rest : List (List ℕ)) → v < 2 ^ 32 → is_within 1 LAST_VERSION v ≡ true → version_at (line_of (codes "playout") (v ∷ []) ∷ rest) ≡ Ok (v, rest)
 unfolding version_at
-version_again rest = rw (one_of-spelled (codes "playout") 1 (omega arith)) refl
+version_again v rest small kept = rw (one_of-spelled (codes "playout") v small, kept) refl
 
-sides_again : (w h : ℕ) (rest : List (List ℕ)) → w < 2 ^ 32 → h < 2 ^ 32 → are_sides (w, h) ≡ true → sides_at (line_of (codes "grid") (w ∷ h ∷ []) ∷ rest) ≡ Ok ((w, h), rest)
+sides_again : (v w h : ℕ) (rest : List (List ℕ)) → w < 2 ^ 32 → h < 2 ^ 32 → are_sides v (w, h) ≡ true → sides_at v (line_of (codes "grid") (w ∷ h ∷ []) ∷ rest) ≡ Ok ((w, h), rest)
 unfolding sides_at
-sides_again w h rest w_small h_small kept = rw (two_of-spelled (codes "grid") w h w_small h_small, kept) refl
+sides_again v w h rest w_small h_small kept = rw (two_of-spelled (codes "grid") w h w_small h_small, kept) refl
 
 steps_again : (a b c : ℕ) (rest : List (List ℕ)) → a < 2 ^ 32 → b < 2 ^ 32 → c < 2 ^ 32 → are_steps (a, b, c) ≡ true → steps_at (line_of (codes "rules") (a ∷ b ∷ c ∷ []) ∷ rest) ≡ Ok ((a, b, c), rest)
 unfolding steps_at
@@ -36,71 +38,135 @@ charges_again : (a b c : ℕ) (rest : List (List ℕ)) → a < 2 ^ 32 → b < 2 
 unfolding charges_at
 charges_again a b c rest a_small b_small c_small kept = rw (three_of-spelled (codes "charge") a b c a_small b_small c_small, kept) refl
 
-turns_again : (n : ℕ) (rest : List (List ℕ)) → n < 2 ^ 32 → is_within 1 4096 n ≡ true → turns_at (line_of (codes "turns") (n ∷ []) ∷ rest) ≡ Ok (n, rest)
+turns_again : (v n : ℕ) (rest : List (List ℕ)) → n < 2 ^ 32 → is_within 1 (most_turns v) n ≡ true → turns_at v (line_of (codes "turns") (n ∷ []) ∷ rest) ≡ Ok (n, rest)
 unfolding turns_at
-turns_again n rest small kept = rw (one_of-spelled (codes "turns") n small, kept) refl
+turns_again v n rest small kept = rw (one_of-spelled (codes "turns") n small, kept) refl
 
-players_again : (n : ℕ) (rest : List (List ℕ)) → n < 2 ^ 32 → is_within 2 16 n ≡ true → players_at (line_of (codes "players") (n ∷ []) ∷ rest) ≡ Ok (n, rest)
+ahead_again : (v n : ℕ) (rest : List (List ℕ)) → n < 2 ^ 32 → is_within 1 MOST_AHEAD n ≡ true → (v ≡ 1 → n ≡ 1) → ahead_at v (ahead_pieces v n ++ rest) ≡ Ok (n, rest)
+unfolding ahead_at
+ahead_again v n rest small kept first =
+    elim (cases_Bool (v == 1)) [
+      | inl is ↦ rw is (ap (λ (m : ℕ). Ok (m, rest)) (sym (first (eqb-true v 1 is))))
+      | inr other ↦ rw (other, one_of-spelled (codes "ahead") n small, kept) refl
+    ]
+
+players_again : (v t n : ℕ) (rest : List (List ℕ)) → n < 2 ^ 32 → is_within FEWEST_PLAYERS (most_players v) n ≡ true → nat_le (n * t) MOST_TURNS_OF_ALL ≡ true
+    → players_at v t (line_of (codes "players") (n ∷ []) ∷ rest) ≡ Ok (n, rest)
 unfolding players_at
-players_again n rest small kept = rw (one_of-spelled (codes "players") n small, kept) refl
+players_again v t n rest small kept few = rw (one_of-spelled (codes "players") n small, kept, few) refl
 
--- the head that the first six lines of a session say
+-- the head that the lines of a session say before those of the players
 abbrev pub head_of : Game → Head
-head_of game = record { grid = record { width = game.grid.width; height = game.grid.height; walls = [] }; rules = game.rules; turns = game.turns; players = players_of game }
+head_of game = record { version = game.version; grid = record { width = game.grid.width; height = game.grid.height; walls = [] }; rules = game.rules; turns = game.turns; ahead = game.ahead; players = players_of game }
 
 pub head_again : (game : Game) (rest : List (List ℕ)) → IsSession game → head_at (head_pieces (head_of game) ++ rest) ≡ Ok (head_of game, rest)
 unfolding head_at
 head_again game rest facts =
+    let v : ℕ = game.version in
     let g = facts.grid in
-    let sides : are_sides (game.grid.width, game.grid.height) ≡ true = and_from (is_within 1 256 game.grid.width) (is_within 1 256 game.grid.height) (from_within 1 256 game.grid.width g.width) (from_within 1 256 game.grid.height g.height) in
+    let width = from_within 1 (widest_side v) game.grid.width (g.width.0, limit_by v WIDEST_SIDE_AT_FIRST WIDEST_SIDE game.grid.width (λ is. (facts.of_version_1 is).width) g.width.1) in
+    let height = from_within 1 (widest_side v) game.grid.height (g.height.0, limit_by v WIDEST_SIDE_AT_FIRST WIDEST_SIDE game.grid.height (λ is. (facts.of_version_1 is).height) g.height.1) in
+    let sides : are_sides v (game.grid.width, game.grid.height) ≡ true = and_from _ _ width height in
     let r = game.rules in
-    let steps : are_steps (r.speed, r.reach, r.blast) ≡ true = and_from (is_within 1 8 r.speed) (nat_le r.reach 8 && nat_le r.blast 2) (from_within 1 8 r.speed facts.speed) (and_from (nat_le r.reach 8) (nat_le r.blast 2) (le-leb r.reach 8 facts.reach) (le-leb r.blast 2 facts.blast)) in
-    let start : r.start_charge ≤ 255 = omega (arith, facts.start_charge, facts.cap) in
+    let steps : are_steps (r.speed, r.reach, r.blast) ≡ true = and_from _ _ (from_within 1 MOST_SPEED r.speed facts.speed) (and_from _ _ (le-leb r.reach FARTHEST_REACH facts.reach) (le-leb r.blast WIDEST_BLAST facts.blast)) in
+    let start : r.start_charge ≤ MOST_CHARGE = omega (arith, facts.start_charge, facts.cap) in
     let charges : are_charges (r.start_charge, r.cap, r.cost) ≡ true =
-    and_from (nat_le r.start_charge 255) (nat_le r.cap 255 && (nat_le r.cost 255 && nat_le r.start_charge r.cap)) (le-leb r.start_charge 255 start)
-    (and_from (nat_le r.cap 255) (nat_le r.cost 255 && nat_le r.start_charge r.cap) (le-leb r.cap 255 facts.cap)
-    (and_from (nat_le r.cost 255) (nat_le r.start_charge r.cap) (le-leb r.cost 255 facts.cost) (le-leb r.start_charge r.cap facts.start_charge))) in
+    and_from _ _ (le-leb r.start_charge MOST_CHARGE start) (and_from _ _ (le-leb r.cap MOST_CHARGE facts.cap) (and_from _ _ (le-leb r.cost MOST_CHARGE facts.cost) (le-leb r.start_charge r.cap facts.start_charge))) in
+    let turns = from_within 1 (most_turns v) game.turns (facts.turns.0, limit_by v MOST_TURNS_AT_FIRST MOST_TURNS game.turns (λ is. (facts.of_version_1 is).turns) facts.turns.1) in
+    let players = from_within FEWEST_PLAYERS (most_players v) (players_of game) (facts.players.0, limit_by v MOST_PLAYERS_AT_FIRST MOST_PLAYERS (players_of game) (λ is. (facts.of_version_1 is).players) facts.players.1) in
     rw (
-      version_again _,
-      sides_again game.grid.width game.grid.height _ (omega (arith, g.width.1)) (omega (arith, g.height.1)) sides,
+      version_again v _ (omega (arith, facts.version.1)) (from_within 1 LAST_VERSION v facts.version),
+      sides_again v game.grid.width game.grid.height _ (omega (arith, g.width.1)) (omega (arith, g.height.1)) sides,
       steps_again r.speed r.reach r.blast _ (omega (arith, facts.speed.1)) (omega (arith, facts.reach)) (omega (arith, facts.blast)) steps,
       charges_again r.start_charge r.cap r.cost _ (omega (arith, start)) (omega (arith, facts.cap)) (omega (arith, facts.cost)) charges,
-      turns_again game.turns _ (omega (arith, facts.turns.1)) (from_within 1 4096 game.turns facts.turns),
-      players_again (players_of game) rest (omega (arith, facts.players.1)) (from_within 2 16 (players_of game) facts.players),
+      turns_again v game.turns _ (omega (arith, facts.turns.1)) turns,
+      append_assoc (ahead_pieces v game.ahead) (line_of (codes "players") (players_of game ∷ []) ∷ []) rest,
+      ahead_again v game.ahead _ (omega (arith, facts.ahead.1)) (from_within 1 MOST_AHEAD game.ahead facts.ahead) (λ is. (facts.of_version_1 is).ahead),
+      players_again v game.turns (players_of game) rest (omega (arith, facts.players.1)) players (le-leb _ _ facts.turns_of_all),
     ) refl
 
 -- ---- players and walls
 
 -- a cell inside a grid has small numbers
-small_cell : (grid : Ground) (c : Cell) → grid.width ≤ 256 → grid.height ≤ 256 → is_inside grid c ≡ true → (c.x < 2 ^ 32) × (c.y < 2 ^ 32)
+small_cell : (grid : Ground) (c : Cell) → grid.width ≤ WIDEST_SIDE → grid.height ≤ WIDEST_SIDE → is_inside grid c ≡ true → (c.x < 2 ^ 32) × (c.y < 2 ^ 32)
 small_cell grid c wide high inside =
     let both = and_parts (nat_lt c.x grid.width) (nat_lt c.y grid.height) inside in
     let left : c.x < grid.width = ltb-true c.x grid.width both.0 in
     let above : c.y < grid.height = ltb-true c.y grid.height both.1 in
     (omega arith, omega arith)
 
-start_again : (grid : Ground) (c : Cell) (q : ℕ) (rest : List (List ℕ)) → grid.width ≤ 256 → grid.height ≤ 256 → q < 2 ^ 32 → is_inside grid c ≡ true
-    → start_at grid q (line_of (codes "player") (q ∷ c.x ∷ c.y ∷ []) ∷ rest) ≡ Ok (c, rest)
-unfolding start_at
-start_again grid c q rest wide high small inside =
-    let cell = small_cell grid c wide high inside in
-    rw (three_of-spelled (codes "player") q c.x c.y small cell.0 cell.1, eq-eqb q q refl, inside) refl
+-- a player walks and strikes as the rules say
+abbrev goes_by : world.Rules → Seat → Bool
+goes_by rules s = (s.speed == rules.speed) && (s.reach == rules.reach)
 
-pub starts_again : (grid : Ground) (starts : List Cell) (q : ℕ) (rest : List (List ℕ)) → grid.width ≤ 256 → grid.height ≤ 256 → q + length starts ≤ 16 → EachIs (λ c. IsTrue (is_inside grid c)) starts
-    → starts_at grid (length starts) q (player_pieces starts q ++ rest) ≡ Ok (starts, rest)
-unfolding starts_at
-starts_again grid [] q rest wide high few inside = refl
-starts_again grid (s ∷ starts) q rest wide high few inside =
-    rw (start_again grid s q (player_pieces starts (suc q) ++ rest) wide high (omega (arith, few)) inside.0, starts_again grid starts (suc q) rest wide high (omega (arith, few)) inside.1) refl
+-- a seat whose player has no numbers of its own
+seat_alike : (rules : world.Rules) (s : Seat) → goes_by rules s ≡ true → record { start = s.start; speed = rules.speed; reach = rules.reach } ≡ s
+seat_alike rules s is =
+    let both = and_parts (s.speed == rules.speed) (s.reach == rules.reach) is in
+    let with_speed : ℕ → Seat = λ n. record { start = s.start; speed = n; reach = rules.reach } in
+    let with_reach : ℕ → Seat = λ n. record { start = s.start; speed = s.speed; reach = n } in
+    ap with_speed (sym (eqb-true s.speed rules.speed both.0)) ∙ ap with_reach (sym (eqb-true s.reach rules.reach both.1))
 
-wall_again : (grid : Ground) (starts : List Cell) (before : Option Cell) (n : ℕ) (c : Cell) → grid.width ≤ 256 → grid.height ≤ 256
+-- in version 1 no player has numbers of its own
+not_at_first : (version : ℕ) (rules : world.Rules) (s : Seat) → (version ≡ 1 → GoesByTheRules rules s) → goes_by rules s ≡ false → (version == 1) ≡ false
+not_at_first version rules s first own =
+    elim (cases_Bool (version == 1)) [
+      | inl is ↦
+          let by = first (eqb-true version 1 is) in
+          absurd (false≢true (sym own ∙ and_from (s.speed == rules.speed) (s.reach == rules.reach) (eq-eqb s.speed rules.speed by.speed) (eq-eqb s.reach rules.reach by.reach)))
+      | inr other ↦ other
+    ]
+
+-- what is asked of a seat, so that its line is read again
+pub record MaySit (head : Head) (s : Seat) : Type 0 where
+  pub inside : is_inside head.grid s.start ≡ true
+  pub within : IsSeat s
+  pub first : head.version ≡ 1 → GoesByTheRules head.rules s
+
+-- the grid of the head is one of a session
+pub record IsRoom (head : Head) : Type 0 where
+  pub wide : head.grid.width ≤ WIDEST_SIDE
+  pub high : head.grid.height ≤ WIDEST_SIDE
+
+seat_again : (head : Head) (s : Seat) (q : ℕ) (rest : List (List ℕ)) → IsRoom head → q < 2 ^ 32 → MaySit head s → seat_at head q (player_line head.rules s q ∷ rest) ≡ Ok (s, rest)
+unfolding seat_at
+seat_again head s q rest room small may =
+    let cell = small_cell head.grid s.start room.wide room.high may.inside in
+    elim (cases_Bool (goes_by head.rules s)) [
+      | inl alike ↦
+          rw (alike, three_or_five_of-three (codes "player") q s.start.x s.start.y small cell.0 cell.1, eq-eqb q q refl, may.inside)
+          (ap (λ (t : Seat). Ok (t, rest)) (seat_alike head.rules s alike))
+      | inr own ↦
+          let by_version = not_at_first head.version head.rules s may.first own in
+          let speed = from_within 1 MOST_SPEED s.speed may.within.speed in
+          let reach = le-leb s.reach FARTHEST_REACH may.within.reach in
+          rw (
+            own,
+            three_or_five_of-five (codes "player") q s.start.x s.start.y s.speed s.reach small cell.0 cell.1 (omega (arith, may.within.speed.1)) (omega (arith, may.within.reach)),
+            by_version,
+            eq-eqb q q refl,
+            may.inside,
+            speed,
+            reach,
+            own,
+          ) refl
+    ]
+
+pub seats_again : (head : Head) (seats : List Seat) (q : ℕ) (rest : List (List ℕ)) → IsRoom head → q + length seats ≤ MOST_PLAYERS → EachIs (MaySit head) seats
+    → seats_at head (length seats) q (player_lines head.rules seats q ++ rest) ≡ Ok (seats, rest)
+unfolding seats_at
+seats_again head [] q rest room few may = refl
+seats_again head (s ∷ seats) q rest room few may =
+    rw (seat_again head s q (player_lines head.rules seats (suc q) ++ rest) room (omega (arith, few)) may.0, seats_again head seats (suc q) rest room (omega (arith, few)) may.1) refl
+
+wall_again : (grid : Ground) (starts : List Cell) (before : Option Cell) (n : ℕ) (c : Cell) → grid.width ≤ WIDEST_SIDE → grid.height ≤ WIDEST_SIDE
     → is_inside grid c ≡ true → is_after before c ≡ true → has_cell starts c ≡ false → wall_at grid starts before n (wall_line c) ≡ Ok c
 unfolding wall_at
 wall_again grid starts before n c wide high inside after apart =
     let cell = small_cell grid c wide high inside in
     rw (two_of-spelled (codes "wall") c.x c.y cell.0 cell.1, inside, after, apart) refl
 
-pub walls_again : (grid : Ground) (starts : List Cell) (walls : List Cell) (before : Option Cell) (n : ℕ) → grid.width ≤ 256 → grid.height ≤ 256
+pub walls_again : (grid : Ground) (starts : List Cell) (walls : List Cell) (before : Option Cell) (n : ℕ) → grid.width ≤ WIDEST_SIDE → grid.height ≤ WIDEST_SIDE
     → EachIs (λ c. IsTrue (is_inside grid c)) walls → EachIs (λ c. has_cell starts c ≡ false) walls → in_row_order walls ≡ true → follow before walls ≡ true
     → walls_at grid starts (map wall_line walls ++ (end_line ∷ [])) before n ≡ Ok walls
 unfolding walls_at
@@ -111,60 +177,27 @@ walls_again grid starts (c ∷ walls) before n wide high inside apart order afte
 
 -- ---- the session
 
--- the starts of the seats
-abbrev pub starts_of : List Seat → List Cell
-starts_of seats = map (λ s. s.start) seats
+-- what is asked of seats holds of those of a session
+seats_may : (head : Head) (seats : List Seat) (grid : Ground) → EachIs IsSeat seats → EachIs (λ s. IsTrue (is_open grid s.start)) seats → (head.version ≡ 1 → EachIs (GoesByTheRules head.rules) seats)
+    → grid.width ≡ head.grid.width → grid.height ≡ head.grid.height → EachIs (MaySit head) seats
+seats_may head [] grid within apart first wide high = tt
+seats_may head (s ∷ seats) grid within apart first wide high =
+    let inside : is_inside grid s.start ≡ true = (and_parts (is_inside grid s.start) (not (is_wall grid s.start)) apart.0).0 in
+    (record { inside = rw (← wide, ← high) inside; within = within.0; first = λ is. (first is).0 }, seats_may head seats grid within.1 apart.1 (λ is. (first is).1) wide high)
 
-pieces_seats : (seats : List Seat) (q : ℕ) → player_lines seats q ≡ player_pieces (starts_of seats) q
-pieces_seats [] q = refl
-pieces_seats (s ∷ seats) q = ap (λ (ls : List (List ℕ)). line_of (codes "player") (q ∷ s.start.x ∷ s.start.y ∷ []) ∷ ls) (pieces_seats seats (suc q))
+game_may : (game : Game) → IsSession game → EachIs (MaySit (head_of game)) game.seats
+game_may game facts = seats_may (head_of game) game.seats game.grid facts.seats facts.starts (λ is. (facts.of_version_1 is).seats) refl refl
 
-count_starts : (seats : List Seat) → length (starts_of seats) ≡ length seats
-count_starts [] = refl
-count_starts (s ∷ seats) = ap suc (count_starts seats)
-
-starts_inside : (grid : Ground) (seats : List Seat) → EachIs (λ s. IsTrue (is_open grid s.start)) seats → EachIs (λ c. IsTrue (is_inside grid c)) (starts_of seats)
-starts_inside grid [] each = tt
-starts_inside grid (s ∷ seats) each = ((and_parts (is_inside grid s.start) (not (is_wall grid s.start)) each.0).0, starts_inside grid seats each.1)
+game_room : (game : Game) → IsSession game → IsRoom (head_of game)
+game_room game facts = record { wide = facts.grid.width.1; high = facts.grid.height.1 }
 
 starts_apart : (grid : Ground) (seats : List Seat) → EachIs (λ s. IsTrue (is_open grid s.start)) seats → EachIs (λ c. has_cell grid.walls c ≡ false) (starts_of seats)
 starts_apart grid [] each = tt
 starts_apart grid (s ∷ seats) each = (not-true (is_wall grid s.start) (and_parts (is_inside grid s.start) (not (is_wall grid s.start)) each.0).1, starts_apart grid seats each.1)
 
-seat_is : (rules : world.Rules) (s : Seat) → GoesByTheRules rules s → seat_at rules s.start ≡ s
-seat_is rules s by =
-    let with_speed : ℕ → Seat = λ n. record { start = s.start; speed = n; reach = rules.reach } in
-    let with_reach : ℕ → Seat = λ n. record { start = s.start; speed = s.speed; reach = n } in
-    ap with_speed (sym by.speed) ∙ ap with_reach (sym by.reach)
-
-seats_are : (rules : world.Rules) (seats : List Seat) → EachIs (GoesByTheRules rules) seats → map (seat_at rules) (starts_of seats) ≡ seats
-seats_are rules [] each = refl
-seats_are rules (s ∷ seats) each =
-    ap (λ (first : Seat). first ∷ map (seat_at rules) (starts_of seats)) (seat_is rules s each.0) ∙ ap (λ (others : List Seat). s ∷ others) (seats_are rules seats each.1)
-
 -- what the text of a session says
 abbrev pub said_of : Game → Said
-said_of game = record { grid = game.grid; rules = game.rules; turns = game.turns; starts = starts_of game.seats }
-
-pub game_is : (game : Game) (id : List ℕ) → IsSession game → game.id ≡ id → game_of id game.grid game.rules game.turns (starts_of game.seats) ≡ game
-game_is game id facts same =
-    let made : ℕ → List ℕ → ℕ → List Seat → Game = λ version digest ahead seats. record { version = version; id = digest; grid = game.grid; rules = game.rules; turns = game.turns; ahead = ahead; seats = seats } in
-    ap (λ (n : ℕ). made n id 1 (map (seat_at game.rules) (starts_of game.seats))) (sym facts.version)
-    ∙ ap (λ (d : List ℕ). made game.version d 1 (map (seat_at game.rules) (starts_of game.seats))) (sym same)
-    ∙ ap (λ (n : ℕ). made game.version game.id n (map (seat_at game.rules) (starts_of game.seats))) (sym facts.ahead)
-    ∙ ap (λ (s : List Seat). made game.version game.id game.ahead s) (seats_are game.rules game.seats facts.seats)
-
-first_lines : (game : Game) → IsSession game → head_lines game ≡ head_pieces (head_of game)
-first_lines game facts =
-    ap (λ (v : ℕ). line_of (codes "playout") (v ∷ []) ∷ line_of (codes "grid") (game.grid.width ∷ game.grid.height ∷ []) ∷ line_of (codes "rules") (game.rules.speed ∷ game.rules.reach ∷ game.rules.blast ∷ [])
-    ∷ line_of (codes "charge") (game.rules.start_charge ∷ game.rules.cap ∷ game.rules.cost ∷ []) ∷ line_of (codes "turns") (game.turns ∷ []) ∷ line_of (codes "players") (players_of game ∷ []) ∷ []) facts.version
-
--- the lines of a session, by the starts of its seats
-lines_again : (game : Game) → IsSession game → session_lines game ≡ head_pieces (head_of game) ++ (player_pieces (starts_of game.seats) 0 ++ (map wall_line game.grid.walls ++ (end_line ∷ [])))
-lines_again game facts =
-    let last : List (List ℕ) = map wall_line game.grid.walls ++ (end_line ∷ []) in
-    ap (λ (ls : List (List ℕ)). ls ++ (player_lines game.seats 0 ++ last)) (first_lines game facts)
-    ∙ ap (λ (ls : List (List ℕ)). head_pieces (head_of game) ++ (ls ++ last)) (pieces_seats game.seats 0)
+said_of game = record { version = game.version; grid = game.grid; rules = game.rules; turns = game.turns; ahead = game.ahead; seats = game.seats }
 
 pub said_again : (game : Game) → IsSession game → said_by (session_lines game) ≡ Ok (said_of game)
 unfolding said_by
@@ -172,14 +205,13 @@ said_again game facts =
     let grid : Ground = (head_of game).grid in
     let starts : List Cell = starts_of game.seats in
     let last : List (List ℕ) = map wall_line game.grid.walls ++ (end_line ∷ []) in
-    let count : length starts ≡ players_of game = count_starts game.seats in
-    let one : head_at (head_pieces (head_of game) ++ (player_pieces starts 0 ++ last)) ≡ Ok (head_of game, player_pieces starts 0 ++ last) = head_again game (player_pieces starts 0 ++ last) facts in
-    let two : starts_at grid (length starts) 0 (player_pieces starts 0 ++ last) ≡ Ok (starts, last) =
-    starts_again grid starts 0 last facts.grid.width.1 facts.grid.height.1 (omega (arith, count, facts.players.1)) (starts_inside game.grid game.seats facts.starts) in
-    let two' : starts_at grid (players_of game) 0 (player_pieces starts 0 ++ last) ≡ Ok (starts, last) = rw (← count) two in
-    let three : walls_at grid starts last None (7 + players_of game) ≡ Ok game.grid.walls =
-    walls_again grid starts game.grid.walls None (7 + players_of game) facts.grid.width.1 facts.grid.height.1 facts.grid.inside (apart_turned starts game.grid.walls (starts_apart game.grid game.seats facts.starts)) facts.grid.walls (any_follows game.grid.walls) in
-    ap said_by (lines_again game facts) ∙ rw (one, two', three) refl
+    let players : List (List ℕ) = player_lines game.rules game.seats 0 in
+    let n : ℕ = first_player_line game.version + players_of game in
+    let one : head_at (head_pieces (head_of game) ++ (players ++ last)) ≡ Ok (head_of game, players ++ last) = head_again game (players ++ last) facts in
+    let two : seats_at (head_of game) (players_of game) 0 (players ++ last) ≡ Ok (game.seats, last) = seats_again (head_of game) game.seats 0 last (game_room game facts) (omega (arith, facts.players.1)) (game_may game facts) in
+    let three : walls_at grid starts last None n ≡ Ok game.grid.walls =
+    walls_again grid starts game.grid.walls None n facts.grid.width.1 facts.grid.height.1 facts.grid.inside (apart_turned starts game.grid.walls (starts_apart game.grid game.seats facts.starts)) facts.grid.walls (any_follows game.grid.walls) in
+    rw (one, two, three) refl
   where
     any_follows : (cells : List Cell) → follow None cells ≡ true
     any_follows [] = refl
@@ -209,33 +241,44 @@ two_line name k m plain k_small m_small rest = ended_lines_of-line name (k ∷ m
 three_line : (name : List ℕ) (k m n : ℕ) → has_no_lf name ≡ true → k < 2 ^ 32 → m < 2 ^ 32 → n < 2 ^ 32 → IsLine (line_of name (k ∷ m ∷ n ∷ []))
 three_line name k m n plain k_small m_small n_small rest = ended_lines_of-line name (k ∷ m ∷ n ∷ []) rest plain (k_small, (m_small, (n_small, tt)))
 
+ahead_are : (game : Game) → IsSession game → EachIs IsLine (ahead_pieces game.version game.ahead)
+ahead_are game facts =
+    elim (cases_Bool (game.version == 1)) [
+      | inl is ↦ rw is tt
+      | inr other ↦ rw other (one_line (codes "ahead") game.ahead refl (omega (arith, facts.ahead.1)), tt)
+    ]
+
 head_are : (game : Game) → IsSession game → EachIs IsLine (head_pieces (head_of game))
 head_are game facts =
     let r = game.rules in
-    let g = facts.grid in (
-      one_line (codes "playout") 1 refl (omega arith),
+    let g = facts.grid in
+    let players : EachIs IsLine (line_of (codes "players") (players_of game ∷ []) ∷ []) = (one_line (codes "players") (players_of game) refl (omega (arith, facts.players.1)), tt) in (
+      one_line (codes "playout") game.version refl (omega (arith, facts.version.1)),
       (
         two_line (codes "grid") game.grid.width game.grid.height refl (omega (arith, g.width.1)) (omega (arith, g.height.1)),
         (
           three_line (codes "rules") r.speed r.reach r.blast refl (omega (arith, facts.speed.1)) (omega (arith, facts.reach)) (omega (arith, facts.blast)),
           (
             three_line (codes "charge") r.start_charge r.cap r.cost refl (omega (arith, facts.start_charge, facts.cap)) (omega (arith, facts.cap)) (omega (arith, facts.cost)),
-            (
-              one_line (codes "turns") game.turns refl (omega (arith, facts.turns.1)),
-              (one_line (codes "players") (players_of game) refl (omega (arith, facts.players.1)), tt),
-            ),
+            (one_line (codes "turns") game.turns refl (omega (arith, facts.turns.1)), each_append (ahead_pieces game.version game.ahead) _ (ahead_are game facts) players),
           ),
         ),
       ),
     )
 
-players_are : (grid : Ground) (starts : List Cell) (q : ℕ) → grid.width ≤ 256 → grid.height ≤ 256 → q + length starts ≤ 16 → EachIs (λ c. IsTrue (is_inside grid c)) starts → EachIs IsLine (player_pieces starts q)
-players_are grid [] q wide high few inside = tt
-players_are grid (s ∷ starts) q wide high few inside =
-    let cell = small_cell grid s wide high inside.0 in
-    (three_line (codes "player") q s.x s.y refl (omega (arith, few)) cell.0 cell.1, players_are grid starts (suc q) wide high (omega (arith, few)) inside.1)
+-- the player's own numbers are small
+own_small : (rules : world.Rules) (s : Seat) → IsSeat s → AreSmall (own_numbers rules s)
+own_small rules s within =
+    elim (cases_Bool (goes_by rules s)) [ inl alike ↦ rw alike tt | inr own ↦ rw own (omega (arith, within.speed.1), (omega (arith, within.reach), tt)) ]
 
-walls_are : (grid : Ground) (walls : List Cell) → grid.width ≤ 256 → grid.height ≤ 256 → EachIs (λ c. IsTrue (is_inside grid c)) walls → EachIs IsLine (map wall_line walls)
+players_are : (head : Head) (seats : List Seat) (q : ℕ) → IsRoom head → q + length seats ≤ MOST_PLAYERS → EachIs (MaySit head) seats → EachIs IsLine (player_lines head.rules seats q)
+players_are head [] q room few may = tt
+players_are head (s ∷ seats) q room few may =
+    let cell = small_cell head.grid s.start room.wide room.high may.0.inside in
+    let small : AreSmall (q ∷ s.start.x ∷ s.start.y ∷ own_numbers head.rules s) = (omega (arith, few), (cell.0, (cell.1, own_small head.rules s may.0.within))) in
+    ((λ rest. ended_lines_of-line (codes "player") (q ∷ s.start.x ∷ s.start.y ∷ own_numbers head.rules s) rest refl small), players_are head seats (suc q) room (omega (arith, few)) may.1)
+
+walls_are : (grid : Ground) (walls : List Cell) → grid.width ≤ WIDEST_SIDE → grid.height ≤ WIDEST_SIDE → EachIs (λ c. IsTrue (is_inside grid c)) walls → EachIs IsLine (map wall_line walls)
 walls_are grid [] wide high inside = tt
 walls_are grid (c ∷ walls) wide high inside =
     let cell = small_cell grid c wide high inside.0 in
@@ -244,12 +287,7 @@ walls_are grid (c ∷ walls) wide high inside =
 pub ended_lines_of-session_text : (game : Game) → IsSession game → ended_lines_of (session_text game) ≡ session_lines game
 unfolding session_text
 ended_lines_of-session_text game facts =
-    let starts : List Cell = starts_of game.seats in
-    let count : length starts ≡ players_of game = count_starts game.seats in
     let last : EachIs IsLine (end_line ∷ []) = ((λ rest. ended_lines_of-line (codes "end") [] rest refl tt), tt) in
     let behind = each_append (map wall_line game.grid.walls) (end_line ∷ []) (walls_are game.grid game.grid.walls facts.grid.width.1 facts.grid.height.1 facts.grid.inside) last in
-    let more = each_append (player_pieces starts 0) (map wall_line game.grid.walls ++ (end_line ∷ []))
-    (players_are game.grid starts 0 facts.grid.width.1 facts.grid.height.1 (omega (arith, count, facts.players.1)) (starts_inside game.grid game.seats facts.starts)) behind in
-    let all = each_append (head_pieces (head_of game)) (player_pieces starts 0 ++ (map wall_line game.grid.walls ++ (end_line ∷ []))) (head_are game facts) more in
-    let same = lines_again game facts in
-    ap (λ (ls : List (List ℕ)). ended_lines_of (joined ls)) same ∙ ended_lines_of-joined _ all ∙ sym same
+    let more = each_append (player_lines game.rules game.seats 0) (map wall_line game.grid.walls ++ (end_line ∷ [])) (players_are (head_of game) game.seats 0 (game_room game facts) (omega (arith, facts.players.1)) (game_may game facts)) behind in
+    ended_lines_of-joined _ (each_append (head_pieces (head_of game)) (player_lines game.rules game.seats 0 ++ (map wall_line game.grid.walls ++ (end_line ∷ []))) (head_are game facts) more)

@@ -1,36 +1,37 @@
 -- What reading a text answers, from what the text says.
-use Rattle.std.proofs.Common.{◌≡◌, ℕ, ◌+◌, List, None, Result, Ok, Err, refl, sym, ap, subst, ◌∙◌}
+use Rattle.std.proofs.Common.{◌≡◌, ℕ, List, Result, Ok, Err, refl, sym, ap, subst, ◌∙◌}
 use Rattle.std.specs.Prelude.{IfOk}
 use Rattle.sha2.specs.Sha256.{sha256}
 use Rattle.definitions.specs.declared.world.Cell.{Cell}
+use Rattle.definitions.specs.declared.world.Seat.{Seat}
 use Rattle.definitions.specs.World.{Game}
 use Rattle.grid_world.specs.declared.fault.SessionFault.{SessionFault}
 use Rattle.grid_world.specs.declared.fault.SessionFault.TheVariants.{At, Memory}
-use Rattle.grid_world.specs.Lines.{ended_lines_of, joined}
+use Rattle.text_lines.specs.Lines.{ended_lines_of, joined}
 use Rattle.grid_world.specs.Text.{session_text}
-use Rattle.grid_world.specs.Sessions.{game_of}
-use Rattle.grid_world.specs.Reading.{◌>>=◌, Head, head_at, starts_at, walls_at, Said, said_by, fault_of, session_fault, game_at, Gives}
+use Rattle.grid_world.specs.Sessions.{game_of, starts_of}
+use Rattle.grid_world.specs.Reading.{◌>>=◌, Head, head_at, seats_at, walls_at, Said, said_by, fault_of, session_fault, game_at, Gives}
 use Rattle.grid_world.specs.Answers.{IsReadFrom, IsRead, Faults}
 use Rattle.grid_world.proofs.Steps.{bind_ok, ok_is}
-use Rattle.grid_world.proofs.Joined.{joined-ended_lines_of}
+use Rattle.text_lines.proofs.Joined.{joined-ended_lines_of}
 use Rattle.grid_world.proofs.Kept.{ReadsParts, walled, session_kept, lines_kept, length-sha256}
-use Rattle.grid_world.proofs.Again.{said_of, said_again, game_is, ended_lines_of-session_text}
+use Rattle.grid_world.proofs.Again.{said_of, said_again, ended_lines_of-session_text}
 
 -- what the parts of a text say
-abbrev made : Head → List Cell → List Cell → Said
-made head starts walls = record { grid = walled head.grid walls; rules = head.rules; turns = head.turns; starts = starts }
+abbrev made : Head → List Seat → List Cell → Said
+made head seats walls = record { version = head.version; grid = walled head.grid walls; rules = head.rules; turns = head.turns; ahead = head.ahead; seats = seats }
 
-said_parts : (lines : List (List ℕ)) (said : Said) → said_by lines ≡ Ok said → (head : Head) × (starts : List Cell) × (walls : List Cell) × ReadsParts lines head starts walls × (made head starts walls ≡ said)
+said_parts : (lines : List (List ℕ)) (said : Said) → said_by lines ≡ Ok said → (head : Head) × (seats : List Seat) × (walls : List Cell) × ReadsParts lines head seats walls × (made head seats walls ≡ said)
 unfolding said_by
 said_parts lines said e =
-    let a = bind_ok (head_at lines) (λ head. starts_at head.0.grid head.0.players 0 head.1 >>= λ starts. walls_at head.0.grid starts.0 starts.1 None (7 + head.0.players) >>= λ walls. Ok (made head.0 starts.0 walls)) said e in
-    let b = bind_ok (starts_at a.0.0.grid a.0.0.players 0 a.0.1) (λ starts. walls_at a.0.0.grid starts.0 starts.1 None (7 + a.0.0.players) >>= λ walls. Ok (made a.0.0 starts.0 walls)) said a.2 in
-    let c = bind_ok (walls_at a.0.0.grid b.0.0 b.0.1 None (7 + a.0.0.players)) (λ walls. Ok (made a.0.0 b.0.0 walls)) said b.2 in
-    (a.0.0, b.0.0, c.0, record { starts_from = a.0.1; walls_from = b.0.1; head_is = a.1; starts_are = b.1; walls_are = c.1 }, ok_is (made a.0.0 b.0.0 c.0) said c.2)
+    let a = bind_ok (head_at lines) _ said e in
+    let b = bind_ok (seats_at a.0.0 a.0.0.players 0 a.0.1) _ said a.2 in
+    let c = bind_ok (walls_at a.0.0.grid (starts_of b.0.0) b.0.1 _ _) _ said b.2 in
+    (a.0.0, b.0.0, c.0, record { seats_from = a.0.1; walls_from = b.0.1; head_is = a.1; seats_are = b.1; walls_are = c.1 }, ok_is (made a.0.0 b.0.0 c.0) said c.2)
 
 -- the session that something said makes
 abbrev played : List ℕ → Said → Game
-played id said = game_of id said.grid said.rules said.turns said.starts
+played id said = game_of said.version id said.grid said.rules said.turns said.ahead said.seats
 
 said_found : (text : List ℕ) (said : Said) → said_by (ended_lines_of text) ≡ Ok said → IsReadFrom (played (sha256 text) said) text
 unfolding session_text
@@ -47,7 +48,7 @@ said_found text said e =
 pub game_found : (text : List ℕ) (game : Game) → game_at text ≡ Ok game → IsReadFrom game text
 unfolding game_at
 game_found text game e =
-    let a = bind_ok (said_by (ended_lines_of text)) (λ said. Ok (played (sha256 text) said)) game e in
+    let a = bind_ok (said_by (ended_lines_of text)) _ game e in
     subst (λ (g : Game). IsReadFrom g text) (ok_is (played (sha256 text) a.0) game a.2) (said_found text a.0 a.1)
 
 -- a session's text says the session
@@ -55,8 +56,7 @@ pub game_again : (text : List ℕ) (game : Game) → IsReadFrom game text → ga
 unfolding game_at
 game_again text game from =
     let said : said_by (ended_lines_of text) ≡ Ok (said_of game) = ap said_by (ap ended_lines_of from.text_is ∙ ended_lines_of-session_text game from.session) ∙ said_again game from.session in
-    let same = game_is game (sha256 text) from.session from.id_is in
-    rw said (ap (λ (g : Game). Ok g) same)
+    rw said (ap (λ (id : List ℕ). Ok (record game { id = id })) (sym from.id_is))
 
 fault_game : (id : List ℕ) (read : Result Said SessionFault) → fault_of (read >>= λ said. Ok (played id said)) ≡ fault_of read
 fault_game id (Ok said) = refl

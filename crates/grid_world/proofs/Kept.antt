@@ -1,20 +1,19 @@
 -- What is read is a session, and its text is the one that was read.
-use Rattle.std.proofs.Common.{◌≡◌, ℕ, suc, ◌+◌, Bool, true, false, List, [], ◌∷◌, ◌++◌, length, map, None, Ok, refl, sym, ap, ◌∙◌, arith, inl, inr}
-use Rattle.std.specs.Prelude.{codes, not, ◌||◌, IsTrue}
-use Rattle.std.proofs.lemmas.Bool.{cases_Bool, and_from, not_from_false, false≢true}
+use Rattle.std.proofs.Common.{◌≡◌, ℕ, ◌+◌, ◌≤◌, Bool, true, false, List, [], ◌∷◌, ◌++◌, length, map, None, Ok, refl, sym, ap, subst, ◌∙◌, arith, inl, inr}
+use Rattle.std.specs.Prelude.{not, ◌==◌, ◌||◌, if◌then◌else◌, IsTrue}
+use Rattle.std.proofs.lemmas.Bool.{cases_Bool, and_from, eq-eqb, eqb-true, not_from_false, false≢true}
 use Rattle.definitions.specs.declared.world.Cell.{Cell}
+use Rattle.definitions.specs.declared.world.Seat.{Seat}
+use Rattle.definitions.specs.declared.limits.TheConstants.{MOST_PLAYERS, MOST_PLAYERS_AT_FIRST, MOST_TURNS, MOST_TURNS_AT_FIRST, WIDEST_SIDE, WIDEST_SIDE_AT_FIRST}
 use Rattle.definitions.specs.Lists.{EachIs}
-use Rattle.definitions.specs.World as world
-use Rattle.definitions.specs.World.{Ground, Game, cell_eq, has_cell, is_inside, is_wall, is_open, players_of}
+use Rattle.definitions.specs.World.{Ground, Game, cell_eq, has_cell, is_inside, is_wall, is_open}
 use Rattle.definitions.proofs.Cells.{cell_eq-true, cell_eq-same}
 use Rattle.sha2.specs.Sha256.{sha256, digest_bytes}
-use Rattle.grid_world.specs.Lines.{line_of}
-use Rattle.grid_world.specs.Text.{player_lines, wall_line, end_line, head_lines, session_lines}
+use Rattle.grid_world.specs.Text.{head_lines, player_lines, wall_line, end_line, session_lines}
 use Rattle.grid_world.specs.Grids.{IsGrid}
-use Rattle.grid_world.specs.Sessions.{IsSession, GoesByTheRules, seat_at, game_of}
-use Rattle.grid_world.specs.Reading.{Head, head_at, starts_at, walls_at}
-use Rattle.grid_world.proofs.Taken.{head_pieces, head_takes, player_pieces, starts_takes, walls_takes}
-use Rattle.grid_world.proofs.Facts.{length_seats}
+use Rattle.grid_world.specs.Sessions.{IsSession, game_of, starts_of}
+use Rattle.grid_world.specs.Reading.{Head, head_at, first_player_line, seats_at, walls_at}
+use Rattle.grid_world.proofs.Taken.{head_pieces, head_takes, seats_takes, walls_takes}
 
 -- ---- lists of cells of which none is in the other
 
@@ -52,86 +51,131 @@ pub apart_turned : (cells others : List Cell) → EachIs (λ c. has_cell others 
 apart_turned [] others each = all_apart_nil others
 apart_turned (c ∷ cells) others each = one_more c cells others (apart_from c others each.0) (apart_turned cells others each.1)
 
--- ---- seats
+-- ---- limits that go by the version
 
-seats_go : (rules : world.Rules) (starts : List Cell) → EachIs (GoesByTheRules rules) (map (seat_at rules) starts)
-seats_go rules [] = tt
-seats_go rules (s ∷ starts) = (record { speed = refl; reach = refl }, seats_go rules starts)
+-- a limit of both versions, from the one of each
+pub limit_of : (version first later n : ℕ) → first ≤ later → n ≤ (if version == 1 then first else later) → n ≤ later
+limit_of version first later n less h =
+    elim (cases_Bool (version == 1)) [
+      | inl is ↦ let few : n ≤ first = subst (λ (b : Bool). n ≤ (if b then first else later)) is h in omega (arith, few, less)
+      | inr other ↦ subst (λ (b : Bool). n ≤ (if b then first else later)) other h
+    ]
 
-open_starts : (grid : Ground) (rules : world.Rules) (starts : List Cell) → EachIs (λ c. IsTrue (is_inside grid c)) starts → EachIs (λ c. has_cell grid.walls c ≡ false) starts
-    → EachIs (λ s. IsTrue (is_open grid s.start)) (map (seat_at rules) starts)
-open_starts grid rules [] inside apart = tt
-open_starts grid rules (s ∷ starts) inside apart =
-    (and_from (is_inside grid s) (not (is_wall grid s)) inside.0 (not_from_false (is_wall grid s) apart.0), open_starts grid rules starts inside.1 apart.1)
+-- the limit of version 1
+pub limit_at_first : (version first later n : ℕ) → version ≡ 1 → n ≤ (if version == 1 then first else later) → n ≤ first
+limit_at_first version first later n is h = subst (λ (b : Bool). n ≤ (if b then first else later)) (eq-eqb version 1 is) h
+
+-- the limit of the version, from that of version 1 and that of both
+pub limit_by : (version first later n : ℕ) → (version ≡ 1 → n ≤ first) → n ≤ later → n ≤ (if version == 1 then first else later)
+limit_by version first later n at_first h =
+    elim (cases_Bool (version == 1)) [
+      | inl is ↦ subst (λ (b : Bool). n ≤ (if b then first else later)) (sym is) (at_first (eqb-true version 1 is))
+      | inr other ↦ subst (λ (b : Bool). n ≤ (if b then first else later)) (sym other) h
+    ]
 
 -- ---- the session
+
+open_starts : (grid : Ground) (seats : List Seat) → EachIs (λ s. IsTrue (is_inside grid s.start)) seats → EachIs (λ c. has_cell grid.walls c ≡ false) (starts_of seats)
+    → EachIs (λ s. IsTrue (is_open grid s.start)) seats
+open_starts grid [] inside apart = tt
+open_starts grid (s ∷ seats) inside apart =
+    (and_from (is_inside grid s.start) (not (is_wall grid s.start)) inside.0 (not_from_false (is_wall grid s.start) apart.0), open_starts grid seats inside.1 apart.1)
 
 -- the grid of a head, with walls
 abbrev pub walled : Ground → List Cell → Ground
 walled grid walls = record { width = grid.width; height = grid.height; walls = walls }
 
+-- the session of the parts of a text
+abbrev pub game_from : (id : List ℕ) → Head → List Seat → (walls : List Cell) → Game
+game_from id head seats walls = game_of head.version id (walled head.grid walls) head.rules head.turns head.ahead seats
+
 -- what was read, part by part
-pub record ReadsParts (lines : List (List ℕ)) (head : Head) (starts walls : List Cell) : Type 0 where
-  pub starts_from : List (List ℕ)
+pub record ReadsParts (lines : List (List ℕ)) (head : Head) (seats : List Seat) (walls : List Cell) : Type 0 where
+  pub seats_from : List (List ℕ)
   pub walls_from : List (List ℕ)
-  pub head_is : head_at lines ≡ Ok (head, starts_from)
-  pub starts_are : starts_at head.grid head.players 0 starts_from ≡ Ok (starts, walls_from)
-  pub walls_are : walls_at head.grid starts walls_from None (7 + head.players) ≡ Ok walls
+  pub head_is : head_at lines ≡ Ok (head, seats_from)
+  pub seats_are : seats_at head head.players 0 seats_from ≡ Ok (seats, walls_from)
+  pub walls_are : walls_at head.grid (starts_of seats) walls_from None (first_player_line head.version + head.players) ≡ Ok walls
 
-pub grid_kept : (lines : List (List ℕ)) (head : Head) (starts walls : List Cell) → ReadsParts lines head starts walls → IsGrid (walled head.grid walls)
-grid_kept lines head starts walls read =
-    let first = (head_takes lines (head, read.starts_from) read.head_is).kept in
-    let last = walls_takes head.grid starts read.walls_from None (7 + head.players) walls read.walls_are in
-    record { width = first.width; height = first.height; walls = last.order; inside = last.inside }
+-- what holds of a head of either version
+pub record IsWithin (head : Head) : Type 0 where
+  pub wide : head.grid.width ≤ WIDEST_SIDE
+  pub high : head.grid.height ≤ WIDEST_SIDE
+  pub turns : head.turns ≤ MOST_TURNS
+  pub players : head.players ≤ MOST_PLAYERS
+  -- the line behind those of the players
+  pub early : first_player_line head.version + head.players ≤ 72
 
-pub session_kept : (id : List ℕ) (lines : List (List ℕ)) (head : Head) (starts walls : List Cell) → length id ≡ 32 → ReadsParts lines head starts walls
-    → IsSession (game_of id (walled head.grid walls) head.rules head.turns starts)
-session_kept id lines head starts walls bytes read =
-    let first = (head_takes lines (head, read.starts_from) read.head_is).kept in
-    let second = starts_takes head.grid head.players 0 read.starts_from (starts, read.walls_from) read.starts_are in
-    let last = walls_takes head.grid starts read.walls_from None (7 + head.players) walls read.walls_are in
-    let count : length (map (seat_at head.rules) starts) ≡ head.players = length_seats head.rules starts ∙ second.count in
+first_line_early : (version : ℕ) → first_player_line version ≤ 8
+first_line_early version = elim (cases_Bool (version == 1)) [ inl is ↦ rw is (omega arith) | inr other ↦ rw other (omega arith) ]
+
+pub head_within : (lines : List (List ℕ)) (head : Head) (rest : List (List ℕ)) → head_at lines ≡ Ok (head, rest) → IsWithin head
+head_within lines head rest e =
+    let first = (head_takes lines (head, rest) e).kept in
+    let players = limit_of head.version MOST_PLAYERS_AT_FIRST MOST_PLAYERS head.players (omega arith) first.players.1 in
     record {
-      version = refl;
+      wide = limit_of head.version WIDEST_SIDE_AT_FIRST WIDEST_SIDE head.grid.width (omega arith) first.width.1;
+      high = limit_of head.version WIDEST_SIDE_AT_FIRST WIDEST_SIDE head.grid.height (omega arith) first.height.1;
+      turns = limit_of head.version MOST_TURNS_AT_FIRST MOST_TURNS head.turns (omega arith) first.turns.1;
+      players = players;
+      early = omega (arith, players, first_line_early head.version);
+    }
+
+pub grid_kept : (lines : List (List ℕ)) (head : Head) (seats : List Seat) (walls : List Cell) → ReadsParts lines head seats walls → IsGrid (walled head.grid walls)
+grid_kept lines head seats walls read =
+    let first = (head_takes lines (head, read.seats_from) read.head_is).kept in
+    let last = walls_takes head.grid (starts_of seats) read.walls_from None (first_player_line head.version + head.players) walls read.walls_are in
+    let within = head_within lines head read.seats_from read.head_is in
+    record { width = (first.width.0, within.wide); height = (first.height.0, within.high); walls = last.order; inside = last.inside }
+
+pub session_kept : (id : List ℕ) (lines : List (List ℕ)) (head : Head) (seats : List Seat) (walls : List Cell) → length id ≡ 32 → ReadsParts lines head seats walls → IsSession (game_from id head seats walls)
+session_kept id lines head seats walls bytes read =
+    let first = (head_takes lines (head, read.seats_from) read.head_is).kept in
+    let second = seats_takes head head.players 0 read.seats_from (seats, read.walls_from) first read.seats_are in
+    let last = walls_takes head.grid (starts_of seats) read.walls_from None (first_player_line head.version + head.players) walls read.walls_are in
+    let within = head_within lines head read.seats_from read.head_is in
+    let count : length seats ≡ head.players = second.count in
+    record {
+      version = first.version;
       id = bytes;
-      grid = grid_kept lines head starts walls read;
+      grid = grid_kept lines head seats walls read;
       speed = first.speed;
       reach = first.reach;
       blast = first.blast;
       start_charge = first.start_charge;
       cap = first.cap;
       cost = first.cost;
-      turns = first.turns;
-      ahead = refl;
-      players = (omega (arith, count, first.players.0), omega (arith, count, first.players.1));
-      seats = seats_go head.rules starts;
-      starts = open_starts (walled head.grid walls) head.rules starts second.inside (apart_turned walls starts last.apart);
+      turns = (first.turns.0, within.turns);
+      ahead = first.ahead;
+      players = rw count (first.players.0, within.players);
+      turns_of_all = rw count first.turns_of_all;
+      seats = second.within;
+      starts = open_starts (walled head.grid walls) seats second.inside (apart_turned walls (starts_of seats) last.apart);
+      of_version_1 = λ is. record {
+        width = limit_at_first head.version WIDEST_SIDE_AT_FIRST WIDEST_SIDE head.grid.width is first.width.1;
+        height = limit_at_first head.version WIDEST_SIDE_AT_FIRST WIDEST_SIDE head.grid.height is first.height.1;
+        turns = limit_at_first head.version MOST_TURNS_AT_FIRST MOST_TURNS head.turns is first.turns.1;
+        ahead = first.ahead_first is;
+        players = rw count (limit_at_first head.version MOST_PLAYERS_AT_FIRST MOST_PLAYERS head.players is first.players.1);
+        seats = second.first is;
+      };
     }
 
 -- ---- the text
 
-player_lines-seats : (rules : world.Rules) (starts : List Cell) (q : ℕ) → player_pieces starts q ≡ player_lines (map (seat_at rules) starts) q
-player_lines-seats rules [] q = refl
-player_lines-seats rules (s ∷ starts) q = ap (λ (ls : List (List ℕ)). line_of (codes "player") (q ∷ s.x ∷ s.y ∷ []) ∷ ls) (player_lines-seats rules starts (suc q))
+-- the lines before those of the players, if there are so many players
+head_lines-game : (id : List ℕ) (head : Head) (seats : List Seat) (walls : List Cell) → length seats ≡ head.players → head_pieces head ≡ head_lines (game_from id head seats walls)
+head_lines-game id head seats walls count = rw count refl
 
--- the first six lines, if there are so many players
-head_lines-game : (id : List ℕ) (head : Head) (starts walls : List Cell) → head.players ≡ players_of (game_of id (walled head.grid walls) head.rules head.turns starts)
-    → head_pieces head ≡ head_lines (game_of id (walled head.grid walls) head.rules head.turns starts)
-head_lines-game id head starts walls count =
-    ap (λ (k : ℕ). line_of (codes "playout") (1 ∷ []) ∷ line_of (codes "grid") (head.grid.width ∷ head.grid.height ∷ []) ∷ line_of (codes "rules") (head.rules.speed ∷ head.rules.reach ∷ head.rules.blast ∷ [])
-    ∷ line_of (codes "charge") (head.rules.start_charge ∷ head.rules.cap ∷ head.rules.cost ∷ []) ∷ line_of (codes "turns") (head.turns ∷ []) ∷ line_of (codes "players") (k ∷ []) ∷ []) count
-
-pub lines_kept : (id : List ℕ) (lines : List (List ℕ)) (head : Head) (starts walls : List Cell) → ReadsParts lines head starts walls
-    → lines ≡ session_lines (game_of id (walled head.grid walls) head.rules head.turns starts)
-lines_kept id lines head starts walls read =
-    let first = head_takes lines (head, read.starts_from) read.head_is in
-    let second = starts_takes head.grid head.players 0 read.starts_from (starts, read.walls_from) read.starts_are in
-    let last = walls_takes head.grid starts read.walls_from None (7 + head.players) walls read.walls_are in
-    let count = sym (length_seats head.rules starts ∙ second.count) in
+pub lines_kept : (id : List ℕ) (lines : List (List ℕ)) (head : Head) (seats : List Seat) (walls : List Cell) → ReadsParts lines head seats walls → lines ≡ session_lines (game_from id head seats walls)
+lines_kept id lines head seats walls read =
+    let first = head_takes lines (head, read.seats_from) read.head_is in
+    let second = seats_takes head head.players 0 read.seats_from (seats, read.walls_from) first.kept read.seats_are in
+    let last = walls_takes head.grid (starts_of seats) read.walls_from None (first_player_line head.version + head.players) walls read.walls_are in
+    let players : List (List ℕ) = player_lines head.rules seats 0 in
     first.spelled
-    ∙ ap (λ (ls : List (List ℕ)). head_pieces head ++ ls) (second.spelled ∙ ap (λ (ls : List (List ℕ)). player_pieces starts 0 ++ ls) last.spelled)
-    ∙ ap (λ (ls : List (List ℕ)). ls ++ (player_pieces starts 0 ++ (map wall_line walls ++ (end_line ∷ [])))) (head_lines-game id head starts walls count)
-    ∙ ap (λ (ls : List (List ℕ)). head_lines (game_of id (walled head.grid walls) head.rules head.turns starts) ++ (ls ++ (map wall_line walls ++ (end_line ∷ [])))) (player_lines-seats head.rules starts 0)
+    ∙ ap (λ (ls : List (List ℕ)). head_pieces head ++ ls) (second.spelled ∙ ap (λ (ls : List (List ℕ)). players ++ ls) last.spelled)
+    ∙ ap (λ (ls : List (List ℕ)). ls ++ (players ++ (map wall_line walls ++ (end_line ∷ [])))) (head_lines-game id head seats walls second.count)
 
 -- a digest has 32 bytes
 pub length-sha256 : (text : List ℕ) → length (sha256 text) ≡ 32

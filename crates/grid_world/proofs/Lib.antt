@@ -1,12 +1,11 @@
 pub mod Facts
 pub mod FirstLine
-pub mod Forms
-pub mod Joined
 pub mod Taken
 pub mod Kept
 pub mod Again
 pub mod Found
 pub mod Printed
+pub mod Later
 pub mod Reveals
 pub mod Rows
 pub mod Steps

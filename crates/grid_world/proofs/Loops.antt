@@ -1,15 +1,17 @@
--- Reading starts and walls one after the other, as a loop does.
+-- Reading seats and walls one after the other, as a loop does.
 use Rattle.std.proofs.Common.{◌≡◌, ℕ, suc, ◌-◌, ◌+◌, ◌≤◌, ◌<◌, List, [], ◌∷◌, ◌++◌, Result, Ok, Err, refl, sym, ap, subst, ◌∙◌, add-one, append_assoc, arith, inl, inr}
 use Rattle.std.specs.Prelude.{◌*◌, Option, Some, None, true, false, nat_lt, ◌==◌, ◌&&◌, codes}
 use Rattle.std.proofs.lemmas.Bool.{and_parts, or_cases, ltb-true, eqb-true}
 use Rattle.std.proofs.lemmas.List.{append-nil}
 use Rattle.definitions.specs.declared.sessions.SessionRule.TheVariants.{S1}
+use Rattle.definitions.specs.declared.limits.TheConstants.{WIDEST_SIDE}
 use Rattle.definitions.specs.declared.world.Cell.{Cell}
+use Rattle.definitions.specs.declared.world.Seat.{Seat}
 use Rattle.definitions.specs.World.{Ground}
 use Rattle.grid_world.specs.declared.fault.SessionFault.{SessionFault}
 use Rattle.grid_world.specs.declared.fault.SessionFault.TheVariants.{At, Memory}
-use Rattle.grid_world.specs.Lines.{is_bare}
-use Rattle.grid_world.specs.Reading.{◌>>=◌, Fails, start_at, starts_at, is_after, wall_at, walls_at}
+use Rattle.text_lines.specs.Lines.{is_bare}
+use Rattle.grid_world.specs.Reading.{◌>>=◌, Fails, Head, seat_at, seats_at, is_after, wall_at, walls_at}
 use Rattle.grid_world.proofs.Steps.{wall_at_ok}
 
 -- a fault that is said is answered
@@ -17,38 +19,38 @@ pub said_fails : {Y : Type 0} (e : SessionFault) (read : Result Y SessionFault) 
 said_fails Memory read h = tt
 said_fails (At n rule) read h = h
 
--- the starts that were read before, and those that are still read
-abbrev pub with_starts : List Cell → Result (List Cell × List (List ℕ)) SessionFault → Result (List Cell × List (List ℕ)) SessionFault
-with_starts front read = read >>= λ x. Ok (front ++ x.0, x.1)
+-- the seats that were read before, and those that are still read
+abbrev pub with_seats : List Seat → Result (List Seat × List (List ℕ)) SessionFault → Result (List Seat × List (List ℕ)) SessionFault
+with_seats front read = read >>= λ x. Ok (front ++ x.0, x.1)
 
-regroup : (front : List Cell) (c : Cell) (read : Result (List Cell × List (List ℕ)) SessionFault) → with_starts front (read >>= λ x. Ok (c ∷ x.0, x.1)) ≡ with_starts (front ++ c ∷ []) read
-regroup front c (Ok x) = ap (λ (cells : List Cell). Ok (cells, x.1)) (simp append_assoc)
-regroup front c (Err f) = refl
+regroup : (front : List Seat) (s : Seat) (read : Result (List Seat × List (List ℕ)) SessionFault) → with_seats front (read >>= λ x. Ok (s ∷ x.0, x.1)) ≡ with_seats (front ++ s ∷ []) read
+regroup front s (Ok x) = ap (λ (seats : List Seat). Ok (seats, x.1)) (simp append_assoc)
+regroup front s (Err f) = refl
 
-pub starts_more : (grid : Ground) (front : List Cell) (k q : ℕ) (lines : List (List ℕ)) (c : Cell) (after : List (List ℕ)) (total : Result (List Cell × List (List ℕ)) SessionFault)
-    → q < k → start_at grid q lines ≡ Ok (c, after)
-    → with_starts front (starts_at grid (k - q) q lines) ≡ total → with_starts (front ++ c ∷ []) (starts_at grid (k - (q + 1)) (q + 1) after) ≡ total
-unfolding starts_at
-starts_more grid front k q lines c after total lt h so_far =
+pub seats_more : (head : Head) (front : List Seat) (k q : ℕ) (lines : List (List ℕ)) (s : Seat) (after : List (List ℕ)) (total : Result (List Seat × List (List ℕ)) SessionFault)
+    → q < k → seat_at head q lines ≡ Ok (s, after)
+    → with_seats front (seats_at head (k - q) q lines) ≡ total → with_seats (front ++ s ∷ []) (seats_at head (k - (q + 1)) (q + 1) after) ≡ total
+unfolding seats_at
+seats_more head front k q lines s after total lt h so_far =
     let m : k - q ≡ suc (k - (q + 1)) = omega arith in
-    let one : with_starts front (starts_at grid (k - q) q lines) ≡ with_starts (front ++ c ∷ []) (starts_at grid (k - (q + 1)) (suc q) after) = rw (m, h) (regroup front c (starts_at grid (k - (q + 1)) (suc q) after)) in
-    subst (λ (r : ℕ). with_starts (front ++ c ∷ []) (starts_at grid (k - (q + 1)) r after) ≡ total) (sym (add-one q)) (sym one ∙ so_far)
+    let one : with_seats front (seats_at head (k - q) q lines) ≡ with_seats (front ++ s ∷ []) (seats_at head (k - (q + 1)) (suc q) after) = rw (m, h) (regroup front s (seats_at head (k - (q + 1)) (suc q) after)) in
+    subst (λ (r : ℕ). with_seats (front ++ s ∷ []) (seats_at head (k - (q + 1)) r after) ≡ total) (sym (add-one q)) (sym one ∙ so_far)
 
-pub starts_fail : (grid : Ground) (e : SessionFault) (front : List Cell) (k q : ℕ) (lines : List (List ℕ)) (total : Result (List Cell × List (List ℕ)) SessionFault)
-    → q < k → Fails e (start_at grid q lines) → with_starts front (starts_at grid (k - q) q lines) ≡ total → Fails e total
-unfolding starts_at
-starts_fail grid Memory front k q lines total lt h so_far = tt
-starts_fail grid (At n rule) front k q lines total lt h so_far =
+pub seats_fail : (head : Head) (e : SessionFault) (front : List Seat) (k q : ℕ) (lines : List (List ℕ)) (total : Result (List Seat × List (List ℕ)) SessionFault)
+    → q < k → Fails e (seat_at head q lines) → with_seats front (seats_at head (k - q) q lines) ≡ total → Fails e total
+unfolding seats_at
+seats_fail head Memory front k q lines total lt h so_far = tt
+seats_fail head (At n rule) front k q lines total lt h so_far =
     let m : k - q ≡ suc (k - (q + 1)) = omega arith in
-    let one : with_starts front (starts_at grid (k - q) q lines) ≡ Err (At n rule) = rw (m, h) refl in
+    let one : with_seats front (seats_at head (k - q) q lines) ≡ Err (At n rule) = rw (m, h) refl in
     sym so_far ∙ one
 
-pub starts_all : (grid : Ground) (front : List Cell) (k q : ℕ) (lines : List (List ℕ)) (total : Result (List Cell × List (List ℕ)) SessionFault)
-    → k ≤ q → with_starts front (starts_at grid (k - q) q lines) ≡ total → total ≡ Ok (front, lines)
-unfolding starts_at
-starts_all grid front k q lines total le so_far =
+pub seats_all : (head : Head) (front : List Seat) (k q : ℕ) (lines : List (List ℕ)) (total : Result (List Seat × List (List ℕ)) SessionFault)
+    → k ≤ q → with_seats front (seats_at head (k - q) q lines) ≡ total → total ≡ Ok (front, lines)
+unfolding seats_at
+seats_all head front k q lines total le so_far =
     let m : k - q ≡ 0 = omega arith in
-    let one : with_starts front (starts_at grid (k - q) q lines) ≡ Ok (front, lines) = rw m (ap (λ (cells : List Cell). Ok (cells, lines)) (append-nil front)) in
+    let one : with_seats front (seats_at head (k - q) q lines) ≡ Ok (front, lines) = rw m (ap (λ (seats : List Seat). Ok (seats, lines)) (append-nil front)) in
     sym so_far ∙ one
 
 -- the walls that were read before, and those that are still read
@@ -59,17 +61,17 @@ regroup_walls : (front : List Cell) (c : Cell) (read : Result (List Cell) Sessio
 regroup_walls front c (Ok x) = ap (λ (cells : List Cell). Ok cells) (simp append_assoc)
 regroup_walls front c (Err f) = refl
 
--- how many cells stand in rows of 256 up to this one
+-- how many cells stand in rows of the widest grid up to this one
 abbrev pub cells_up_to : Option Cell → ℕ
 cells_up_to None = 0
-cells_up_to (Some c) = c.y * 256 + (c.x + 1)
+cells_up_to (Some c) = c.y * WIDEST_SIDE + (c.x + 1)
 
 abbrev pub IsSmall : Option Cell → Type 0
 IsSmall None = Unit {0}
-IsSmall (Some c) = (c.x < 256) × (c.y < 256)
+IsSmall (Some c) = (c.x < WIDEST_SIDE) × (c.y < WIDEST_SIDE)
 
 -- a wall's line is as far down as the wall may be
-next_line : (before : Option Cell) (c : Cell) (first n : ℕ) → IsSmall before → c.x < 256 → c.y < 256 → is_after before c ≡ true → n ≤ first + cells_up_to before → n + 1 ≤ first + cells_up_to (Some c)
+next_line : (before : Option Cell) (c : Cell) (first n : ℕ) → IsSmall before → c.x < WIDEST_SIDE → c.y < WIDEST_SIDE → is_after before c ≡ true → n ≤ first + cells_up_to before → n + 1 ≤ first + cells_up_to (Some c)
 next_line None c first n small x y after few = omega arith
 next_line (Some d) c first n small x y after few =
     elim (or_cases (nat_lt d.y c.y) ((d.y == c.y) && nat_lt d.x c.x) after) [
@@ -89,7 +91,7 @@ pub record AtWall (grid : Ground) (starts : List Cell) (front : List Cell) (befo
   pub few : n ≤ first + cells_up_to before
 
 pub walls_more : (grid : Ground) (starts front : List Cell) (before : Option Cell) (first n : ℕ) (line : List ℕ) (lines after : List (List ℕ)) (c : Cell) (total : Result (List Cell) SessionFault)
-    → grid.width ≤ 256 → grid.height ≤ 256 → lines ≡ line ∷ after → is_bare (codes "end") line ≡ false → wall_at grid starts before n line ≡ Ok c
+    → grid.width ≤ WIDEST_SIDE → grid.height ≤ WIDEST_SIDE → lines ≡ line ∷ after → is_bare (codes "end") line ≡ false → wall_at grid starts before n line ≡ Ok c
     → AtWall grid starts front before first n lines total → AtWall grid starts (front ++ c ∷ []) (Some c) first (n + 1) after total
 unfolding walls_at
 walls_more grid starts front before first n line lines after c total wide high split bare read at =

@@ -2,7 +2,7 @@
 use Rattle.std.proofs.Common.{◌≡◌, ℕ, ◌+◌, ◌<◌, List, [], ◌∷◌, ◌++◌, length, get_or, drop, refl, sym, ap, ◌∙◌, append_assoc, add-one, drop-cons}
 use Rattle.std.specs.Fmt.{decimal}
 use Rattle.std.proofs.lemmas.List.{append-nil}
-use Rattle.grid_world.specs.Lines.{joined, fields_of, line_of}
+use Rattle.text_lines.specs.Lines.{joined, fields_of, line_of}
 
 joined-append : (xs ys : List (List ℕ)) → joined (xs ++ ys) ≡ joined xs ++ joined ys
 joined-append [] ys = refl
@@ -20,15 +20,25 @@ field_more out new all numbers i lt e so_far =
 line_more : (o n a : List ℕ) (more : List (List ℕ)) (all : List ℕ) → n ≡ o ++ a → n ++ joined more ≡ all → o ++ joined (a ∷ more) ≡ all
 line_more o n a more all e rest = sym (append_assoc o a (joined more)) ∙ ap (λ (t : List ℕ). t ++ joined more) (sym e) ∙ rest
 
-pub six_more : (o1 o2 o3 o4 o5 o6 o7 a b c d e f : List ℕ) → o2 ≡ o1 ++ a → o3 ≡ o2 ++ b → o4 ≡ o3 ++ c → o5 ≡ o4 ++ d → o6 ≡ o5 ++ e → o7 ≡ o6 ++ f
-    → o7 ≡ o1 ++ joined (a ∷ b ∷ c ∷ d ∷ e ∷ f ∷ [])
-six_more o1 o2 o3 o4 o5 o6 o7 a b c d e f p q r s t u =
-    sym (line_more o1 o2 a (b ∷ c ∷ d ∷ e ∷ f ∷ []) o7 p
-    (line_more o2 o3 b (c ∷ d ∷ e ∷ f ∷ []) o7 q
-    (line_more o3 o4 c (d ∷ e ∷ f ∷ []) o7 r
-    (line_more o4 o5 d (e ∷ f ∷ []) o7 s
-    (line_more o5 o6 e (f ∷ []) o7 t
-    (line_more o6 o7 f [] o7 u (append-nil o7)))))))
+-- lines behind lines
+lines_more : (o1 o2 o3 : List ℕ) (lines more : List (List ℕ)) → o2 ≡ o1 ++ joined lines → o3 ≡ o2 ++ joined more → o3 ≡ o1 ++ joined (lines ++ more)
+lines_more o1 o2 o3 lines more p q =
+    q ∙ ap (λ (t : List ℕ). t ++ joined more) p ∙ append_assoc o1 (joined lines) (joined more) ∙ ap (λ (t : List ℕ). o1 ++ t) (sym (joined-append lines more))
+
+-- a line alone
+line_alone : (o n a : List ℕ) → n ≡ o ++ a → n ≡ o ++ joined (a ∷ [])
+line_alone o n a e = e ∙ ap (λ (t : List ℕ). o ++ t) (sym (append-nil a))
+
+pub head_more : (o1 o2 o3 o4 o5 o6 o7 o8 a b c d e f : List ℕ) (ahead : List (List ℕ)) → o2 ≡ o1 ++ a → o3 ≡ o2 ++ b → o4 ≡ o3 ++ c → o5 ≡ o4 ++ d → o6 ≡ o5 ++ e → o7 ≡ o6 ++ joined ahead → o8 ≡ o7 ++ f
+    → o8 ≡ o1 ++ joined (a ∷ b ∷ c ∷ d ∷ e ∷ (ahead ++ f ∷ []))
+head_more o1 o2 o3 o4 o5 o6 o7 o8 a b c d e f ahead p q r s t u v =
+    let last : List (List ℕ) = ahead ++ f ∷ [] in
+    sym (line_more o1 o2 a (b ∷ c ∷ d ∷ e ∷ last) o8 p
+    (line_more o2 o3 b (c ∷ d ∷ e ∷ last) o8 q
+    (line_more o3 o4 c (d ∷ e ∷ last) o8 r
+    (line_more o4 o5 d (e ∷ last) o8 s
+    (line_more o5 o6 e last o8 t
+    (sym (lines_more o6 o7 o8 ahead (f ∷ []) u (line_alone o7 o8 f v))))))))
 
 pub all_more : (o1 o2 o3 o4 : List ℕ) (head players walls : List (List ℕ)) (end : List ℕ) → o1 ≡ joined head → o2 ≡ o1 ++ joined players → o3 ≡ o2 ++ joined walls → o4 ≡ o3 ++ end
     → o4 ≡ joined (head ++ (players ++ (walls ++ (end ∷ []))))

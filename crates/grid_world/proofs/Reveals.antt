@@ -15,7 +15,7 @@ use Rattle.grid_world.specs.Places.{reveals_below}
 
 -- players commit at least one turn ahead
 pub ahead_least : (game : Game) → IsSession game → 1 ≤ game.ahead
-ahead_least game is = let one = is.ahead in omega arith
+ahead_least game is = is.ahead.0
 
 -- how many of a range pass, where those below a number do and the others don't
 count_up_to : (p : ℕ → Bool) (r a n : ℕ) → ((t : ℕ) → a ≤ t → t < a + n → t < r → p t ≡ true) → ((t : ℕ) → a ≤ t → t < a + n → r ≤ t → p t ≡ false) → length (filter p (range_with_len a n)) ≡ min (r - a) n

@@ -7,7 +7,7 @@ use Rattle.definitions.specs.declared.sessions.SessionRule.{SessionRule}
 use Rattle.definitions.specs.declared.sessions.SessionRule.TheVariants.{S8, S9}
 use Rattle.definitions.specs.World.{Ground, has_cell, is_inside}
 use Rattle.grid_world.specs.declared.fault.SessionFault.{SessionFault}
-use Rattle.grid_world.specs.Lines.{two_of}
+use Rattle.text_lines.specs.Lines.{two_of}
 use Rattle.grid_world.specs.Reading.{◌>>=◌, keeps, formed, line_at, cell_at, is_after, wall_said, wall_at}
 
 pub bind_ok : {A B : Type 0} (r : Result A SessionFault) (f : A → Result B SessionFault) (y : B) → (r >>= f) ≡ Ok y → (x : A) × (r ≡ Ok x) × (f x ≡ Ok y)
@@ -17,6 +17,11 @@ bind_ok (Err d) f y e = absurd cc
 pub keeps_ok : {A : Type 0} (n : ℕ) (rule : SessionRule) (holds : Bool) (x y : A) → keeps n rule holds x ≡ Ok y → (holds ≡ true) × (x ≡ y)
 keeps_ok n rule true x y e = (refl, cc)
 keeps_ok n rule false x y e = absurd cc
+
+-- a rule that was kept leaves the value
+pub kept_ok : {A B : Type 0} (n : ℕ) (rule : SessionRule) (holds : Bool) (x : A) (f : A → Result B SessionFault) (y : B) → (keeps n rule holds x >>= f) ≡ Ok y → (holds ≡ true) × (f x ≡ Ok y)
+kept_ok n rule true x f y e = (refl, e)
+kept_ok n rule false x f y e = absurd cc
 
 abbrev done : {A : Type 0} → A → Result A SessionFault
 done x = Ok x

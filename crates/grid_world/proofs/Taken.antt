@@ -1,17 +1,22 @@
 -- What is read keeps the rules, and its lines are spelled so.
-use Rattle.std.proofs.Common.{◌≡◌, ℕ, zero, suc, ◌+◌, ◌≤◌, Bool, true, false, eqb, List, [], ◌∷◌, ◌++◌, length, map, Option, Some, Ok, refl, sym, ap, subst, ◌∙◌, inl, inr}
-use Rattle.std.specs.Prelude.{codes, ◌&&◌, nat_le, IsTrue}
+use Rattle.std.proofs.Common.{◌≡◌, ℕ, zero, suc, ◌+◌, ◌≤◌, Bool, true, false, List, [], ◌∷◌, ◌++◌, length, map, Option, Some, None, Ok, refl, sym, ap, subst, ◌∙◌, append_assoc, inl, inr}
+use Rattle.std.specs.Prelude.{codes, not, ◌*◌, ◌==◌, ◌&&◌, ◌||◌, if◌then◌else◌, is_none, nat_le, IsTrue}
 use Rattle.std.specs.Cmp.Lexicographic.{same_text}
-use Rattle.std.proofs.lemmas.Bool.{eqb-true, leb-true, and_parts, and_from}
+use Rattle.std.proofs.lemmas.Bool.{eqb-true, eq-eqb, leb-true, and_parts, and_from, or_cases, not-true, false≢true}
+use Rattle.definitions.specs.declared.limits.TheConstants.{FARTHEST_REACH, FEWEST_PLAYERS, LAST_VERSION, MOST_AHEAD, MOST_CHARGE, MOST_SPEED, MOST_TURNS_OF_ALL, WIDEST_BLAST}
 use Rattle.definitions.specs.declared.world.Cell.{Cell}
-use Rattle.definitions.specs.declared.sessions.SessionRule.TheVariants.{S2, S3, S4, S5, S6, S7, S8}
+use Rattle.definitions.specs.declared.world.Seat.{Seat}
+use Rattle.definitions.specs.declared.sessions.SessionRule.TheVariants.{S1, S2, S3, S4, S5, S6, S7, S8, S10, S11, S12}
 use Rattle.definitions.specs.Lists.{EachIs}
+use Rattle.definitions.specs.World as world
 use Rattle.definitions.specs.World.{Ground, has_cell, is_inside, is_before_first, in_row_order}
-use Rattle.grid_world.specs.Lines.{line_of, is_bare, one_of, two_of, three_of}
-use Rattle.grid_world.specs.Text.{wall_line, end_line}
-use Rattle.grid_world.specs.Reading.{◌>>=◌, keeps, line_at, is_within, version_at, sides_at, steps_at, charges_at, turns_at, players_at, Head, head_at, cell_at, start_at, starts_at, is_after, wall_at, walls_at, ends_at}
-use Rattle.grid_world.proofs.Steps.{bind_ok, keeps_ok, ok_is, line_at_ok, wall_at_ok}
-use Rattle.grid_world.proofs.Forms.{one_of-some, two_of-some, three_of-some}
+use Rattle.text_lines.specs.Lines.{line_of, is_bare, one_of, two_of, three_of, three_or_five_of}
+use Rattle.grid_world.specs.Sessions.{IsSeat, GoesByTheRules, most_players, most_turns, widest_side}
+use Rattle.grid_world.specs.Text.{player_line, player_lines, wall_line, end_line}
+use Rattle.grid_world.specs.Reading.{◌>>=◌, keeps, line_at, is_within, version_at, sides_at, steps_at, charges_at, turns_at, ahead_at, players_line, first_player_line, players_at, Head, head_at, cell_at, may_be_own, seat_by, seat_at, seats_at, is_after, wall_at, walls_at, ends_at}
+use Rattle.grid_world.proofs.Steps.{bind_ok, keeps_ok, kept_ok, ok_is, line_at_ok, wall_at_ok}
+use Rattle.text_lines.specs.Laws.{two_more}
+use Rattle.text_lines.proofs.Forms.{one_of-some, two_of-some, three_of-some, three_or_five_of-some}
 use Rattle.plain_lemmas.proofs.Tests.{chosen}
 
 within : (low high n : ℕ) → is_within low high n ≡ true → (low ≤ n) × (n ≤ high)
@@ -19,17 +24,7 @@ within low high n h =
     let both = and_parts (nat_le low n) (nat_le n high) h in
     (leb-true low n both.0, leb-true n high both.1)
 
--- ---- the first six lines
-
-version_takes : (lines rest : List (List ℕ)) → version_at lines ≡ Ok rest → lines ≡ line_of (codes "playout") (1 ∷ []) ∷ rest
-unfolding version_at
-version_takes lines rest e =
-    let a = bind_ok (line_at 1 (one_of (codes "playout")) lines) (λ version. keeps 1 S2 (eqb version.0 1) version.1) rest e in
-    let kept = keeps_ok 1 S2 (eqb a.0.0 1) a.0.1 rest a.2 in
-    let line = line_at_ok 1 (one_of (codes "playout")) lines a.0.0 a.0.1 a.1 in
-    let spelled = one_of-some (codes "playout") line.0 a.0.0 line.2 in
-    let is : a.0.0 ≡ 1 = eqb-true a.0.0 1 kept.0 in
-    line.1 ∙ ap (λ (l : List ℕ). l ∷ a.0.1) (spelled.0 ∙ ap (λ (n : ℕ). line_of (codes "playout") (n ∷ [])) is) ∙ ap (λ (ls : List (List ℕ)). line_of (codes "playout") (1 ∷ []) ∷ ls) kept.1
+-- ---- the lines before those of the players
 
 -- a line that was read: how it is spelled, and the rule that it keeps
 record TakesOne (name : List ℕ) (test : ℕ → Bool) (lines : List (List ℕ)) (x : ℕ × List (List ℕ)) : Type 0 where
@@ -39,11 +34,10 @@ record TakesOne (name : List ℕ) (test : ℕ → Bool) (lines : List (List ℕ)
 takes_one : (n : ℕ) (name : List ℕ) (test : ℕ → Bool) (rule : _) (lines : List (List ℕ)) (x : ℕ × List (List ℕ))
     → (line_at n (one_of name) lines >>= λ line. keeps n rule (test line.0) line) ≡ Ok x → TakesOne name test lines x
 takes_one n name test rule lines x e =
-    let a = bind_ok (line_at n (one_of name) lines) (λ line. keeps n rule (test line.0) line) x e in
+    let a = bind_ok (line_at n (one_of name) lines) _ x e in
     let kept = keeps_ok n rule (test a.0.0) a.0 x a.2 in
     let line = line_at_ok n (one_of name) lines a.0.0 a.0.1 a.1 in
-    let spelled = one_of-some name line.0 a.0.0 line.2 in
-    subst (λ (y : ℕ × List (List ℕ)). TakesOne name test lines y) {x = a.0} kept.1 (record { spelled = line.1 ∙ ap (λ (l : List ℕ). l ∷ a.0.1) spelled.0; kept = kept.0 })
+    subst (λ (y : ℕ × List (List ℕ)). TakesOne name test lines y) {x = a.0} kept.1 (record { spelled = line.1 ∙ ap (λ (l : List ℕ). l ∷ a.0.1) (one_of-some name line.0 a.0.0 line.2); kept = kept.0 })
 
 record TakesTwo (name : List ℕ) (test : ℕ × ℕ → Bool) (lines : List (List ℕ)) (x : (ℕ × ℕ) × List (List ℕ)) : Type 0 where
   spelled : lines ≡ line_of name (x.0.0 ∷ x.0.1 ∷ []) ∷ x.1
@@ -52,11 +46,10 @@ record TakesTwo (name : List ℕ) (test : ℕ × ℕ → Bool) (lines : List (Li
 takes_two : (n : ℕ) (name : List ℕ) (test : ℕ × ℕ → Bool) (rule : _) (lines : List (List ℕ)) (x : (ℕ × ℕ) × List (List ℕ))
     → (line_at n (two_of name) lines >>= λ line. keeps n rule (test line.0) line) ≡ Ok x → TakesTwo name test lines x
 takes_two n name test rule lines x e =
-    let a = bind_ok (line_at n (two_of name) lines) (λ line. keeps n rule (test line.0) line) x e in
+    let a = bind_ok (line_at n (two_of name) lines) _ x e in
     let kept = keeps_ok n rule (test a.0.0) a.0 x a.2 in
     let line = line_at_ok n (two_of name) lines a.0.0 a.0.1 a.1 in
-    let spelled = two_of-some name line.0 a.0.0 line.2 in
-    subst (λ (y : (ℕ × ℕ) × List (List ℕ)). TakesTwo name test lines y) {x = a.0} kept.1 (record { spelled = line.1 ∙ ap (λ (l : List ℕ). l ∷ a.0.1) spelled.0; kept = kept.0 })
+    subst (λ (y : (ℕ × ℕ) × List (List ℕ)). TakesTwo name test lines y) {x = a.0} kept.1 (record { spelled = line.1 ∙ ap (λ (l : List ℕ). l ∷ a.0.1) (two_of-some name line.0 a.0.0 line.2); kept = kept.0 })
 
 record TakesThree (name : List ℕ) (test : ℕ × ℕ × ℕ → Bool) (lines : List (List ℕ)) (x : (ℕ × ℕ × ℕ) × List (List ℕ)) : Type 0 where
   spelled : lines ≡ line_of name (x.0.0 ∷ x.0.1 ∷ x.0.2 ∷ []) ∷ x.1
@@ -65,45 +58,83 @@ record TakesThree (name : List ℕ) (test : ℕ × ℕ × ℕ → Bool) (lines :
 takes_three : (n : ℕ) (name : List ℕ) (test : ℕ × ℕ × ℕ → Bool) (rule : _) (lines : List (List ℕ)) (x : (ℕ × ℕ × ℕ) × List (List ℕ))
     → (line_at n (three_of name) lines >>= λ line. keeps n rule (test line.0) line) ≡ Ok x → TakesThree name test lines x
 takes_three n name test rule lines x e =
-    let a = bind_ok (line_at n (three_of name) lines) (λ line. keeps n rule (test line.0) line) x e in
+    let a = bind_ok (line_at n (three_of name) lines) _ x e in
     let kept = keeps_ok n rule (test a.0.0) a.0 x a.2 in
     let line = line_at_ok n (three_of name) lines a.0.0 a.0.1 a.1 in
-    let spelled = three_of-some name line.0 a.0.0 line.2 in
-    subst (λ (y : (ℕ × ℕ × ℕ) × List (List ℕ)). TakesThree name test lines y) {x = a.0} kept.1 (record { spelled = line.1 ∙ ap (λ (l : List ℕ). l ∷ a.0.1) spelled.0; kept = kept.0 })
+    subst (λ (y : (ℕ × ℕ × ℕ) × List (List ℕ)). TakesThree name test lines y) {x = a.0} kept.1 (record { spelled = line.1 ∙ ap (λ (l : List ℕ). l ∷ a.0.1) (three_of-some name line.0 a.0.0 line.2); kept = kept.0 })
 
--- the tests of the first six lines
-abbrev pub are_sides : ℕ × ℕ → Bool
-are_sides s = is_within 1 256 s.0 && is_within 1 256 s.1
+-- the line that says how many turns ahead players commit, if the version has one
+abbrev pub ahead_pieces : (version ahead : ℕ) → List (List ℕ)
+ahead_pieces version ahead = if version == 1 then [] else line_of (codes "ahead") (ahead ∷ []) ∷ []
+
+record TakesAhead (version : ℕ) (lines : List (List ℕ)) (x : ℕ × List (List ℕ)) : Type 0 where
+  spelled : lines ≡ ahead_pieces version x.0 ++ x.1
+  kept : is_within 1 MOST_AHEAD x.0 ≡ true
+  first : version ≡ 1 → x.0 ≡ 1
+
+ahead_takes : (version : ℕ) (lines : List (List ℕ)) (x : ℕ × List (List ℕ)) → ahead_at version lines ≡ Ok x → TakesAhead version lines x
+unfolding ahead_at
+ahead_takes version lines x e =
+    elim (chosen (version == 1) _ _ _ e) [
+      | inl one ↦ subst (λ (y : ℕ × List (List ℕ)). TakesAhead version lines y) {x = (1, lines)} (ok_is _ _ one.1) (record { spelled = rw one.0 refl; kept = refl; first = λ is. refl })
+      | inr other ↦
+          let line = takes_one 6 (codes "ahead") (is_within 1 MOST_AHEAD) S10 lines x other.1 in
+          record { spelled = rw other.0 line.spelled; kept = line.kept; first = λ is. absurd (false≢true (sym other.0 ∙ eq-eqb version 1 is)) }
+    ]
+
+record TakesPlayers (version turns : ℕ) (lines : List (List ℕ)) (x : ℕ × List (List ℕ)) : Type 0 where
+  spelled : lines ≡ line_of (codes "players") (x.0 ∷ []) ∷ x.1
+  kept : is_within FEWEST_PLAYERS (most_players version) x.0 ≡ true
+  few : nat_le (x.0 * turns) MOST_TURNS_OF_ALL ≡ true
+
+players_takes : (version turns : ℕ) (lines : List (List ℕ)) (x : ℕ × List (List ℕ)) → players_at version turns lines ≡ Ok x → TakesPlayers version turns lines x
+unfolding players_at
+players_takes version turns lines x e =
+    let n : ℕ = players_line version in
+    let a = bind_ok (line_at n (one_of (codes "players")) lines) _ x e in
+    let kept = kept_ok n S7 (is_within FEWEST_PLAYERS (most_players version) a.0.0) a.0 _ x a.2 in
+    let few = keeps_ok n S12 (nat_le (a.0.0 * turns) MOST_TURNS_OF_ALL) a.0 x kept.1 in
+    let line = line_at_ok n (one_of (codes "players")) lines a.0.0 a.0.1 a.1 in
+    subst (λ (y : ℕ × List (List ℕ)). TakesPlayers version turns lines y) {x = a.0} few.1
+    (record { spelled = line.1 ∙ ap (λ (l : List ℕ). l ∷ a.0.1) (one_of-some (codes "players") line.0 a.0.0 line.2); kept = kept.0; few = few.0 })
+
+-- the tests of these lines
+abbrev pub are_sides : (version : ℕ) → ℕ × ℕ → Bool
+are_sides version s = is_within 1 (widest_side version) s.0 && is_within 1 (widest_side version) s.1
 
 abbrev pub are_steps : ℕ × ℕ × ℕ → Bool
-are_steps s = is_within 1 8 s.0 && (nat_le s.1 8 && nat_le s.2 2)
+are_steps s = is_within 1 MOST_SPEED s.0 && (nat_le s.1 FARTHEST_REACH && nat_le s.2 WIDEST_BLAST)
 
 abbrev pub are_charges : ℕ × ℕ × ℕ → Bool
-are_charges c = nat_le c.0 255 && (nat_le c.1 255 && (nat_le c.2 255 && nat_le c.0 c.1))
+are_charges c = nat_le c.0 MOST_CHARGE && (nat_le c.1 MOST_CHARGE && (nat_le c.2 MOST_CHARGE && nat_le c.0 c.1))
 
--- what the first six lines say keeps their rules
+-- what the lines before those of the players say keeps their rules
 pub record IsHead (head : Head) : Type 0 where
-  pub width : (1 ≤ head.grid.width) × (head.grid.width ≤ 256)
-  pub height : (1 ≤ head.grid.height) × (head.grid.height ≤ 256)
+  pub version : (1 ≤ head.version) × (head.version ≤ LAST_VERSION)
+  pub width : (1 ≤ head.grid.width) × (head.grid.width ≤ widest_side head.version)
+  pub height : (1 ≤ head.grid.height) × (head.grid.height ≤ widest_side head.version)
   pub bare : head.grid.walls ≡ []
-  pub speed : (1 ≤ head.rules.speed) × (head.rules.speed ≤ 8)
-  pub reach : head.rules.reach ≤ 8
-  pub blast : head.rules.blast ≤ 2
+  pub speed : (1 ≤ head.rules.speed) × (head.rules.speed ≤ MOST_SPEED)
+  pub reach : head.rules.reach ≤ FARTHEST_REACH
+  pub blast : head.rules.blast ≤ WIDEST_BLAST
   pub start_charge : head.rules.start_charge ≤ head.rules.cap
-  pub cap : head.rules.cap ≤ 255
-  pub cost : head.rules.cost ≤ 255
-  pub turns : (1 ≤ head.turns) × (head.turns ≤ 4096)
-  pub players : (2 ≤ head.players) × (head.players ≤ 16)
+  pub cap : head.rules.cap ≤ MOST_CHARGE
+  pub cost : head.rules.cost ≤ MOST_CHARGE
+  pub turns : (1 ≤ head.turns) × (head.turns ≤ most_turns head.version)
+  pub ahead : (1 ≤ head.ahead) × (head.ahead ≤ MOST_AHEAD)
+  pub ahead_first : head.version ≡ 1 → head.ahead ≡ 1
+  pub players : (FEWEST_PLAYERS ≤ head.players) × (head.players ≤ most_players head.version)
+  pub turns_of_all : head.players * head.turns ≤ MOST_TURNS_OF_ALL
 
--- the first six lines of a text
+-- the lines of a text before those of the players
 abbrev pub head_pieces : Head → List (List ℕ)
 head_pieces head =
-    line_of (codes "playout") (1 ∷ [])
+    line_of (codes "playout") (head.version ∷ [])
     ∷ line_of (codes "grid") (head.grid.width ∷ head.grid.height ∷ [])
     ∷ line_of (codes "rules") (head.rules.speed ∷ head.rules.reach ∷ head.rules.blast ∷ [])
     ∷ line_of (codes "charge") (head.rules.start_charge ∷ head.rules.cap ∷ head.rules.cost ∷ [])
     ∷ line_of (codes "turns") (head.turns ∷ [])
-    ∷ line_of (codes "players") (head.players ∷ [])
+    ∷ ahead_pieces head.version head.ahead ++ line_of (codes "players") (head.players ∷ [])
     ∷ []
 
 pub record TakesHead (lines : List (List ℕ)) (x : Head × List (List ℕ)) : Type 0 where
@@ -111,108 +142,174 @@ pub record TakesHead (lines : List (List ℕ)) (x : Head × List (List ℕ)) : T
   pub kept : IsHead x.0
 
 -- the numbers of the lines make up what they say
-abbrev head_from : ℕ × ℕ → ℕ × ℕ × ℕ → ℕ × ℕ × ℕ → ℕ → ℕ → Head
-head_from sides steps charges turns players = record {
+abbrev head_from : ℕ → ℕ × ℕ → ℕ × ℕ × ℕ → ℕ × ℕ × ℕ → ℕ → ℕ → ℕ → Head
+head_from version sides steps charges turns ahead players = record {
+  version = version;
   grid = record { width = sides.0; height = sides.1; walls = [] };
   rules = record { speed = steps.0; reach = steps.1; blast = steps.2; start_charge = charges.0; cap = charges.1; cost = charges.2 };
   turns = turns;
+  ahead = ahead;
   players = players;
 }
 
-head_kept : (sides : ℕ × ℕ) (steps charges : ℕ × ℕ × ℕ) (turns players : ℕ) → are_sides sides ≡ true → are_steps steps ≡ true → are_charges charges ≡ true
-    → is_within 1 4096 turns ≡ true → is_within 2 16 players ≡ true → IsHead (head_from sides steps charges turns players)
-head_kept sides steps charges turns players sides_are steps_are charges_are turns_are players_are =
-    let two = and_parts (is_within 1 256 sides.0) (is_within 1 256 sides.1) sides_are in
-    let speed = and_parts (is_within 1 8 steps.0) (nat_le steps.1 8 && nat_le steps.2 2) steps_are in
-    let far = and_parts (nat_le steps.1 8) (nat_le steps.2 2) speed.1 in
-    let start = and_parts (nat_le charges.0 255) (nat_le charges.1 255 && (nat_le charges.2 255 && nat_le charges.0 charges.1)) charges_are in
-    let cap = and_parts (nat_le charges.1 255) (nat_le charges.2 255 && nat_le charges.0 charges.1) start.1 in
-    let cost = and_parts (nat_le charges.2 255) (nat_le charges.0 charges.1) cap.1 in
+head_kept : (version : ℕ) (sides : ℕ × ℕ) (steps charges : ℕ × ℕ × ℕ) (turns ahead players : ℕ) → is_within 1 LAST_VERSION version ≡ true → are_sides version sides ≡ true → are_steps steps ≡ true
+    → are_charges charges ≡ true → is_within 1 (most_turns version) turns ≡ true → is_within 1 MOST_AHEAD ahead ≡ true → (version ≡ 1 → ahead ≡ 1)
+    → is_within FEWEST_PLAYERS (most_players version) players ≡ true → nat_le (players * turns) MOST_TURNS_OF_ALL ≡ true → IsHead (head_from version sides steps charges turns ahead players)
+head_kept version sides steps charges turns ahead players version_is sides_are steps_are charges_are turns_are ahead_is ahead_first players_are few =
+    let two = and_parts (is_within 1 (widest_side version) sides.0) (is_within 1 (widest_side version) sides.1) sides_are in
+    let speed = and_parts (is_within 1 MOST_SPEED steps.0) (nat_le steps.1 FARTHEST_REACH && nat_le steps.2 WIDEST_BLAST) steps_are in
+    let far = and_parts (nat_le steps.1 FARTHEST_REACH) (nat_le steps.2 WIDEST_BLAST) speed.1 in
+    let start = and_parts (nat_le charges.0 MOST_CHARGE) (nat_le charges.1 MOST_CHARGE && (nat_le charges.2 MOST_CHARGE && nat_le charges.0 charges.1)) charges_are in
+    let cap = and_parts (nat_le charges.1 MOST_CHARGE) (nat_le charges.2 MOST_CHARGE && nat_le charges.0 charges.1) start.1 in
+    let cost = and_parts (nat_le charges.2 MOST_CHARGE) (nat_le charges.0 charges.1) cap.1 in
     record {
-      width = within 1 256 sides.0 two.0;
-      height = within 1 256 sides.1 two.1;
+      version = within 1 LAST_VERSION version version_is;
+      width = within 1 (widest_side version) sides.0 two.0;
+      height = within 1 (widest_side version) sides.1 two.1;
       bare = refl;
-      speed = within 1 8 steps.0 speed.0;
-      reach = leb-true steps.1 8 far.0;
-      blast = leb-true steps.2 2 far.1;
+      speed = within 1 MOST_SPEED steps.0 speed.0;
+      reach = leb-true steps.1 FARTHEST_REACH far.0;
+      blast = leb-true steps.2 WIDEST_BLAST far.1;
       start_charge = leb-true charges.0 charges.1 cost.1;
-      cap = leb-true charges.1 255 cap.0;
-      cost = leb-true charges.2 255 cost.0;
-      turns = within 1 4096 turns turns_are;
-      players = within 2 16 players players_are;
+      cap = leb-true charges.1 MOST_CHARGE cap.0;
+      cost = leb-true charges.2 MOST_CHARGE cost.0;
+      turns = within 1 (most_turns version) turns turns_are;
+      ahead = within 1 MOST_AHEAD ahead ahead_is;
+      ahead_first = ahead_first;
+      players = within FEWEST_PLAYERS (most_players version) players players_are;
+      turns_of_all = leb-true (players * turns) MOST_TURNS_OF_ALL few;
     }
 
 -- a line, and the lines behind it
 behind_line : (lines rest more : List (List ℕ)) (line : List ℕ) → lines ≡ line ∷ rest → rest ≡ more → lines ≡ line ∷ more
 behind_line lines rest more line first others = first ∙ ap (λ (ls : List (List ℕ)). line ∷ ls) others
 
--- the first six lines, and the lines behind them
-six_behind : (l0 l1 l2 l3 l4 l5 l6 : List (List ℕ)) (head : Head) → l0 ≡ line_of (codes "playout") (1 ∷ []) ∷ l1 → l1 ≡ line_of (codes "grid") (head.grid.width ∷ head.grid.height ∷ []) ∷ l2
+-- the line of the turns ahead, if there is one, that of the players, and the lines behind them
+last_behind : (ahead l5 l6 l7 : List (List ℕ)) (players : List ℕ) → l5 ≡ ahead ++ l6 → l6 ≡ players ∷ l7 → l5 ≡ (ahead ++ players ∷ []) ++ l7
+last_behind ahead l5 l6 l7 players t u = t ∙ ap (λ (ls : List (List ℕ)). ahead ++ ls) u ∙ sym (append_assoc ahead (players ∷ []) l7)
+
+-- the lines before those of the players, and the lines behind them
+all_behind : (l0 l1 l2 l3 l4 l5 l6 l7 : List (List ℕ)) (head : Head) → l0 ≡ line_of (codes "playout") (head.version ∷ []) ∷ l1 → l1 ≡ line_of (codes "grid") (head.grid.width ∷ head.grid.height ∷ []) ∷ l2
     → l2 ≡ line_of (codes "rules") (head.rules.speed ∷ head.rules.reach ∷ head.rules.blast ∷ []) ∷ l3 → l3 ≡ line_of (codes "charge") (head.rules.start_charge ∷ head.rules.cap ∷ head.rules.cost ∷ []) ∷ l4
-    → l4 ≡ line_of (codes "turns") (head.turns ∷ []) ∷ l5 → l5 ≡ line_of (codes "players") (head.players ∷ []) ∷ l6 → l0 ≡ head_pieces head ++ l6
-six_behind l0 l1 l2 l3 l4 l5 l6 head p q r s t u =
-    behind_line l0 l1 _ _ p (behind_line l1 l2 _ _ q (behind_line l2 l3 _ _ r (behind_line l3 l4 _ _ s (behind_line l4 l5 _ _ t u))))
+    → l4 ≡ line_of (codes "turns") (head.turns ∷ []) ∷ l5 → l5 ≡ ahead_pieces head.version head.ahead ++ l6 → l6 ≡ line_of (codes "players") (head.players ∷ []) ∷ l7 → l0 ≡ head_pieces head ++ l7
+all_behind l0 l1 l2 l3 l4 l5 l6 l7 head p q r s t u v =
+    behind_line l0 l1 _ _ p (behind_line l1 l2 _ _ q (behind_line l2 l3 _ _ r (behind_line l3 l4 _ _ s (behind_line l4 l5 _ _ t
+    (last_behind (ahead_pieces head.version head.ahead) l5 l6 l7 (line_of (codes "players") (head.players ∷ [])) u v)))))
 
 pub head_takes : (lines : List (List ℕ)) (x : Head × List (List ℕ)) → head_at lines ≡ Ok x → TakesHead lines x
-unfolding head_at sides_at steps_at charges_at turns_at players_at
+unfolding head_at version_at sides_at steps_at charges_at turns_at
 head_takes lines x e =
-    let a = bind_ok (version_at lines) (λ rest. sides_at rest >>= λ sides. steps_at sides.1 >>= λ steps. charges_at steps.1 >>= λ charges. turns_at charges.1 >>= λ turns. players_at turns.1 >>= λ players. Ok (head_from sides.0 steps.0 charges.0 turns.0 players.0, players.1)) x e in
-    let b = bind_ok (sides_at a.0) (λ sides. steps_at sides.1 >>= λ steps. charges_at steps.1 >>= λ charges. turns_at charges.1 >>= λ turns. players_at turns.1 >>= λ players. Ok (head_from sides.0 steps.0 charges.0 turns.0 players.0, players.1)) x a.2 in
-    let c = bind_ok (steps_at b.0.1) (λ steps. charges_at steps.1 >>= λ charges. turns_at charges.1 >>= λ turns. players_at turns.1 >>= λ players. Ok (head_from b.0.0 steps.0 charges.0 turns.0 players.0, players.1)) x b.2 in
-    let d = bind_ok (charges_at c.0.1) (λ charges. turns_at charges.1 >>= λ turns. players_at turns.1 >>= λ players. Ok (head_from b.0.0 c.0.0 charges.0 turns.0 players.0, players.1)) x c.2 in
-    let f = bind_ok (turns_at d.0.1) (λ turns. players_at turns.1 >>= λ players. Ok (head_from b.0.0 c.0.0 d.0.0 turns.0 players.0, players.1)) x d.2 in
-    let g = bind_ok (players_at f.0.1) (λ players. Ok (head_from b.0.0 c.0.0 d.0.0 f.0.0 players.0, players.1)) x f.2 in
-    let one = version_takes lines a.0 a.1 in
-    let two = takes_two 2 (codes "grid") are_sides S3 a.0 b.0 b.1 in
+    let a = bind_ok (version_at lines) _ x e in
+    let b = bind_ok (sides_at a.0.0 a.0.1) _ x a.2 in
+    let c = bind_ok (steps_at b.0.1) _ x b.2 in
+    let d = bind_ok (charges_at c.0.1) _ x c.2 in
+    let f = bind_ok (turns_at a.0.0 d.0.1) _ x d.2 in
+    let g = bind_ok (ahead_at a.0.0 f.0.1) _ x f.2 in
+    let h = bind_ok (players_at a.0.0 f.0.0 g.0.1) _ x g.2 in
+    let one = takes_one 1 (codes "playout") (is_within 1 LAST_VERSION) S2 lines a.0 a.1 in
+    let two = takes_two 2 (codes "grid") (are_sides a.0.0) S3 a.0.1 b.0 b.1 in
     let three = takes_three 3 (codes "rules") are_steps S4 b.0.1 c.0 c.1 in
     let four = takes_three 4 (codes "charge") are_charges S5 c.0.1 d.0 d.1 in
-    let five = takes_one 5 (codes "turns") (is_within 1 4096) S6 d.0.1 f.0 f.1 in
-    let six = takes_one 6 (codes "players") (is_within 2 16) S7 f.0.1 g.0 g.1 in
-    let head : Head = head_from b.0.0 c.0.0 d.0.0 f.0.0 g.0.0 in
-    subst (λ (y : Head × List (List ℕ)). TakesHead lines y) {x = (head, g.0.1)} (ok_is (head, g.0.1) x g.2)
+    let five = takes_one 5 (codes "turns") (is_within 1 (most_turns a.0.0)) S6 d.0.1 f.0 f.1 in
+    let six = ahead_takes a.0.0 f.0.1 g.0 g.1 in
+    let seven = players_takes a.0.0 f.0.0 g.0.1 h.0 h.1 in
+    let head : Head = head_from a.0.0 b.0.0 c.0.0 d.0.0 f.0.0 g.0.0 h.0.0 in
+    subst (λ (y : Head × List (List ℕ)). TakesHead lines y) {x = (head, h.0.1)} (ok_is (head, h.0.1) x h.2)
     (record {
-      spelled = six_behind lines a.0 b.0.1 c.0.1 d.0.1 f.0.1 g.0.1 head one two.spelled three.spelled four.spelled five.spelled six.spelled;
-      kept = head_kept b.0.0 c.0.0 d.0.0 f.0.0 g.0.0 two.kept three.kept four.kept five.kept six.kept;
+      spelled = all_behind lines a.0.1 b.0.1 c.0.1 d.0.1 f.0.1 g.0.1 h.0.1 head one.spelled two.spelled three.spelled four.spelled five.spelled six.spelled seven.spelled;
+      kept = head_kept a.0.0 b.0.0 c.0.0 d.0.0 f.0.0 g.0.0 h.0.0 one.kept two.kept three.kept four.kept five.kept six.kept six.first seven.kept seven.few;
     })
 
 -- ---- players
 
--- the lines of these starts, the first of which is that of player q
-abbrev pub player_pieces : List Cell → ℕ → List (List ℕ)
-player_pieces [] q = []
-player_pieces (s ∷ starts) q = line_of (codes "player") (q ∷ s.x ∷ s.y ∷ []) ∷ player_pieces starts (suc q)
+-- what the line of player q, with this cell and perhaps these own numbers, says of the seat
+record SaysSeat (rules : world.Rules) (q x y : ℕ) (own : Option (ℕ × ℕ)) (s : Seat) : Type 0 where
+  spelled : line_of (codes "player") (q ∷ x ∷ y ∷ two_more own) ≡ player_line rules s q
+  start : s.start ≡ cell_at x y
+  within : IsSeat s
+  alike : is_none own ≡ true → GoesByTheRules rules s
 
-record TakesStart (grid : Ground) (q : ℕ) (lines : List (List ℕ)) (x : Cell × List (List ℕ)) : Type 0 where
-  spelled : lines ≡ line_of (codes "player") (q ∷ x.0.x ∷ x.0.y ∷ []) ∷ x.1
-  inside : is_inside grid x.0 ≡ true
+seat_said : (rules : world.Rules) (q x y : ℕ) (own : Option (ℕ × ℕ)) → (1 ≤ rules.speed) × (rules.speed ≤ MOST_SPEED) → rules.reach ≤ FARTHEST_REACH → may_be_own rules own ≡ true
+    → SaysSeat rules q x y own (seat_by rules (cell_at x y) own)
+seat_said rules q x y None speed reach kept =
+    record {
+      spelled = rw (eq-eqb rules.speed rules.speed refl, eq-eqb rules.reach rules.reach refl) refl;
+      start = refl;
+      within = record { speed = speed; reach = reach };
+      alike = λ none. record { speed = refl; reach = refl };
+    }
+seat_said rules q x y (Some own) speed reach kept =
+    let a = and_parts (is_within 1 MOST_SPEED own.0) (nat_le own.1 FARTHEST_REACH && not ((own.0 == rules.speed) && (own.1 == rules.reach))) kept in
+    let b = and_parts (nat_le own.1 FARTHEST_REACH) (not ((own.0 == rules.speed) && (own.1 == rules.reach))) a.1 in
+    record {
+      spelled = rw (not-true ((own.0 == rules.speed) && (own.1 == rules.reach)) b.1) refl;
+      start = refl;
+      within = record { speed = within 1 MOST_SPEED own.0 a.0; reach = leb-true own.1 FARTHEST_REACH b.0 };
+      alike = λ none. absurd (false≢true none);
+    }
 
-start_takes : (grid : Ground) (q : ℕ) (lines : List (List ℕ)) (x : Cell × List (List ℕ)) → start_at grid q lines ≡ Ok x → TakesStart grid q lines x
-unfolding start_at
-start_takes grid q lines x e =
-    let a = bind_ok (line_at (7 + q) (three_of (codes "player")) lines) (λ line. keeps (7 + q) S8 (eqb line.0.0 q && is_inside grid (cell_at line.0.1 line.0.2)) (cell_at line.0.1 line.0.2, line.1)) x e in
-    let kept = keeps_ok (7 + q) S8 (eqb a.0.0.0 q && is_inside grid (cell_at a.0.0.1 a.0.0.2)) (cell_at a.0.0.1 a.0.0.2, a.0.1) x a.2 in
-    let both = and_parts (eqb a.0.0.0 q) (is_inside grid (cell_at a.0.0.1 a.0.0.2)) kept.0 in
-    let line = line_at_ok (7 + q) (three_of (codes "player")) lines a.0.0 a.0.1 a.1 in
-    let spelled = three_of-some (codes "player") line.0 a.0.0 line.2 in
-    let number : line_of (codes "player") (a.0.0.0 ∷ a.0.0.1 ∷ a.0.0.2 ∷ []) ≡ line_of (codes "player") (q ∷ a.0.0.1 ∷ a.0.0.2 ∷ []) = ap (λ (m : ℕ). line_of (codes "player") (m ∷ a.0.0.1 ∷ a.0.0.2 ∷ [])) (eqb-true a.0.0.0 q both.0) in
-    subst (λ (y : Cell × List (List ℕ)). TakesStart grid q lines y) {x = (cell_at a.0.0.1 a.0.0.2, a.0.1)} kept.1 (record { spelled = line.1 ∙ ap (λ (l : List ℕ). l ∷ a.0.1) (spelled.0 ∙ number); inside = both.1 })
+pub record TakesSeat (head : Head) (q : ℕ) (lines : List (List ℕ)) (x : Seat × List (List ℕ)) : Type 0 where
+  pub spelled : lines ≡ player_line head.rules x.0 q ∷ x.1
+  pub inside : is_inside head.grid x.0.start ≡ true
+  pub within : IsSeat x.0
+  pub first : head.version ≡ 1 → GoesByTheRules head.rules x.0
 
-pub record TakesStarts (grid : Ground) (k q : ℕ) (lines : List (List ℕ)) (x : List Cell × List (List ℕ)) : Type 0 where
-  pub spelled : lines ≡ player_pieces x.0 q ++ x.1
+-- own numbers are there only behind version 1
+none_at_first : (version : ℕ) (none : Bool) → (none || not (version == 1)) ≡ true → version ≡ 1 → none ≡ true
+none_at_first version none h is =
+    elim (or_cases none (not (version == 1)) h) [
+      | inl here ↦ here
+      | inr later ↦ absurd (false≢true (sym (not-true (version == 1) later) ∙ eq-eqb version 1 is))
+    ]
+
+seat_takes : (head : Head) (q : ℕ) (lines : List (List ℕ)) (x : Seat × List (List ℕ)) → IsHead head → seat_at head q lines ≡ Ok x → TakesSeat head q lines x
+unfolding seat_at
+seat_takes head q lines x facts e =
+    let n : ℕ = first_player_line head.version + q in
+    let a = bind_ok (line_at n (three_or_five_of (codes "player")) lines) _ x e in
+    let number : ℕ = a.0.0.0.0 in
+    let cell : Cell = cell_at a.0.0.0.1 a.0.0.0.2 in
+    let own : Option (ℕ × ℕ) = a.0.0.1 in
+    let formed = kept_ok n S1 (is_none own || not (head.version == 1)) a.0 _ x a.2 in
+    let placed = kept_ok n S8 ((number == q) && is_inside head.grid cell) a.0 _ x formed.1 in
+    let kept = keeps_ok n S11 (may_be_own head.rules own) (seat_by head.rules cell own, a.0.1) x placed.1 in
+    let both = and_parts (number == q) (is_inside head.grid cell) placed.0 in
+    let line = line_at_ok n (three_or_five_of (codes "player")) lines a.0.0 a.0.1 a.1 in
+    let spelled = three_or_five_of-some (codes "player") line.0 a.0.0 line.2 in
+    let said = seat_said head.rules q cell.x cell.y own facts.speed facts.reach kept.0 in
+    let numbered = ap (λ (m : ℕ). line_of (codes "player") (m ∷ cell.x ∷ cell.y ∷ two_more own)) (eqb-true number q both.0) in
+    subst (λ (y : Seat × List (List ℕ)). TakesSeat head q lines y) {x = (seat_by head.rules cell own, a.0.1)} kept.1
+    (record {
+      spelled = line.1 ∙ ap (λ (l : List ℕ). l ∷ a.0.1) (spelled ∙ numbered ∙ said.spelled);
+      inside = ap (is_inside head.grid) said.start ∙ both.1;
+      within = said.within;
+      first = λ is. said.alike (none_at_first head.version (is_none own) formed.0 is);
+    })
+
+pub record TakesSeats (head : Head) (k q : ℕ) (lines : List (List ℕ)) (x : List Seat × List (List ℕ)) : Type 0 where
+  pub spelled : lines ≡ player_lines head.rules x.0 q ++ x.1
   pub count : length x.0 ≡ k
-  pub inside : EachIs (λ c. IsTrue (is_inside grid c)) x.0
+  pub inside : EachIs (λ s. IsTrue (is_inside head.grid s.start)) x.0
+  pub within : EachIs IsSeat x.0
+  pub first : head.version ≡ 1 → EachIs (GoesByTheRules head.rules) x.0
 
-pub starts_takes : (grid : Ground) (k q : ℕ) (lines : List (List ℕ)) (x : List Cell × List (List ℕ)) → starts_at grid k q lines ≡ Ok x → TakesStarts grid k q lines x
-unfolding starts_at
-starts_takes grid zero q lines x e =
-    subst (λ (y : List Cell × List (List ℕ)). TakesStarts grid 0 q lines y) (ok_is ([], lines) x e) (record { spelled = refl; count = refl; inside = tt })
-starts_takes grid (suc k) q lines x e =
-    let a = bind_ok (start_at grid q lines) (λ first. starts_at grid k (suc q) first.1 >>= λ others. Ok (first.0 ∷ others.0, others.1)) x e in
-    let b = bind_ok (starts_at grid k (suc q) a.0.1) (λ others. Ok (a.0.0 ∷ others.0, others.1)) x a.2 in
-    let first = start_takes grid q lines a.0 a.1 in
-    let others = starts_takes grid k (suc q) a.0.1 b.0 b.1 in
-    subst (λ (y : List Cell × List (List ℕ)). TakesStarts grid (suc k) q lines y) {x = (a.0.0 ∷ b.0.0, b.0.1)} (ok_is (a.0.0 ∷ b.0.0, b.0.1) x b.2)
-    (record { spelled = behind_line lines a.0.1 _ _ first.spelled others.spelled; count = ap suc others.count; inside = (first.inside, others.inside) })
+pub seats_takes : (head : Head) (k q : ℕ) (lines : List (List ℕ)) (x : List Seat × List (List ℕ)) → IsHead head → seats_at head k q lines ≡ Ok x → TakesSeats head k q lines x
+unfolding seats_at
+seats_takes head zero q lines x facts e =
+    subst (λ (y : List Seat × List (List ℕ)). TakesSeats head 0 q lines y) (ok_is ([], lines) x e) (record { spelled = refl; count = refl; inside = tt; within = tt; first = λ is. tt })
+seats_takes head (suc k) q lines x facts e =
+    let a = bind_ok (seat_at head q lines) _ x e in
+    let b = bind_ok (seats_at head k (suc q) a.0.1) _ x a.2 in
+    let first = seat_takes head q lines a.0 facts a.1 in
+    let others = seats_takes head k (suc q) a.0.1 b.0 facts b.1 in
+    subst (λ (y : List Seat × List (List ℕ)). TakesSeats head (suc k) q lines y) {x = (a.0.0 ∷ b.0.0, b.0.1)} (ok_is (a.0.0 ∷ b.0.0, b.0.1) x b.2)
+    (record {
+      spelled = behind_line lines a.0.1 _ _ first.spelled others.spelled;
+      count = ap suc others.count;
+      inside = (first.inside, others.inside);
+      within = (first.within, others.within);
+      first = λ is. (first.first is, others.first is);
+    })
 
 -- ---- walls
 
@@ -249,17 +346,17 @@ pub walls_takes : (grid : Ground) (starts : List Cell) (lines : List (List ℕ))
 unfolding walls_at
 walls_takes grid starts [] before n walls e = absurd cc
 walls_takes grid starts (line ∷ lines) before n walls e =
-    elim (chosen (is_bare (codes "end") line) (ends_at (suc n) lines) (wall_at grid starts before n line >>= λ wall. walls_at grid starts lines (Some wall) (suc n) >>= λ others. Ok (wall ∷ others)) (Ok walls) e) [
+    elim (chosen (is_bare (codes "end") line) _ _ _ e) [
       | inl last ↦ walls_end grid starts line lines before (suc n) walls last.0 last.1
       | inr more ↦
-          let a = bind_ok (wall_at grid starts before n line) (λ wall. walls_at grid starts lines (Some wall) (suc n) >>= λ others. Ok (wall ∷ others)) walls more.1 in
-          let b = bind_ok (walls_at grid starts lines (Some a.0) (suc n)) (λ others. Ok (a.0 ∷ others)) walls a.2 in
+          let a = bind_ok (wall_at grid starts before n line) _ walls more.1 in
+          let b = bind_ok (walls_at grid starts lines (Some a.0) (suc n)) _ walls a.2 in
           let first = wall_at_ok grid starts before n line a.0 a.1 in
           let spelled = two_of-some (codes "wall") line (a.0.x, a.0.y) first.said_is in
           let others = walls_takes grid starts lines (Some a.0) (suc n) b.0 b.1 in
           subst (λ (cells : List Cell). TakesWalls grid starts (line ∷ lines) before cells) {x = a.0 ∷ b.0} (ok_is (a.0 ∷ b.0) walls b.2)
           (record {
-            spelled = behind_line (line ∷ lines) lines _ _ (ap (λ (l : List ℕ). l ∷ lines) spelled.0) others.spelled;
+            spelled = behind_line (line ∷ lines) lines _ _ (ap (λ (l : List ℕ). l ∷ lines) spelled) others.spelled;
             order = and_from (is_before_first a.0 b.0) (in_row_order b.0) (sym (follow-Some a.0 b.0) ∙ others.after) others.order;
             after = first.after;
             inside = (first.inside, others.inside);

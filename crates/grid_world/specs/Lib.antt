@@ -1,7 +1,6 @@
 pub mod Grids
 pub mod Sessions
 pub mod Places
-pub mod Lines
 pub mod Text
 pub mod Reading
 pub mod Parts

@@ -10,6 +10,6 @@ use Rattle.grid_world.specs.Reading.{Head}
 abbrev pub bare : Sides → Ground
 bare s = record { width = s.width; height = s.height; walls = [] }
 
--- what the first six lines say
+-- what the lines before those of the players say
 abbrev pub head_of : code.Head → Head
-head_of h = record { grid = bare h.sides; rules = rules_of h.rules; turns = h.turns; players = h.players }
+head_of h = record { version = h.version; grid = bare h.sides; rules = rules_of h.rules; turns = h.turns; ahead = h.ahead; players = h.players }

@@ -1,18 +1,19 @@
 -- What a text says, line by line, and the first rule of a session text that it breaks.
 --
 -- Each line is first asked for its form, which is rule S1, and then for its other rules in their order.
-use Rattle.std.specs.Prelude.{◌≡◌, ℕ, zero, suc, ◌+◌, Bool, not, List, [], ◌∷◌, Option, Some, None, Result, Ok, Err, nat_le, ◌==◌, ◌&&◌, if◌then◌else◌, codes, true}
+use Rattle.std.specs.Prelude.{◌≡◌, ℕ, zero, suc, ◌+◌, ◌*◌, Bool, not, List, [], ◌∷◌, Option, Some, None, Result, Ok, Err, nat_le, is_none, ◌==◌, ◌&&◌, ◌||◌, if◌then◌else◌, codes, true}
 use Rattle.sha2.specs.Sha256.{sha256}
 use Rattle.definitions.specs.declared.world.Cell.{Cell}
+use Rattle.definitions.specs.declared.world.Seat.{Seat}
 use Rattle.definitions.specs.declared.sessions.SessionRule.{SessionRule}
-use Rattle.definitions.specs.declared.sessions.SessionRule.TheVariants.{S1, S2, S3, S4, S5, S6, S7, S8, S9}
-use Rattle.definitions.specs.declared.limits.TheConstants.{FARTHEST_REACH, FEWEST_PLAYERS, MOST_CHARGE, MOST_PLAYERS, MOST_SPEED, MOST_TURNS, WIDEST_BLAST, WIDEST_SIDE}
+use Rattle.definitions.specs.declared.sessions.SessionRule.TheVariants.{S1, S2, S3, S4, S5, S6, S7, S8, S9, S10, S11, S12}
+use Rattle.definitions.specs.declared.limits.TheConstants.{FARTHEST_REACH, FEWEST_PLAYERS, LAST_VERSION, MOST_AHEAD, MOST_CHARGE, MOST_SPEED, MOST_TURNS_OF_ALL, WIDEST_BLAST}
 use Rattle.definitions.specs.World as world
 use Rattle.definitions.specs.World.{Ground, Game, has_cell, is_inside, is_before}
 use Rattle.grid_world.specs.declared.fault.SessionFault.{SessionFault}
 use Rattle.grid_world.specs.declared.fault.SessionFault.TheVariants.{At, Memory}
-use Rattle.grid_world.specs.Sessions.{game_of}
-use Rattle.grid_world.specs.Lines.{ended_lines_of, is_bare, one_of, two_of, three_of}
+use Rattle.grid_world.specs.Sessions.{game_of, most_players, most_turns, starts_of, widest_side}
+use Rattle.text_lines.specs.Lines.{ended_lines_of, is_bare, one_of, two_of, three_of, three_or_five_of}
 
 infixl 10 ◌>>=◌
 -- the next line's answer, unless a line before was at fault
@@ -39,16 +40,16 @@ abbrev pub is_within : ℕ → ℕ → ℕ → Bool
 is_within low high n = nat_le low n && nat_le n high
 
 -- line 1: the version
-unfoldable pub version_at : List (List ℕ) → Result (List (List ℕ)) SessionFault
+unfoldable pub version_at : List (List ℕ) → Result (ℕ × List (List ℕ)) SessionFault
 version_at lines = do
   version ← line_at 1 (one_of (codes "playout")) lines
-  keeps 1 S2 (version.0 == 1) version.1
+  keeps 1 S2 (is_within 1 LAST_VERSION version.0) version
 
 -- line 2: how wide and how high the grid is
-unfoldable pub sides_at : List (List ℕ) → Result ((ℕ × ℕ) × List (List ℕ)) SessionFault
-sides_at lines = do
+unfoldable pub sides_at : (version : ℕ) → List (List ℕ) → Result ((ℕ × ℕ) × List (List ℕ)) SessionFault
+sides_at version lines = do
   sides ← line_at 2 (two_of (codes "grid")) lines
-  keeps 2 S3 (is_within 1 WIDEST_SIDE sides.0.0 && is_within 1 WIDEST_SIDE sides.0.1) sides
+  keeps 2 S3 (is_within 1 (widest_side version) sides.0.0 && is_within 1 (widest_side version) sides.0.1) sides
 
 -- line 3: speed, reach and blast
 unfoldable pub steps_at : List (List ℕ) → Result ((ℕ × ℕ × ℕ) × List (List ℕ)) SessionFault
@@ -63,38 +64,59 @@ charges_at lines = do
   keeps 4 S5 (nat_le charges.0.0 MOST_CHARGE && (nat_le charges.0.1 MOST_CHARGE && (nat_le charges.0.2 MOST_CHARGE && nat_le charges.0.0 charges.0.1))) charges
 
 -- line 5: how many turns are played
-unfoldable pub turns_at : List (List ℕ) → Result (ℕ × List (List ℕ)) SessionFault
-turns_at lines = do
+unfoldable pub turns_at : (version : ℕ) → List (List ℕ) → Result (ℕ × List (List ℕ)) SessionFault
+turns_at version lines = do
   turns ← line_at 5 (one_of (codes "turns")) lines
-  keeps 5 S6 (is_within 1 MOST_TURNS turns.0) turns
+  keeps 5 S6 (is_within 1 (most_turns version) turns.0) turns
 
--- line 6: how many players there are
-unfoldable pub players_at : List (List ℕ) → Result (ℕ × List (List ℕ)) SessionFault
-players_at lines = do
-  players ← line_at 6 (one_of (codes "players")) lines
-  keeps 6 S7 (is_within FEWEST_PLAYERS MOST_PLAYERS players.0) players
+-- how many turns ahead players commit: one in version 1, and otherwise as line 6 says
+unfoldable pub ahead_at : (version : ℕ) → List (List ℕ) → Result (ℕ × List (List ℕ)) SessionFault
+ahead_at version lines = if version == 1 then Ok (1, lines) else (do
+  ahead ← line_at 6 (one_of (codes "ahead")) lines
+  keeps 6 S10 (is_within 1 MOST_AHEAD ahead.0) ahead)
 
--- what the first six lines say: the grid, still without walls, the rules, the turns and how many players there are
+-- the number of the line that says how many players there are
+abbrev pub players_line : (version : ℕ) → ℕ
+players_line version = if version == 1 then 6 else 7
+
+-- the number of the first player's line
+abbrev pub first_player_line : (version : ℕ) → ℕ
+first_player_line version = players_line version + 1
+
+-- the last line before those of the players: how many players there are, and that they don't have too many turns together
+unfoldable pub players_at : (version turns : ℕ) → List (List ℕ) → Result (ℕ × List (List ℕ)) SessionFault
+players_at version turns lines = do
+  players ← line_at (players_line version) (one_of (codes "players")) lines
+  few ← keeps (players_line version) S7 (is_within FEWEST_PLAYERS (most_players version) players.0) players
+  keeps (players_line version) S12 (nat_le (few.0 * turns) MOST_TURNS_OF_ALL) few
+
+-- what the lines before those of the players say: the version, the grid, still without walls, the rules, the turns, how many
+-- turns ahead players commit, and how many players there are
 pub record Head : Type 0 where
+  pub version : ℕ
   pub grid : Ground
   pub rules : world.Rules
   pub turns : ℕ
+  pub ahead : ℕ
   pub players : ℕ
 
--- the first six lines, and the lines behind them
+-- the lines before those of the players, and the lines behind them
 unfoldable pub head_at : List (List ℕ) → Result (Head × List (List ℕ)) SessionFault
 head_at lines = do
-  rest ← version_at lines
-  sides ← sides_at rest
+  version ← version_at lines
+  sides ← sides_at version.0 version.1
   steps ← steps_at sides.1
   charges ← charges_at steps.1
-  turns ← turns_at charges.1
-  players ← players_at turns.1
+  turns ← turns_at version.0 charges.1
+  ahead ← ahead_at version.0 turns.1
+  players ← players_at version.0 turns.0 ahead.1
   Ok (
     record {
+      version = version.0;
       grid = record { width = sides.0.0; height = sides.0.1; walls = [] };
       rules = record { speed = steps.0.0; reach = steps.0.1; blast = steps.0.2; start_charge = charges.0.0; cap = charges.0.1; cost = charges.0.2 };
       turns = turns.0;
+      ahead = ahead.0;
       players = players.0;
     },
     players.1,
@@ -103,18 +125,31 @@ head_at lines = do
 abbrev pub cell_at : ℕ → ℕ → Cell
 cell_at x y = record { x = x; y = y }
 
--- the line of player q, who has the line 7 + q: where the player starts
-unfoldable pub start_at : Ground → ℕ → List (List ℕ) → Result (Cell × List (List ℕ)) SessionFault
-start_at grid q lines = do
-  line ← line_at (7 + q) (three_of (codes "player")) lines
-  keeps (7 + q) S8 ((line.0.0 == q) && is_inside grid (cell_at line.0.1 line.0.2)) (cell_at line.0.1 line.0.2, line.1)
+-- a player may have this speed and reach of its own, if it has: they are within the limits, and not those of the rules
+abbrev pub may_be_own : world.Rules → Option (ℕ × ℕ) → Bool
+may_be_own rules None = true
+may_be_own rules (Some own) =
+    is_within 1 MOST_SPEED own.0 && (nat_le own.1 FARTHEST_REACH && not ((own.0 == rules.speed) && (own.1 == rules.reach)))
+
+-- the seat of a player that starts at this cell, with its own speed and reach, if it has, and otherwise those of the rules
+abbrev pub seat_by : world.Rules → Cell → Option (ℕ × ℕ) → Seat
+seat_by rules start None = record { start = start; speed = rules.speed; reach = rules.reach }
+seat_by rules start (Some own) = record { start = start; speed = own.0; reach = own.1 }
+
+-- the line of player q: where the player starts, and in version 2 perhaps its own speed and reach
+unfoldable pub seat_at : Head → ℕ → List (List ℕ) → Result (Seat × List (List ℕ)) SessionFault
+seat_at head q lines = do
+  line ← line_at (first_player_line head.version + q) (three_or_five_of (codes "player")) lines
+  formed ← keeps (first_player_line head.version + q) S1 (is_none line.0.1 || not (head.version == 1)) line
+  placed ← keeps (first_player_line head.version + q) S8 ((formed.0.0.0 == q) && is_inside head.grid (cell_at formed.0.0.1 formed.0.0.2)) formed
+  keeps (first_player_line head.version + q) S11 (may_be_own head.rules placed.0.1) (seat_by head.rules (cell_at placed.0.0.1 placed.0.0.2) placed.0.1, placed.1)
 
 -- the lines of so many players, the first of whom has the number q
-unfoldable pub starts_at : Ground → ℕ → ℕ → List (List ℕ) → Result (List Cell × List (List ℕ)) SessionFault
-starts_at grid zero q lines = Ok ([], lines)
-starts_at grid (suc k) q lines = do
-  first ← start_at grid q lines
-  others ← starts_at grid k (suc q) first.1
+unfoldable pub seats_at : Head → ℕ → ℕ → List (List ℕ) → Result (List Seat × List (List ℕ)) SessionFault
+seats_at head zero q lines = Ok ([], lines)
+seats_at head (suc k) q lines = do
+  first ← seat_at head q lines
+  others ← seats_at head k (suc q) first.1
   Ok (first.0 ∷ others.0, others.1)
 
 -- the cell comes after the wall before it, if there is one
@@ -148,18 +183,27 @@ walls_at grid starts (line ∷ lines) before n = if is_bare (codes "end") line t
 
 -- what a text says, but for its digest
 pub record Said : Type 0 where
+  pub version : ℕ
   pub grid : Ground
   pub rules : world.Rules
   pub turns : ℕ
-  pub starts : List Cell
+  pub ahead : ℕ
+  pub seats : List Seat
 
 -- what these lines say, or the first of them at fault and the first of its rules that it breaks
 unfoldable pub said_by : List (List ℕ) → Result Said SessionFault
 said_by lines = do
   head ← head_at lines
-  starts ← starts_at head.0.grid head.0.players 0 head.1
-  walls ← walls_at head.0.grid starts.0 starts.1 None (7 + head.0.players)
-  Ok (record { grid = record { width = head.0.grid.width; height = head.0.grid.height; walls = walls }; rules = head.0.rules; turns = head.0.turns; starts = starts.0 })
+  seats ← seats_at head.0 head.0.players 0 head.1
+  walls ← walls_at head.0.grid (starts_of seats.0) seats.1 None (first_player_line head.0.version + head.0.players)
+  Ok (record {
+    version = head.0.version;
+    grid = record { width = head.0.grid.width; height = head.0.grid.height; walls = walls };
+    rules = head.0.rules;
+    turns = head.0.turns;
+    ahead = head.0.ahead;
+    seats = seats.0;
+  })
 
 abbrev pub fault_of : {A : Type 0} → Result A SessionFault → Option SessionFault
 fault_of (Ok x) = None
@@ -173,7 +217,7 @@ session_fault text = fault_of (said_by (ended_lines_of text))
 unfoldable pub game_at : List ℕ → Result Game SessionFault
 game_at text = do
   said ← said_by (ended_lines_of text)
-  Ok (game_of (sha256 text) said.grid said.rules said.turns said.starts)
+  Ok (game_of said.version (sha256 text) said.grid said.rules said.turns said.ahead said.seats)
 
 -- what a function that takes no memory answers: what is said, seen by view, or the fault
 abbrev pub Says : {X Y : Type 0} → (X → Y) → Result X SessionFault → Result Y SessionFault → Type 0

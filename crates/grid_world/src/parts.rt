@@ -9,11 +9,13 @@ pub(crate) struct Sides {
     pub height: u16,
 }
 
-/// What the first six lines say.
+/// What the lines before those of the players say.
 #[derive(Clone, Copy)]
 pub(crate) struct Head {
+    pub version: u8,
     pub sides: Sides,
     pub rules: Rules,
     pub turns: u32,
+    pub ahead: u32,
     pub players: u8,
 }

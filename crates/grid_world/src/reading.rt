@@ -1,24 +1,26 @@
 //! A session is read from its text.
 
-ghost use Rattle.std.specs.Prelude.{◌≡◌, ◌<◌, ◌≤◌, ◌+◌, ◌&&◌, not, ℕ, length, Some, None, if◌then◌else◌, option_map, IfOk};
+ghost use Rattle.std.specs.Prelude.{◌≡◌, ◌≤◌, Some, None, if◌then◌else◌, IfOk};
 ghost use Rattle.definitions.specs.World.{has_cell, is_inside};
-ghost use Rattle.grid_world.specs.Lines.{ended_lines_of};
+ghost use Rattle.text_lines.specs.Lines.{ended_lines_of};
 ghost use Rattle.grid_world.specs.Reading as spec;
-ghost use Rattle.grid_world.specs.Reading.{Gives, Says, head_at, start_at, starts_at, wall_at, walls_at, cell_at, game_at, session_fault};
+ghost use Rattle.grid_world.specs.Reading.{Gives, Says, head_at, seat_at, seats_at, wall_at, walls_at, cell_at, game_at, session_fault};
 ghost use Rattle.definitions.specs.World.{Game};
 ghost use Rattle.grid_world.specs.Answers.{IsReadFrom, IsRead, Faults};
-ghost use Rattle.grid_world.specs.Parts.{bare};
+ghost use Rattle.grid_world.specs.Parts.{bare, head_of};
+ghost use Rattle.grid_world.specs.Sessions.{rules_of, starts_of};
 
 use crate::fault::SessionFault;
 use crate::grid::Grid;
-use crate::head::{fault, head, three_at};
-use crate::lines::{is_last_line, take_line, two_of};
-use crate::parts::Sides;
+use crate::head::{fault, first_player_line, head, is_within, three_or_five_at};
+use crate::parts::{Head, Sides};
+use crate::rules::Rules;
 use crate::session::Session;
-use definitions::limits::WIDEST_SIDE;
-use definitions::{Cell, PlayerId, SessionRule};
+use definitions::limits::{FARTHEST_REACH, MOST_SPEED, WIDEST_SIDE};
+use definitions::{Cell, PlayerId, Seat, SessionRule};
 use sha2::{Digest, Sha256};
 use std::alloc::Global;
+use text_lines::{is_last_line, take_line, two_of};
 
 /// The cell of this column and this row, if it is inside.
 fn cell_of(sides: Sides, x: u32, y: u32) -> Option<Cell>
@@ -34,36 +36,72 @@ fn cell_of(sides: Sides, x: u32, y: u32) -> Option<Cell>
     }
 }
 
-/// Where the player starts, which its line says, and the text behind that line.
-#[tactic(auto, unfolding(crate::specs::Reading::start_at))]
-fn start_of(sides: Sides, player: PlayerId, text: &[u8]) -> Result<(Cell, &[u8]), SessionFault>
-    ensures { Says (λ x. (x.0, ended_lines_of x.1.now)) result (start_at (bare sides) player (ended_lines_of text.now)) }
+/// The seat of a player that starts at this cell, with its own speed and reach, if it has, and otherwise those of the rules.
+/// None comes exactly where a player may not have this speed and reach of its own.
+fn seat_by(rules: Rules, start: Cell, own: Option<(u32, u32)>) -> Option<Seat>
+    ensures { result ≡ (if spec.may_be_own (rules_of rules) own then Some (spec.seat_by (rules_of rules) start own) else None) }
 {
-    let line = 7 + u32::from(player);
-    let ((number, x, y), rest) = three_at(line, b"player", text)?;
-    match cell_of(sides, x, y) {
-        Some(cell) if number == u32::from(player) => Ok((cell, rest)),
-        _ => Err(fault(line, SessionRule::S8)),
+    let Some((speed, reach)) = own else {
+        return Some(Seat {
+            start,
+            speed: rules.speed,
+            reach: rules.reach,
+        });
+    };
+    if is_within(1, MOST_SPEED.into(), speed)
+        && (reach <= FARTHEST_REACH.into()
+            && !(speed == u32::from(rules.speed) && reach == u32::from(rules.reach)))
+    {
+        Some(Seat {
+            start,
+            speed: speed as u8,
+            reach: reach as u8,
+        })
+    } else {
+        None
     }
 }
 
-/// Where the players start, and the text behind their lines.
-fn starts_of(
-    alloc: Global,
-    sides: Sides,
-    players: u8,
-    text: &[u8],
-) -> Result<(Vec<Cell>, &[u8]), SessionFault>
-    ensures { Gives (λ x. (x.0.items, ended_lines_of x.1.now)) result (starts_at (bare sides) players 0 (ended_lines_of text.now)) }
+/// What the player's line says, and the text behind that line: where the player starts, and how far it walks and strikes.
+#[tactic(auto, unfolding(crate::specs::Reading::seat_at))]
+fn seat_of<'a>(
+    head: &Head,
+    player: PlayerId,
+    text: &'a [u8],
+) -> Result<(Seat, &'a [u8]), SessionFault>
+    ensures { Says (λ x. (x.0, ended_lines_of x.1.now)) result (seat_at (head_of head.now) player (ended_lines_of text.now)) }
 {
-    let mut starts = Vec::new(alloc);
+    let line = first_player_line(head.version) + u32::from(player);
+    let (((number, x, y), own), rest) = three_or_five_at(line, b"player", text)?;
+    if !(own.is_none() || head.version != 1) {
+        return Err(fault(line, SessionRule::S1));
+    }
+    let start = match cell_of(head.sides, x, y) {
+        Some(cell) if number == u32::from(player) => cell,
+        _ => return Err(fault(line, SessionRule::S8)),
+    };
+    let Some(seat) = seat_by(head.rules, start, own) else {
+        return Err(fault(line, SessionRule::S11));
+    };
+    Ok((seat, rest))
+}
+
+/// The seats of the players in their order, and the text behind their lines.
+fn seats_of<'a>(
+    alloc: Global,
+    head: &Head,
+    text: &'a [u8],
+) -> Result<(Vec<Seat>, &'a [u8]), SessionFault>
+    ensures { Gives (λ x. (x.0.items, ended_lines_of x.1.now)) result (seats_at (head_of head.now) head.now.players 0 (ended_lines_of text.now)) }
+{
+    let mut seats = Vec::new(alloc);
     let mut rest = text;
-    for player in 0..players {
-        let (start, after) = start_of(sides, player, rest)?;
-        starts.push(start)?;
+    for player in 0..head.players {
+        let (seat, after) = seat_of(head, player, rest)?;
+        seats.push(seat)?;
         rest = after;
     }
-    Ok((starts, rest))
+    Ok((seats, rest))
 }
 
 /// Whether the cell comes after the other one in row order, if there is another one.
@@ -77,11 +115,12 @@ fn is_after(before: Option<Cell>, cell: Cell) -> bool
 }
 
 /// Whether a player starts at the cell.
-fn is_start(starts: &[Cell], cell: Cell) -> bool
-    ensures { result ≡ has_cell starts.now cell }
+fn is_start(seats: &[Seat], cell: Cell) -> bool
+    ensures { result ≡ has_cell (starts_of seats.now) cell }
 {
-    starts
+    seats
         .iter()
+        .map(|seat| seat.start)
         .any(|start| cell.x == start.x && cell.y == start.y)
 }
 
@@ -89,12 +128,12 @@ fn is_start(starts: &[Cell], cell: Cell) -> bool
 #[tactic(auto, unfolding(crate::specs::Reading::wall_at))]
 fn wall_of(
     sides: Sides,
-    starts: &[Cell],
+    seats: &[Seat],
     before: Option<Cell>,
     n: u32,
     line: &[u8],
 ) -> Result<Cell, SessionFault>
-    ensures { Says (λ x. x) result (wall_at (bare sides) starts.now before n line.now) }
+    ensures { Says (λ x. x) result (wall_at (bare sides) (starts_of seats.now) before n line.now) }
 {
     let Some((x, y)) = two_of(b"wall", line) else {
         return Err(fault(n, SessionRule::S1));
@@ -102,7 +141,7 @@ fn wall_of(
     let Some(wall) = cell_of(sides, x, y) else {
         return Err(fault(n, SessionRule::S8));
     };
-    if !(is_after(before, wall) && !is_start(starts, wall)) {
+    if !(is_after(before, wall) && !is_start(seats, wall)) {
         return Err(fault(n, SessionRule::S9));
     }
     Ok(wall)
@@ -112,14 +151,14 @@ fn wall_of(
 fn walls_of(
     alloc: Global,
     sides: Sides,
-    starts: &[Cell],
+    seats: &[Seat],
     first: u32,
     text: &[u8],
 ) -> Result<Vec<Cell>, SessionFault>
     requires wide { sides.width ≤ WIDEST_SIDE }
     requires high { sides.height ≤ WIDEST_SIDE }
-    requires early { first ≤ 23 }
-    ensures { Gives (λ v. v.items) result (walls_at (bare sides) starts.now (ended_lines_of text.now) None first) }
+    requires early { first ≤ 72 }
+    ensures { Gives (λ v. v.items) result (walls_at (bare sides) (starts_of seats.now) (ended_lines_of text.now) None first) }
 {
     let mut walls = Vec::new(alloc);
     let mut before = None;
@@ -133,7 +172,7 @@ fn walls_of(
             }
             return Err(fault(n + 1, SessionRule::S1));
         }
-        let wall = wall_of(sides, starts, before, n, line)?;
+        let wall = wall_of(sides, seats, before, n, line)?;
         walls.push(wall)?;
         before = Some(wall);
         n += 1;
@@ -149,12 +188,20 @@ fn session_of(alloc: Global, text: &[u8]) -> Result<Session, SessionFault>
     ensures early { (e : SessionFault) → head_at (ended_lines_of text.now) ≡ Err e → result ≡ Err e }
 {
     let (head, rest) = head(text)?;
-    let (starts, rest) = starts_of(alloc, head.sides, head.players, rest)?;
-    let first = 7 + u32::from(head.players);
-    let walls = walls_of(alloc, head.sides, &starts, first, rest)?;
+    let (seats, rest) = seats_of(alloc, &head, rest)?;
+    let first = first_player_line(head.version) + u32::from(head.players);
+    let walls = walls_of(alloc, head.sides, &seats, first, rest)?;
     let grid = Grid::new(alloc, head.sides.width, head.sides.height, walls)?;
     let id = Sha256::digest(text);
-    Ok(Session::new(id, grid, head.rules, head.turns, starts))
+    Ok(Session::new(
+        head.version,
+        id,
+        grid,
+        head.rules,
+        head.turns,
+        head.ahead,
+        seats,
+    ))
 }
 
 /// Reads a session from its text.

@@ -3,9 +3,10 @@
 /// What the lines `rules` and `charge` of a session text say.
 #[derive(Clone, Copy, Debug, PartialEq, Eq)]
 pub struct Rules {
-    /// The most king steps that a player walks in a turn, from 1 to `MOST_SPEED`.
+    /// The most king steps that a player walks in a turn, from 1 to `MOST_SPEED`, unless it has a speed of its own.
     pub speed: u8,
-    /// The greatest square distance from a player's target to the cell that it strikes, at most `FARTHEST_REACH`.
+    /// The greatest square distance from a player's target to the cell that it strikes, at most `FARTHEST_REACH`, unless
+    /// it has a reach of its own.
     pub reach: u8,
     /// The greatest square distance from the cell struck at which a player is hit, at most
     /// `WIDEST_BLAST`.

@@ -1,16 +1,14 @@
 -- Growth step by step: as many steps from a set lead where walks of that length do.
-use Rattle.std.proofs.Common.{◌≡◌, ℕ, zero, suc, ◌+◌, ◌*◌, ◌<◌, ◌≤◌, true, List, refl, sym, ap, ◌∙◌, arith}
+use Rattle.std.proofs.Common.{◌≡◌, ℕ, zero, suc, ◌+◌, ◌*◌, ◌≤◌, true, List, refl, sym, ap, ◌∙◌, arith}
 use Rattle.std.specs.Prelude.{filter, ◌&&◌, nat_le}
 use Rattle.std.specs.List.{list_any}
 use Rattle.std.proofs.lemmas.Bool.{and_parts, and_from}
 use Rattle.definitions.specs.declared.world.Cell.{Cell}
-use Rattle.definitions.specs.World.{Ground, Game, has_cell, cells_in, is_open, distance, players_of, seat_of}
+use Rattle.definitions.specs.World.{Ground, Game, has_cell, cells_in, is_open, distance, seat_of}
 use Rattle.definitions.specs.Walk.{is_step, stepped, walked, reach_of}
 use Rattle.definitions.specs.Sphere.{spread, sphere_of}
 use Rattle.definitions.proofs.Cells.{any-cell, any-from}
 use Rattle.definitions.proofs.Walks.{has-begun, walked_open}
-use Rattle.grid_world.specs.Sessions.{IsSession}
-use Rattle.grid_world.proofs.Facts.{seat_speed, seat_reach}
 use Rattle.cell_set.proofs.CellLists.{filter_cells}
 use Rattle.cell_set.specs.Regions.{Region, IsSizeOf, AreOpen, ground_of, with_cells}
 use Rattle.plain_lemmas.proofs.Tests.{same_tests}
@@ -89,16 +87,12 @@ spread_size g h radius cells width height =
     ap (λ (w : ℕ). from w g.height) width ∙ ap (λ (k : ℕ). from h.width k) height
 
 -- as many steps as a player walks in a turn, and then what it strikes
-pub sphere_is : (game : Game) (q k radius : ℕ) (r o out new : Region) → IsSession game → q < players_of game → IsSizeOf game.grid r → IsSizeOf game.grid o
-    → k ≡ game.rules.speed → radius ≡ game.rules.reach + game.rules.blast
+pub sphere_is : (game : Game) (q k radius : ℕ) (r o out new : Region) → IsSizeOf game.grid r → IsSizeOf game.grid o → 1 ≤ k
+    → k ≡ (seat_of game q).speed → radius ≡ (seat_of game q).reach + game.rules.blast
     → out ≡ with_cells r (grown game.grid k r.cells) → new ≡ with_cells out (spread (ground_of out) radius out.cells) → new ≡ with_cells o (sphere_of game q r.cells)
-sphere_is game q k radius r o out new facts player size size_too steps far is new_is =
-    let some = facts.speed in
-    let speed = seat_speed game q facts player in
-    let reach = seat_reach game q facts player in
+sphere_is game q k radius r o out new size size_too some steps square is new_is =
     let walk : grown game.grid k r.cells ≡ reach_of game q 1 r.cells =
-    grown_some game.grid k r.cells (omega arith) ∙ ap (λ (n : ℕ). walked game.grid n r.cells) (let e : k ≡ 1 * (seat_of game q).speed = omega arith in e) in
-    let square : radius ≡ (seat_of game q).reach + game.rules.blast = omega arith in
+    grown_some game.grid k r.cells some ∙ ap (λ (n : ℕ). walked game.grid n r.cells) (let e : k ≡ 1 * (seat_of game q).speed = omega arith in e) in
     let width : r.width ≡ o.width = size.width ∙ sym size_too.width in
     let height : r.height ≡ o.height = size.height ∙ sym size_too.height in
     let sized : ℕ → ℕ → Region = λ w h. record { width = w; height = h; cells = sphere_of game q r.cells } in

@@ -8,7 +8,7 @@ use Rattle.line_io.specs.Lines.{lines_of, IsOpen, StartsLonger}
 use Rattle.line_io.specs.Reader.{Reader}
 use Rattle.line_io.specs.declared.bytes.NextByte.{NextByte}
 use Rattle.line_io.specs.declared.bytes.NextByte.TheVariants.{Byte, End as ByteEnd, Failed as ByteFailed}
-use Rattle.line_io.specs.declared.lines.TheConstants.{LONGEST_LINE}
+use Rattle.definitions.specs.declared.limits.TheConstants.{LONGEST_LINE}
 use Rattle.line_io.specs.declared.lines.NextLine.{NextLine}
 use Rattle.line_io.specs.declared.lines.NextLine.TheVariants.{Line, Last, TooLong, End as LineEnd, Failed as LineFailed}
 

@@ -14,5 +14,5 @@ pub mod texts;
 
 pub use bytes::{ByteReader, NextByte};
 pub use fronts::{FrontFault, read_front};
-pub use lines::{LONGEST_LINE, LineReader, NextLine};
+pub use lines::{LineReader, NextLine};
 pub use texts::{Written, put};

@@ -5,11 +5,9 @@ ghost use Rattle.line_io.specs.Readings.{ReadsLine};
 
 use crate::bytes::{ByteReader, NextByte};
 use arrayvec::ArrayVec;
+use definitions::limits::LONGEST_LINE;
 use station::Source;
 use std::marker::Model;
-
-/// The most bytes that a line has, its LF aside.
-pub const LONGEST_LINE: usize = 1_024;
 
 /// What a reader of lines answers.
 #[derive(Clone, Copy, Debug, PartialEq, Eq)]

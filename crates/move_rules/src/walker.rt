@@ -22,7 +22,7 @@ fn is_near(session: &Session, player: PlayerId, from: Cell, to: Cell) -> bool
     requires from { IsTrue (is_open session.now.grid from) }
     ensures { result ≡ in_reach session.now player from to }
 {
-    leads(session.grid(), from, to, u16::from(session.rules().speed))
+    leads(session.grid(), from, to, u16::from(session.speed(player)))
 }
 
 /// Why the strike isn't allowed from this track to this target, by the first cause.
@@ -39,7 +39,7 @@ fn strike_fault(
     let rules = session.rules();
     if !session.grid().inside(strike) {
         Some(MoveFault::StrikeOutside)
-    } else if distance(strike, to) > u16::from(rules.reach) {
+    } else if distance(strike, to) > u16::from(session.reach(player)) {
         Some(MoveFault::StrikeFar)
     } else if track.charge < rules.cost {
         Some(MoveFault::NoCharge)

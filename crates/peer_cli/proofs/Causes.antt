@@ -13,7 +13,7 @@ use Rattle.run_frame.specs.declared.statuses.Status.TheVariants.{Done, InputFaul
 use Rattle.definitions.specs.World.{Game, players_of}
 use Rattle.grid_world.specs.declared.fault.SessionFault.{SessionFault}
 use Rattle.grid_world.specs.declared.fault.SessionFault.TheVariants.{At, Memory}
-use Rattle.grid_world.specs.Lines as L
+use Rattle.text_lines.specs.Lines as L
 use Rattle.grid_world.specs.Reading.{◌>>=◌, fault_of, game_at, said_by, session_fault}
 use Rattle.grid_world.proofs.Found.{game_found}
 use Rattle.old_log.specs.Old.{Fault, dropped_at, old_entries, old_fault}
@@ -21,12 +21,14 @@ use Rattle.drive_command.specs.Begin.{Beginning, TellsPlay, begun_answer, drive_
 use Rattle.drive_command.specs.Causes.{DriveCause}
 use Rattle.drive_command.specs.Words.{Driving}
 use Rattle.drive_command.proofs.Commanded.{drive_caused, drive_done, drive_tells_play}
+use Rattle.upgrade_command.specs.Upgrade.{TellsUpgrade, upgrade_answer}
+use Rattle.upgrade_command.proofs.Tells.{upgrade_tells}
 use Rattle.peer_cli.specs.Causes.{HasCause, IsGood, IsMeant, IsSeated, IsSet}
 use Rattle.peer_cli.specs.Commands.{answer_of, begins_with}
 use Rattle.peer_cli.specs.Files.{Contents}
-use Rattle.peer_cli.specs.Games.{begun, empty_beginning, ended_by, front_of, log_front_of, old_beginning, with_old, with_player}
+use Rattle.peer_cli.specs.Games.{begun, empty_beginning, ended_by, front_of, log_front_of, old_beginning, session_in, with_old, with_player}
 use Rattle.peer_cli.specs.Outside.{CountsFaults, OneFailed, Outside}
-use Rattle.peer_cli.specs.Words.{Command, Drive}
+use Rattle.peer_cli.specs.Words.{Command, Drive, Upgrade}
 use Rattle.peer_cli.proofs.Begun.{begun_honest}
 
 -- the answer where a run begins with this
@@ -92,25 +94,39 @@ module _ (d : Driving) (contents : Contents) (input : Input) (ends : ending_of i
   read (Err Memory) f = tt
   read (Err (At line what)) f = fault_said (front_of contents.session) (At line what) f
 
+-- The command to upgrade.
+upgrade_read : (session : List ℕ) (contents : Contents) (input : Input) (r : Result Game SessionFault) → game_at (front_of contents.session) ≡ r →
+    HasCause (Some (Upgrade session)) contents input (upgrade_answer (ended_by r)).status
+upgrade_read session contents input (Ok game) f = (record { game = game; read = f }, tt)
+upgrade_read session contents input (Err Memory) f = tt
+upgrade_read session contents input (Err (At line what)) f = fault_said (front_of contents.session) (At line what) f
+
+upgrade_answer_is : (contents : Contents) (game : Game) → game_at (front_of contents.session) ≡ Ok game → upgrade_answer (session_in contents.session) ≡ upgrade_answer (Ok game)
+upgrade_answer_is contents game read = ap (λ (r : Result Game SessionFault). upgrade_answer (ended_by r)) read
+
 -- Each command.
 pub caused : (command : Option Command) (contents : Contents) (input : Input) → ending_of input ≡ AtEnd → HasCause command contents input (answer_of command contents input).status
 caused None contents input ends = tt
 caused (Some (Drive d)) contents input ends = read d contents input ends (game_at (front_of contents.session)) refl
+caused (Some (Upgrade session)) contents input ends = upgrade_read session contents input (game_at (front_of contents.session)) refl
 
 -- where all is good, the end of the command is due
 pub good_done : (command : Option Command) (contents : Contents) (input : Input) → ending_of input ≡ AtEnd → IsGood command contents input → (answer_of command contents input).status ≡ Done
 good_done None contents input ends good = absurd good
 good_done (Some (Drive d)) contents input ends (b, set, played) =
     ap (λ (a : Answer). a.status) (set_answer d contents input b set) ∙ drive_done d.player b input ends played
+good_done (Some (Upgrade session)) contents input ends good = ap (λ (a : Answer). a.status) (upgrade_answer_is contents good.game good.read)
 
 -- what is behind the answer
 pub meant : (command : Option Command) (contents : Contents) (input : Input) → IsMeant command contents input
 meant None contents input = tt
 meant (Some (Drive d)) contents input = λ b set.
     let read = game_found _ b.game set.seated.read in
-    let ahead : 1 ≤ b.game.ahead = omega (arith, read.session.ahead) in
+    let ahead : 1 ≤ b.game.ahead = read.session.ahead.0 in
     subst (λ (a : Answer). TellsPlay d.player b input a.body) (sym (set_answer d contents input b set))
     (drive_tells_play d.player b input ahead (begun_honest b.game d.player _ b set.begins).honest)
+meant (Some (Upgrade session)) contents input = λ game read.
+    subst (λ (a : Answer). TellsUpgrade game a.body) (sym (upgrade_answer_is contents game read)) (upgrade_tells game _ (game_found _ game read))
 
 -- what holds of the status that is due, of want of memory and of faults holds of the status that comes
 module _ (before now : SinkState) (whole cut : Answer) (source shelf : Type 0) where

@@ -16,7 +16,7 @@ use Rattle.peer_cli.specs.Commands.{ReadsFor, answer_of, contents_of}
 use Rattle.peer_cli.specs.Files.{AreContents, Calls, IsLogReading, IsLogShown}
 use Rattle.peer_cli.specs.Memory.{WritesInMemory}
 use Rattle.peer_cli.specs.Runs.{ReadsOn, Runs}
-use Rattle.peer_cli.specs.Words.{Command, Drive}
+use Rattle.peer_cli.specs.Words.{Command, Drive, Upgrade}
 
 -- what was left is what was read and what is left
 left_is : (s t : HeldSource) → ReadsOn (source_state s) (source_state t) → bytes_left s.left ≡ since s.seen t.seen ++ bytes_left t.left
@@ -45,6 +45,10 @@ files_are None files before after calls e r = subst (λ (c : Calls). AreContents
 files_are (Some (Drive d)) files before after calls e r = record {
   session_gives = subst (λ (f : Option (List ℕ → Option (List ℕ))). AllShown f d.session calls.session) e r.session_shown;
   log_gives = log_gives files d.old calls.log r.log_read (subst (λ (f : Option (List ℕ → Option (List ℕ))). IsLogShown f d.old calls.log) e r.log_shown);
+}
+files_are (Some (Upgrade session)) files before after calls e r = record {
+  session_gives = subst (λ (f : Option (List ℕ → Option (List ℕ))). AllShown f session calls.session) e r.session_shown;
+  log_gives = subst (AllGive None) (sym r.none) tt;
 }
 
 pub ran_in_memory : (command : Option Command) (i i' : HeldSource) (a b : HeldSink) (h h' : HeldShelf) (s : Status) →

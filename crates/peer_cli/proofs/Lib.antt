@@ -5,3 +5,4 @@ pub mod Shelves
 pub mod Running
 pub mod Counts
 pub mod InMemory
+pub mod Upgrades

@@ -28,7 +28,7 @@ use Rattle.peer_cli.specs.Files.{AreContents, Calls, Contents, IsLogReading, Ope
 use Rattle.peer_cli.specs.Games.{IsStartFor}
 use Rattle.peer_cli.specs.Outside.{CountsFaults, Outside}
 use Rattle.peer_cli.specs.Runs.{MayBe, Run, Runs, Works, Writes, read_by}
-use Rattle.peer_cli.specs.Words.{Command, Drive}
+use Rattle.peer_cli.specs.Words.{Command, Drive, Upgrade}
 use Rattle.peer_cli.proofs.Begins.{begun_ran, memory_taken, unbegun_ran}
 use Rattle.peer_cli.proofs.Causes.{caused, completed, ends_at_end, finished_cause, good_done, meant}
 use Rattle.peer_cli.proofs.Counts.{ended_counts, refused_counts, unbegun_counts, unbegun_done, where_no_memory}
@@ -43,6 +43,10 @@ some_contents calls = record { session = Some (bytes_read calls.session); log = 
 
 contents_fit : (command : Option Command) (before after : ShelfState) (calls : Calls) → ReadsFor command before after calls → AreContents (some_contents calls) calls
 contents_fit None before after calls r = subst (λ (c : Calls). AreContents (some_contents c) c) (sym r.1) (record { session_gives = tt; log_gives = tt })
+contents_fit (Some (Upgrade session)) before after calls r = record {
+  session_gives = reading_fits session calls.session r.session_read;
+  log_gives = subst (λ (ps : List Piece). AllGive (Some (bytes_read ps)) ps) (sym r.none) tt;
+}
 contents_fit (Some (Drive d)) before after calls r = record { session_gives = reading_fits d.session calls.session r.session_read; log_gives = log_fits d.old calls.log r.log_read }
 
 -- words that are no command

@@ -11,10 +11,16 @@ use Rattle.old_log.specs.Old.{old_fault}
 use Rattle.drive_command.specs.Begin.{Beginning, TellsPlay}
 use Rattle.drive_command.specs.Causes.{DriveCause, IsPlayed}
 use Rattle.drive_command.specs.Words.{Driving}
+use Rattle.upgrade_command.specs.Upgrade.{TellsUpgrade, UpgradeCause}
 use Rattle.peer_cli.specs.Commands.{answer_of}
 use Rattle.peer_cli.specs.Files.{Contents}
 use Rattle.peer_cli.specs.Games.{begun, front_of, log_front_of}
-use Rattle.peer_cli.specs.Words.{Command, Drive}
+use Rattle.peer_cli.specs.Words.{Command, Drive, Upgrade}
+
+-- The session's file has a session.
+pub record HasSession (contents : Contents) : Type 0 where
+  pub game : Game
+  pub read : game_at (front_of contents.session) ≡ Ok game
 
 -- The session's file has this session, and the player is one of it.
 pub record IsSeated (d : Driving) (contents : Contents) (game : Game) : Type 0 where
@@ -58,13 +64,17 @@ HasCause (Some (Drive d)) contents input Usage = IsPast d contents
 HasCause (Some (Drive d)) contents input (BadSession line what) = session_fault (front_of contents.session) ≡ Some (At line what)
 HasCause (Some (Drive d)) contents input (BadLog log at why) = IsBadOld d contents log at why
 HasCause (Some (Drive d)) contents input status = IsBegunSo d contents input status
+HasCause (Some (Upgrade session)) contents input (BadSession line what) = session_fault (front_of contents.session) ≡ Some (At line what)
+HasCause (Some (Upgrade session)) contents input status = HasSession contents × UpgradeCause status
 
 -- Words, files and input are such that the command can come to its end.
 abbrev pub IsGood : Option Command → Contents → Input → Type 0
 IsGood None contents input = ⊥
 IsGood (Some (Drive d)) contents input = (b : Beginning) × IsSet d contents b × IsPlayed d.player b input None
+IsGood (Some (Upgrade session)) contents input = HasSession contents
 
 -- What is behind the answer.
 abbrev pub IsMeant : Option Command → Contents → Input → Type 0
 IsMeant None contents input = Unit {0}
 IsMeant (Some (Drive d)) contents input = (b : Beginning) → IsSet d contents b → TellsPlay d.player b input (answer_of (Some (Drive d)) contents input).body
+IsMeant (Some (Upgrade session)) contents input = (game : Game) → game_at (front_of contents.session) ≡ Ok game → TellsUpgrade game (answer_of (Some (Upgrade session)) contents input).body

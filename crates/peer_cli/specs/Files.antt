@@ -57,6 +57,18 @@ pub record ReadsFiles (session : List ℕ) (player : ℕ) (old : Option (List �
   pub session_shown : AllShown before.files session calls.session
   pub log_shown : IsLogShown before.files old calls.log
 
+-- The file of a session was read by these calls and no others.
+pub record ReadsSession (session : List ℕ) (before after : ShelfState) (calls : Calls) : Type 0 where
+  -- the shelf has the files that it had
+  pub same : after.files ≡ before.files
+  -- no other file is read
+  pub answered : after.pieces ≡ before.pieces ++ calls.session
+  pub none : calls.log ≡ []
+  -- it is read from its front on, and no further behind its end or a fault
+  pub session_read : IsReading session 0 calls.session
+  -- where the shelf shows its files, what it gives was answered
+  pub session_shown : AllShown before.files session calls.session
+
 -- The session of a file was read.
 pub record OpensSession (before after : ShelfState) (name : List ℕ) (session : Result Game Status) : Type 0 where
   pub fetched : Fetched before after name (is_shelf_fault session)

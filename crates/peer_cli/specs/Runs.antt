@@ -1,5 +1,5 @@
 -- Runs: what the program promises of a run.
-use Rattle.std.specs.Prelude.{◌≡◌, ◌⊎◌, ℕ, true, None, Option, List, ◌++◌}
+use Rattle.std.specs.Prelude.{◌≡◌, ◌⊎◌, ℕ, None, Option, List, ◌++◌}
 use Rattle.station.specs.Outside.{Rose}
 use Rattle.station.specs.Since.{since, Grows}
 use Rattle.station.specs.Sources.{SourceState}
@@ -11,7 +11,7 @@ use Rattle.run_frame.specs.declared.statuses.Status.{Status}
 use Rattle.run_frame.specs.declared.statuses.Status.TheVariants.{Done, NoMemory, OutputFault, Usage}
 use Rattle.peer_cli.specs.Words.{Command}
 use Rattle.peer_cli.specs.Files.{AreContents, Calls, Contents}
-use Rattle.peer_cli.specs.Commands.{IsOverAtFirst, ReadsFor, answer_of}
+use Rattle.peer_cli.specs.Commands.{IsOverAtFirst, ReadsFor, ReadsThrough, answer_of}
 use Rattle.peer_cli.specs.Causes.{HasCause, IsGood, IsMeant}
 use Rattle.peer_cli.specs.Outside.{CountsFaults, Outside}
 
@@ -78,8 +78,8 @@ pub record Completes (run : Run) (calls : Calls) (status : Status) : Type 0 wher
   pub done : ForAny run calls (λ contents behind. IsGood run.command contents (input_of AtEnd (read_by run ++ behind)) →
       ¬ Rose run.before.input.faults run.after.input.faults → ¬ Rose run.before.shelf.faults run.after.shelf.faults → ¬ Rose run.before.output.faults run.after.output.faults →
       (status ≡ Done) ⊎ (status ≡ NoMemory))
-  -- at its end the input was read to its end
-  pub over : OnDone status (run.after.input.ended ≡ true)
+  -- at its end the input was read to its end, where it is read
+  pub over : OnDone status (ReadsThrough run.command run.after.input.ended)
 
 -- What the program promises of a run that ended with this status. `alone` says that the input was left alone.
 pub record Runs (run : Run) (alone : Type 0) (status : Status) : Type 0 where
@@ -101,7 +101,7 @@ pub record Runs (run : Run) (alone : Type 0) (status : Status) : Type 0 where
   pub untouched : LeavesAlone run calls alone status
   -- where all is good it comes to its end
   pub complete : Completes run calls status
-  -- what is behind its answers, whatever the files hold and the input is: a log of fair play
+  -- what is behind its answers, whatever the files hold and the input is, as a log of fair play
   pub meant : (contents : Contents) (input : Input) → IsMeant run.command contents input
 
 -- The same before the line of a refusal is written.
@@ -114,4 +114,4 @@ pub record Works (run : Run) (alone : Type 0) (status : Status) : Type 0 where
   pub usage : run.command ≡ None → status ≡ Usage
   pub faults : CountsFaults run.before run.after status
   pub untouched : LeavesAlone run calls alone status
-  pub over : OnDone status (run.after.input.ended ≡ true)
+  pub over : OnDone status (ReadsThrough run.command run.after.input.ended)

@@ -3,6 +3,7 @@ use Rattle.std.specs.Prelude.{ℕ, Bool, false, not, ◌&&◌, List, [], ◌∷�
 use Rattle.std.specs.List.{list_all}
 use Rattle.std.specs.Str.{is_utf8}
 use Rattle.drive_command.specs.Words.{Driving, driving_in, driving_said}
+use Rattle.upgrade_command.specs.Words.{upgrading_in}
 use Rattle.peer_cli.specs.declared.words.Command.{Command as CommandWords}
 use Rattle.peer_cli.specs.declared.words.Command.TheVariants as said
 
@@ -10,10 +11,13 @@ use Rattle.peer_cli.specs.declared.words.Command.TheVariants as said
 pub data Command : Type 0 where
   -- the player of a file's session is driven by the input, and goes on from the log in the other file, if one is named
   Drive : Driving → Command
+  -- the session of this file is printed in version 2
+  Upgrade : (session : List ℕ) → Command
 
 -- the command that the words say
 abbrev pub command_said : CommandWords → Command
 command_said (said.Drive driving) = Drive (driving_said driving)
+command_said (said.Upgrade session) = Upgrade session.now
 
 -- the word begins with `-`
 abbrev pub begins_with_dash : List ℕ → Bool
@@ -26,7 +30,10 @@ is_word word = is_utf8 word && not (begins_with_dash word)
 
 -- the command of this name with these words
 abbrev pub command_named : (name : List ℕ) → (words : List (List ℕ)) → Option Command
-command_named name words = if bytes_eq name (codes "drive") then option_map Drive (driving_in words) else None
+command_named name words =
+    if bytes_eq name (codes "drive") then option_map Drive (driving_in words)
+    else if bytes_eq name (codes "upgrade") then option_map Upgrade (upgrading_in words)
+    else None
 
 -- the command of these words: its name, and then its own words
 abbrev pub command_in : List (List ℕ) → Option Command

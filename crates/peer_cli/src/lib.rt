@@ -14,6 +14,7 @@ mod old_logs;
 mod peers;
 mod program;
 mod sessions;
+mod upgrading;
 mod words;
 
 pub use memory::run_in_memory;

@@ -7,12 +7,15 @@ ghost use Rattle.peer_cli.specs.Words as W;
 
 use drive_command::{DriveWords, read_drive_words};
 use std::str::from_utf8;
+use upgrade_command::read_upgrade_words;
 
 /// A command, with its words.
 #[derive(Clone, Copy)]
 pub(crate) enum Command<'a> {
     /// A peer is driven by the input.
     Drive(DriveWords<'a>),
+    /// The session of this file is printed in version 2.
+    Upgrade(&'a [u8]),
 }
 
 /// Whether the bytes are UTF-8.
@@ -55,11 +58,15 @@ fn are_words(words: &[Vec<u8>]) -> bool
 fn read_named<'a>(name: &[u8], words: &'a [Vec<u8>]) -> Option<Command<'a>>
     ensures { option_map W.command_said result ≡ W.command_named name.now (map (λ w. w.items) words.now) }
 {
-    if name != b"drive".as_slice() {
-        return None;
+    if name == b"drive".as_slice() {
+        let words = read_drive_words(words)?;
+        Some(Command::Drive(words))
+    } else if name == b"upgrade".as_slice() {
+        let session = read_upgrade_words(words)?;
+        Some(Command::Upgrade(session))
+    } else {
+        None
     }
-    let words = read_drive_words(words)?;
-    Some(Command::Drive(words))
 }
 
 /// The command that the words are.

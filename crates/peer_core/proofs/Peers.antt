@@ -337,8 +337,7 @@ pub log_few : (game : Game) (me : ℕ) (h g : List Entry) → IsSession game →
 log_few game me h g is my i same =
     let few = logs_fit game me h (ahead_least game is) my i in
     let turns = is.turns in
-    let players = is.players in
-    let small = room_small game turns.1 players.1 in
+    let small = room_small game turns.1 is.turns_of_all in
     let l = ap (λ (xs : List Entry). length xs) same in
     omega arith
 

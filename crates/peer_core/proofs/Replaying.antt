@@ -155,8 +155,7 @@ pub few_replayed : (game : Game) (me i : ℕ) (es : List Entry) → IsSession ga
 few_replayed game me i es is my le honest =
     let few = logs_fit game me (take i es) (ahead_least game is) my honest in
     let turns = is.turns in
-    let players = is.players in
-    let small = room_small game turns.1 players.1 in
+    let small = room_small game turns.1 is.turns_of_all in
     let count = length-take-le i es le in
     omega arith
 

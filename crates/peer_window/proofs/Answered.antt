@@ -1,8 +1,8 @@
 -- Answered: which answer a frame gets, by the slot of its place.
-use Rattle.std.proofs.Common.{◌≡◌, ℕ, ◌*◌, ◌<◌, List, [], ◌∷◌, ◌++◌, length, set, refl, Bool, true, false, sym, ◌∙◌, ap, inl, inr, Option, Some, None}
+use Rattle.std.proofs.Common.{◌≡◌, ℕ, ◌*◌, ◌<◌, arith, List, [], ◌∷◌, ◌++◌, length, set, refl, Bool, true, false, sym, ◌∙◌, ap, inl, inr, Option, Some, None}
 use Rattle.std.specs.Prelude.{◌==◌, ◌||◌, option_to_list}
 use Rattle.std.specs.List.{list_any}
-use Rattle.std.proofs.lemmas.Bool.{cases_Bool, cond-false, cond-true, false_from_ne_true, false≢true}
+use Rattle.std.proofs.lemmas.Bool.{cases_Bool, cases_lt, cond-false, cond-true, false_from_ne_true, false≢true}
 use Rattle.definitions.specs.declared.frames.TurnFrame.{TurnFrame}
 use Rattle.definitions.specs.declared.frames.TurnFrame.TheVariants.{Commit, Reveal}
 use Rattle.definitions.specs.World.{Game}
@@ -10,7 +10,7 @@ use Rattle.definitions.specs.Lists.{EachIs}
 use Rattle.definitions.specs.Logs.{frame_eq}
 use Rattle.definitions.specs.Held.{known_to, places_in}
 use Rattle.definitions.specs.Answers as A
-use Rattle.definitions.proofs.Streams.{commit_place-plain, reveal_place-plain}
+use Rattle.definitions.proofs.Streams.{commit_place-past, reveal_place-past}
 use Rattle.definition_laws.proofs.Alike.{frame_eq_true}
 use Rattle.definition_laws.proofs.Listing.{append_nil}
 use Rattle.peer_window.specs.declared.received.Received.{Received}
@@ -23,11 +23,17 @@ use Rattle.peer_window.specs.Slots.{AreSlots, frames_in, in_order, slot_of, slot
 use Rattle.peer_window.specs.Windows.{IsHeld, IsWindow, Seen, answer, frames_after, is_far, is_same, new_answer, seen_of, with_frame}
 use Rattle.peer_window.proofs.Ordered.{AllBefore, each_in_order, in_order_set, slot_each}
 
--- the place of a frame, where players commit one turn ahead
-pub place_plain : (game : Game) (f : TurnFrame) → game.ahead ≡ 1 → A.place_of game f ≡ slot_of f
+-- a frame whose place is one of the stream's has a slot
+pub placed_slot : (game : Game) (f : TurnFrame) → A.place_of game f < 2 * game.turns → slot_of f < 2 * game.turns
 unfolding A.place_of
-place_plain game (Commit p t d) one = commit_place-plain game t one
-place_plain game (Reveal p t m n) one = reveal_place-plain game t one
+placed_slot game (Commit p t d) lt = elim (cases_lt t game.turns) [
+  | inl below ↦ omega arith
+  | inr past ↦ let at = commit_place-past game t past in absurd (omega arith)
+]
+placed_slot game (Reveal p t m n) lt = elim (cases_lt t game.turns) [
+  | inl below ↦ omega arith
+  | inr past ↦ let at = reveal_place-past game t past in absurd (omega arith)
+]
 
 pub frames_alone : (ss : List (Option Received)) (rival : Option Received) → rival ≡ None → in_order ss ++ option_to_list rival ≡ in_order ss
 frames_alone ss rival e = ap (λ (o : Option Received). in_order ss ++ option_to_list o) e ∙ append_nil (in_order ss)

@@ -1,8 +1,8 @@
 -- Clashing: a frame in an empty slot makes a clash with the other frame of its turn, or leads to an illegal reveal.
-use Rattle.std.proofs.Common.{◌≡◌, ℕ, suc, ◌+◌, ◌*◌, ◌<◌, ◌≤◌, List, refl, Bool, true, false, sym, ◌∙◌, ap, arith, inl, inr, Option, Some, None}
+use Rattle.std.proofs.Common.{◌≡◌, ℕ, ◌+◌, ◌*◌, ◌<◌, ◌≤◌, List, refl, Bool, true, false, sym, ◌∙◌, ap, arith, inl, inr, Option, Some, None}
 use Rattle.std.specs.Prelude.{if◌then◌else◌, max, min}
 use Rattle.std.specs.Option.{option_or}
-use Rattle.std.proofs.lemmas.Bool.{cases_lt, eq-eqb, false≢true}
+use Rattle.std.proofs.lemmas.Bool.{cases_lt, false≢true}
 use Rattle.definitions.specs.declared.findings.Kind.TheVariants.{BadOpening}
 use Rattle.definitions.specs.declared.world.Move.{Move}
 use Rattle.definitions.specs.declared.world.Track.{Track}
@@ -14,9 +14,7 @@ use Rattle.definitions.specs.declared.frames.TurnFrame.TheVariants.{Commit, Reve
 use Rattle.definitions.specs.World.{Game}
 use Rattle.definitions.specs.Moves.{move_fault}
 use Rattle.definitions.specs.Logs.{digest_eq}
-use Rattle.definitions.specs.Held.{digest_of, known_to, next_known, places_in}
-use Rattle.definition_laws.proofs.Knowing.{known_to_whole}
-use Rattle.definition_laws.proofs.Windows.{at_places}
+use Rattle.definitions.specs.Held.{digest_of}
 use Rattle.grid_world.specs.Sessions.{IsSession}
 use Rattle.move_rules.specs.Verdicts.{judged}
 use Rattle.reveal_check.specs.declared.judging.Verdict.TheVariants as V
@@ -27,49 +25,14 @@ use Rattle.peer_window.specs.declared.walk.Reach.{Reach}
 use Rattle.peer_window.specs.declared.walk.Step.{Step}
 use Rattle.peer_window.specs.declared.walk.Step.TheVariants.{Committed, Resolved, Halt, Illegal}
 use Rattle.peer_window.specs.Clashes.{clash_in, first_clash, same_digest}
-use Rattle.peer_window.specs.Steps.{IsReach, commit_step, judged_step, slot_step, step_from, stop_of}
-use Rattle.peer_window.specs.Slots.{frames_in, in_order, shown, slot}
+use Rattle.peer_window.specs.Steps.{commit_step, illegal_at, illegal_in, judged_step, slot_step, turn_step}
+use Rattle.peer_window.specs.Slots.{in_order, slot}
 use Rattle.peer_window.specs.Windows.{IsHeld}
-use Rattle.peer_window.proofs.Lookups.{count_places}
+use Rattle.peer_window.proofs.Halted.{never_committed, never_resolved}
 use Rattle.peer_window.proofs.Pairs.{digest_sym, or_none, range_none}
-use Rattle.peer_window.proofs.Reached.{by_commit, by_reveal, commit_next, next_slot, reveal_next, slots_committed, slots_resolved, step_committed, step_resolved, step_revealed}
+use Rattle.peer_window.proofs.Reached.{by_commit, by_reveal, commit_next, next_slot, reveal_next, step_revealed}
 use Rattle.peer_window.proofs.Stretches.{commitment_at, is_reveal, slot_within}
-use Rattle.peer_window.proofs.Turns.{end_clash, pair_clash, turn_value}
-
--- what a window holds is reached
-pub held_reach : (game : Game) (q : ℕ) (ss : List (Option Received)) (at : Reach) → IsHeld game q ss at → IsReach game q ss at
-held_reach game q ss at h =
-    let places : places_in (known_to game q (frames_in (in_order ss)) (2 * game.turns)) ≡ at.commits + at.resolved = ap places_in h.known ∙ sym (count_places q at.commits at.resolved ss (shown ss at.commits at.resolved) refl h.slots) in
-    record {
-      known = ap (known_to game q (frames_in (in_order ss))) (sym places) ∙ at_places game q (frames_in (in_order ss)) (2 * game.turns) ∙ h.known;
-      track = h.leads;
-    }
-
--- what is known after one frame more is no more
-stays : (game : Game) (q n : ℕ) (ss : List (Option Received)) (at : Reach) → IsHeld game q ss at → n ≡ suc (at.commits + at.resolved) → known_to game q (frames_in (in_order ss)) n ≡ shown ss at.commits at.resolved
-unfolding known_to
-stays game q n ss at h e =
-    let reach = held_reach game q ss at h in
-    ap (known_to game q (frames_in (in_order ss))) e ∙ ap (next_known game q (frames_in (in_order ss))) (reach.known ∙ sym h.known) ∙ known_to_whole game q (frames_in (in_order ss)) ∙ h.known
-
--- no step leads on from what is held
-never_committed : (game : Game) (q : ℕ) (ss : List (Option Received)) (at : Reach) → IsSession game → IsHeld game q ss at → step_from game ss at ≡ Committed → ⊥
-never_committed game q ss at is h e =
-    let on = step_committed game q ss at h.slots (held_reach game q ss at h) e in
-    let slots = slots_committed game q ss at h.places h.slots e in
-    let a = count_places q (at.commits + 1) at.resolved ss (shown ss (at.commits + 1) at.resolved) refl slots in
-    let b = count_places q at.commits at.resolved ss (shown ss at.commits at.resolved) refl h.slots in
-    let c = ap places_in (sym on.known ∙ stays game q (at.commits + 1 + at.resolved) ss at h (omega arith)) in
-    omega arith
-
-never_resolved : (game : Game) (q : ℕ) (ss : List (Option Received)) (at : Reach) (track : Track) → IsSession game → IsHeld game q ss at → step_from game ss at ≡ Resolved track → ⊥
-never_resolved game q ss at track is h e =
-    let on = step_resolved game q ss at track is h.places h.slots (held_reach game q ss at h) e in
-    let slots = slots_resolved game q ss at track is h.places h.slots e in
-    let a = count_places q at.commits (at.resolved + 1) ss (shown ss at.commits (at.resolved + 1)) refl slots in
-    let b = count_places q at.commits at.resolved ss (shown ss at.commits at.resolved) refl h.slots in
-    let c = ap places_in (sym on.known ∙ stays game q (at.commits + (at.resolved + 1)) ss at h (omega arith)) in
-    omega arith
+use Rattle.peer_window.proofs.Turns.{end_clash, end_here, pair_clash, turn_value}
 
 halts_apart : (game : Game) (track : Track) (m : Move) (c g : Received) (b : Bool) (o : Option MoveFault) → judged_step c g (if b then by_rules (judged game track m o) else V.BadOpening) ≡ Halt → b ≡ false
 halts_apart game track m c g false o h = refl
@@ -98,40 +61,34 @@ next_empty game q ss at is h clean = elim (cases_lt at.commits (min (at.resolved
     commits lt None e = e
     commits lt (Some g) e = absurd (never_committed game q ss at is h (by_commit game ss at lt ∙ ap commit_step e))
 
-    none_at : (x : Option Clash) → at.resolved < game.turns → stop_of (step_from game ss at) ≡ Some x →
-        option_or (pair_clash game at.resolved (slot ss (2 * at.resolved)) (slot ss (2 * at.resolved + 1))) (end_clash at.resolved (next_slot game at) x) ≡ None
-    none_at x lt stop =
-        sym (turn_value game q at.resolved ss at x is h.places h.slots (held_reach game q ss at h) stop h.known)
-        ∙ range_none (clash_in game q (in_order ss)) 0 game.turns at.resolved clean (omega arith) (omega arith)
+    nothing : at.resolved < game.turns → option_or (pair_clash game at.resolved (slot ss (2 * at.resolved)) (slot ss (2 * at.resolved + 1))) (end_clash at.resolved at.resolved (illegal_at game ss at)) ≡ None
+    nothing lt = sym (turn_value game q at.resolved ss at is h) ∙ range_none (clash_in game q (in_order ss)) 0 game.turns at.resolved clean (omega arith) (omega arith)
 
     by_step : min (at.resolved + game.ahead) game.turns ≤ at.commits → (g : Received) (m : Move) (o : Nonce) (c : Received) (d : Digest) → slot ss (2 * at.resolved) ≡ Some c → c.frame ≡ Commit q at.resolved d → at.resolved < game.turns →
         slot ss (2 * at.resolved + 1) ≡ Some g → g.frame ≡ Reveal q at.resolved m o →
-        step_from game ss at ≡ judged_step c g (if digest_eq (digest_of game (Reveal q at.resolved m o)) d then by_rules (judged game at.track m (move_fault game q at.track m)) else V.BadOpening) →
-        (s : Step) → step_from game ss at ≡ s → ⊥
-    by_step ge g m o c d e f lt i j is_step Committed s = never_committed game q ss at is h s
-    by_step ge g m o c d e f lt i j is_step (Resolved track) s = never_resolved game q ss at track is h s
+        turn_step game ss at ≡ judged_step c g (if digest_eq (digest_of game (Reveal q at.resolved m o)) d then by_rules (judged game at.track m (move_fault game q at.track m)) else V.BadOpening) →
+        (s : Step) → turn_step game ss at ≡ s → ⊥
+    by_step ge g m o c d e f lt i j is_step Committed s = never_committed game q ss at is h (by_reveal game ss at ge ∙ s)
+    by_step ge g m o c d e f lt i j is_step (Resolved track) s = never_resolved game q ss at track is h (by_reveal game ss at ge ∙ s)
     by_step ge g m o c d e f lt i j is_step Halt s =
         let apart = halts_apart game at.track m c g (digest_eq (digest_of game (Reveal q at.resolved m o)) d) (move_fault game q at.track m) (sym is_step ∙ s) in
-        let none = (or_none _ _ (none_at None lt (ap stop_of s))).0 in
+        let none = (or_none _ _ (nothing lt)).0 in
         let same = pair_same game at.resolved c g (ap (λ (x : Option Received). pair_clash game at.resolved x (Some g)) (sym e) ∙ ap (pair_clash game at.resolved (slot ss (2 * at.resolved))) (sym i) ∙ none) in
         let digests : digest_eq d (digest_of game (Reveal q at.resolved m o)) ≡ true =
         ap (λ (x : TurnFrame). digest_eq (digest_of game x) (digest_of game (Reveal q at.resolved m o))) (sym f) ∙ ap (λ (x : TurnFrame). digest_eq (digest_of game c.frame) (digest_of game x)) (sym j) ∙ same in
         false≢true (sym apart ∙ digest_sym (digest_of game (Reveal q at.resolved m o)) d ∙ digests)
-    by_step ge g m o c d e f lt i j is_step (Illegal x) s =
-        let none = (or_none _ _ (none_at (Some x) lt (ap stop_of s))).1 in
-        let some : end_clash at.resolved (next_slot game at) (Some x) ≡ Some x = ap (λ (b : Bool). if b then Some x else None) (eq-eqb (2 * at.resolved + 1) (next_slot game at) (sym (reveal_next game at ge))) in
-        some_not x (sym some ∙ none)
+    by_step ge g m o c d e f lt i j is_step (Illegal x) s = some_not x (sym (ap illegal_in s) ∙ sym (end_here at.resolved (illegal_at game ss at)) ∙ (or_none _ _ (nothing lt)).1)
 
     reveals : min (at.resolved + game.ahead) game.turns ≤ at.commits → (o : Option Received) → slot ss (2 * at.resolved + 1) ≡ o → slot ss (2 * at.resolved + 1) ≡ None
     reveals ge None e = e
     reveals ge (Some g) e =
         let within = slot_within ss (2 * at.resolved + 1) g e in
         let places = h.places in
-        let one = is.ahead in
+        let one = is.ahead.0 in
         let lt : at.resolved < game.turns = omega arith in
         let own = h.slots.own (2 * at.resolved + 1) g e in
         let f = is_reveal g.frame q at.resolved own.0 own.1 in
         let c = commitment_at q at.resolved at.commits at.resolved ss h.slots (omega arith) in
-        let is_step : step_from game ss at ≡ judged_step c.0 g (if digest_eq (digest_of game (Reveal q at.resolved f.0 f.1)) c.1 then by_rules (judged game at.track f.0 (move_fault game q at.track f.0)) else V.BadOpening) =
-        by_reveal game ss at ge ∙ ap (slot_step game at.track (slot ss (2 * at.resolved))) e ∙ step_revealed game at.track c.0 g q at.resolved c.1 f.0 f.1 (slot ss (2 * at.resolved)) c.2 c.3 f.2 in
-        absurd (by_step ge g f.0 f.1 c.0 c.1 c.2 c.3 lt e f.2 is_step (step_from game ss at) refl)
+        let is_step : turn_step game ss at ≡ judged_step c.0 g (if digest_eq (digest_of game (Reveal q at.resolved f.0 f.1)) c.1 then by_rules (judged game at.track f.0 (move_fault game q at.track f.0)) else V.BadOpening) =
+        ap (slot_step game at.track (slot ss (2 * at.resolved))) e ∙ step_revealed game at.track c.0 g q at.resolved c.1 f.0 f.1 (slot ss (2 * at.resolved)) c.2 c.3 f.2 in
+        absurd (by_step ge g f.0 f.1 c.0 c.1 c.2 c.3 lt e f.2 is_step (turn_step game ss at) refl)

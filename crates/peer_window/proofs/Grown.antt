@@ -14,7 +14,6 @@ use Rattle.definition_laws.proofs.Knowing.{known_from}
 use Rattle.definition_laws.proofs.Windows.{before_known, stuck_whole}
 use Rattle.peer_window.specs.declared.received.Received.{Received}
 use Rattle.peer_window.specs.declared.walk.Reach.{Reach}
-use Rattle.peer_window.specs.declared.walk.Walked.{Walked}
 use Rattle.peer_window.specs.Slots.{AreSlots, digest_in, digests_to, frames_in, in_order, move_in, moves_to, slot_of, shown, slot}
 use Rattle.peer_window.specs.Steps.{IsReach, IsWalked}
 use Rattle.peer_window.specs.Windows.{IsHeld}
@@ -100,13 +99,13 @@ reach_kept game q p ss r at w lt none later =
     }
 
 -- what the walk came to is all that is known
-pub walked_held : (game : Game) (q p : ℕ) (ss : List (Option Received)) (r : Received) (at : Reach) (w : Walked) → IsHeld game q ss at → AreSlots q (set ss p (Some r)) w.reach.commits w.reach.resolved → IsWalked game q (set ss p (Some r)) w →
-    IsHeld game q (set ss p (Some r)) w.reach
-walked_held game q p ss r at w h slots walked = record {
+pub walked_held : (game : Game) (q p : ℕ) (ss : List (Option Received)) (r : Received) (at to : Reach) → IsHeld game q ss at → AreSlots q (set ss p (Some r)) to.commits to.resolved → IsWalked game q (set ss p (Some r)) to →
+    IsHeld game q (set ss p (Some r)) to
+walked_held game q p ss r at to h slots walked = record {
   player = h.player;
   places = length-set ss p (Some r) ∙ h.places;
   slots = slots;
-  known = stuck_whole game q (frames_in (in_order (set ss p (Some r)))) (w.reach.commits + w.reach.resolved)
+  known = stuck_whole game q (frames_in (in_order (set ss p (Some r)))) (to.commits + to.resolved)
       (ap (next_known game q (frames_in (in_order (set ss p (Some r))))) walked.reach.known ∙ walked.whole ∙ sym walked.reach.known)
       ∙ walked.reach.known;
   leads = walked.reach.track;

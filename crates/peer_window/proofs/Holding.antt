@@ -1,41 +1,40 @@
 -- Holding: the first clash with a frame that is put into an empty slot.
-use Rattle.std.proofs.Common.{◌≡◌, ℕ, ◌+◌, ◌*◌, ◌<◌, ◌≤◌, List, length, length-set, set, refl, Bool, true, false, sym, ◌∙◌, ap, subst, arith, inl, inr, Option, Some, None}
-use Rattle.std.specs.Prelude.{◌==◌, if◌then◌else◌, is_some, max, min}
+use Rattle.std.proofs.Common.{◌≡◌, ℕ, ◌+◌, ◌*◌, ◌<◌, ◌≤◌, List, length, set, refl, Bool, true, false, sym, ◌∙◌, ap, subst, arith, inl, inr, Option, Some, None}
+use Rattle.std.specs.Prelude.{if◌then◌else◌, max, min, nat_lt}
 use Rattle.std.specs.Option.{option_or}
-use Rattle.std.proofs.lemmas.Bool.{cases_lt, eq-eqb, false≢true}
+use Rattle.std.proofs.lemmas.Bool.{ltb-false, ltb-true}
+use Rattle.std.specs.List.{range_with_len}
 use Rattle.definitions.specs.declared.findings.Kind.TheVariants.{BadOpening}
 use Rattle.definitions.specs.declared.frames.TurnFrame.{TurnFrame}
 use Rattle.definitions.specs.declared.frames.TurnFrame.TheVariants.{Commit, Reveal}
 use Rattle.definitions.specs.World.{Game}
 use Rattle.definitions.specs.Logs.{turn_of}
 use Rattle.definitions.specs.Held.{digest_of}
+use Rattle.definitions.specs.Lists.{first_of}
+use Rattle.definitions.specs.declared.openings.Opening.{Opening}
+use Rattle.reveal_check.specs.declared.judging.Verdict.{Verdict}
+use Rattle.reveal_check.specs.declared.judging.Verdict.TheVariants as V
 use Rattle.grid_world.specs.Sessions.{IsSession}
 use Rattle.peer_window.specs.declared.received.Received.{Received}
 use Rattle.peer_window.specs.declared.received.Clash.{Clash}
 use Rattle.peer_window.specs.declared.received.Offer.{Offer}
 use Rattle.peer_window.specs.declared.walk.Reach.{Reach}
-use Rattle.peer_window.specs.declared.walk.Walked.{Walked}
-use Rattle.peer_window.specs.Clashes.{clash_in, first_clash, opening_clash, same_digest}
-use Rattle.peer_window.specs.Steps.{IsWalked, commit_step, slot_step, step_from, stop_of}
+use Rattle.peer_window.specs.Clashes.{clash_in, first_clash, illegal_clash, lower_clash, opening_clash, same_digest}
+use Rattle.peer_window.specs.Steps.{frame_step, illegal_at, illegal_in, judged_step, reveal_step, slot_step}
 use Rattle.peer_window.specs.Slots.{AreSlots, in_order, other_slot, slot_of, slot}
 use Rattle.peer_window.specs.Windows.{IsHeld, new_answer}
-use Rattle.peer_window.proofs.Clashing.{held_reach, next_empty}
-use Rattle.peer_window.proofs.Grown.{cases_eq, slot_other, slot_same, walked_held}
+use Rattle.peer_window.proofs.Grown.{cases_eq, slot_other, slot_same}
 use Rattle.peer_window.proofs.Ordered.{AllBefore, slot_each}
 use Rattle.peer_window.proofs.Pairs.{digest_sym, none_range, or_none, range_at, range_none}
-use Rattle.peer_window.proofs.Reached.{at_reveal, by_commit, by_reveal, commit_next, next_slot, reveal_next, stop_empty, stop_none}
 use Rattle.peer_window.proofs.Stretches.{slot_within}
-use Rattle.peer_window.proofs.Turns.{clash_same, end_clash, end_none, pair_clash, turn_value}
+use Rattle.peer_window.proofs.Turns.{clash_same, end_clash, end_here, end_none, pair_clash, turn_value}
 
 -- in a window without a clash the frames of a turn agree
 pub pairs_agree : (game : Game) (q t : ℕ) (ss : List (Option Received)) (at : Reach) → IsSession game → IsHeld game q ss at → first_clash game q (in_order ss) ≡ None → t < game.turns →
     pair_clash game t (slot ss (2 * t)) (slot ss (2 * t + 1)) ≡ None
 unfolding first_clash
 pairs_agree game q t ss at is h clean lt =
-    let empty = next_empty game q ss at is h clean in
-    let stop = stop_none game ss at empty in
-    (or_none _ _ (sym (turn_value game q t ss at None is h.places h.slots (held_reach game q ss at h) stop h.known)
-    ∙ range_none (clash_in game q (in_order ss)) 0 game.turns t clean (omega arith) (omega arith))).0
+    (or_none _ _ (sym (turn_value game q t ss at is h) ∙ range_none (clash_in game q (in_order ss)) 0 game.turns t clean (omega arith) (omega arith))).0
 
 -- the turn of a frame by its place
 pub turn_low : (f : TurnFrame) → 2 * turn_of f ≤ slot_of f
@@ -79,62 +78,51 @@ opening_pair game ss r (Reveal p t m n) e lt later =
     ∙ ap (λ (o : Option Received). pair_clash game t o (Some r)) (sym (slot_other ss (2 * t + 1) (2 * t) r (λ k. omega arith)))
     ∙ ap (pair_clash game t (slot (set ss (2 * t + 1) (Some r)) (2 * t))) (sym (slot_same ss (2 * t + 1) r lt))
 
-end_never : (t n : ℕ) → end_clash t n None ≡ None
-end_never t n = go ((2 * t + 1) == n)
+-- a clash of the frame with the other of its turn is of its turn
+opening_turn : (game : Game) (o : Option Received) (r : Received) (y : Clash) → opening_clash game o r ≡ Some y → y.turn ≡ turn_of r.frame
+opening_turn game None r y h = absurd (let no : None ≡ Some y = h in cc)
+opening_turn game (Some g) r y h = go (same_digest game g r) h
   where
-    go : (b : Bool) → (if b then (let o : Option Clash = None in o) else None) ≡ None
-    go true = refl
-    go false = refl
+    go : (b : Bool) → (if b then None else Some (let k : Clash = record { turn = turn_of r.frame; kind = BadOpening; first = g.entry; second = r.entry } in k)) ≡ Some y → y.turn ≡ turn_of r.frame
+    go true e = absurd (let no : None ≡ Some y = e in cc)
+    go false e = let same : (let k : Clash = record { turn = turn_of r.frame; kind = BadOpening; first = g.entry; second = r.entry } in k) ≡ y = cc in ap (λ (k : Clash). k.turn) (sym same)
 
--- the walk that ends with a clash ends at a reveal
-ends_at_reveal : (game : Game) (ss : List (Option Received)) (at : Reach) (x : Clash) → stop_of (step_from game ss at) ≡ Some (Some x) →
-    (2 * at.resolved + 1 ≡ next_slot game at) × (2 * at.resolved + 1 < length ss)
-ends_at_reveal game ss at x stop = elim (cases_lt at.commits (min (at.resolved + game.ahead) game.turns)) [
-  | inl lt ↦ absurd (commits (slot ss (2 * at.commits)) (ap stop_of (sym (by_commit game ss at lt)) ∙ stop))
-  | inr ge ↦ (sym (reveal_next game at ge), reveals (slot ss (2 * at.resolved + 1)) refl (ap stop_of (sym (by_reveal game ss at ge)) ∙ stop))
-]
+-- a reveal that is illegal is of the turn that isn't resolved
+illegal_turn : (game : Game) (q : ℕ) (ss : List (Option Received)) (at : Reach) (x : Clash) → AreSlots q ss at.commits at.resolved → illegal_at game ss at ≡ Some x → (x.turn ≡ at.resolved) × (2 * at.resolved + 1 < length ss)
+illegal_turn game q ss at x w h = revealed (slot ss (2 * at.resolved + 1)) refl h
   where
-    commits : (o : Option Received) → stop_of (commit_step o) ≡ Some (Some x) → ⊥
-    commits None e = let no : Some None ≡ Some (Some x) = e in cc
-    commits (Some r) e = let no : None ≡ Some (Some x) = e in cc
+    judged : (c g : Received) (v : Verdict) → illegal_in (judged_step c g v) ≡ Some x → x.turn ≡ turn_of g.frame
+    judged c g (V.Good track) e = absurd (let no : None ≡ Some x = e in cc)
+    judged c g V.BadOpening e = absurd (let no : None ≡ Some x = e in cc)
+    judged c g (V.Illegal fault) e = let same : illegal_clash c g ≡ x = cc in ap (λ (k : Clash). k.turn) (sym same)
 
-    reveals : (o : Option Received) → slot ss (2 * at.resolved + 1) ≡ o → stop_of (slot_step game at.track (slot ss (2 * at.resolved)) o) ≡ Some (Some x) → 2 * at.resolved + 1 < length ss
-    reveals None e f = absurd (let no : Some None ≡ Some (Some x) = f in cc)
-    reveals (Some g) e f = slot_within ss (2 * at.resolved + 1) g e
+    opened : (before : Option Received) (g : Received) (o : Opening) → illegal_in (reveal_step game at.track before g o) ≡ Some x → x.turn ≡ turn_of g.frame
+    opened None g o e = absurd (let no : None ≡ Some x = e in cc)
+    opened (Some c) g o e = judged c g _ e
 
--- the next frame's slot is of a turn that isn't resolved
-next_low : (game : Game) (q : ℕ) (ss : List (Option Received)) (at : Reach) → game.ahead ≡ 1 → AreSlots q ss at.commits at.resolved → next_slot game at ≤ 2 * at.resolved + 1
-next_low game q ss at one w = elim (cases_lt at.commits (min (at.resolved + game.ahead) game.turns)) [
-  | inl lt ↦ let n = commit_next game at lt in omega arith
-  | inr ge ↦ let n = reveal_next game at ge in omega arith
-]
+    framed : (g : Received) (f : TurnFrame) → illegal_in (frame_step game at.track (slot ss (2 * at.resolved)) g f) ≡ Some x → x.turn ≡ turn_of g.frame
+    framed g (Commit p t d) e = absurd (let no : None ≡ Some x = e in cc)
+    framed g (Reveal p t m n) e = opened (slot ss (2 * at.resolved)) g _ e
 
--- a walk doesn't pass an empty slot
-next_same : (game : Game) (q : ℕ) (ss : List (Option Received)) (at to : Reach) → game.ahead ≡ 1 → at.resolved ≤ at.commits → AreSlots q ss to.commits to.resolved → slot ss (next_slot game at) ≡ None → at.commits ≤ to.commits → at.resolved ≤ to.resolved →
-    next_slot game to ≡ next_slot game at
-next_same game q ss at to one before w none a b = elim (cases_lt at.commits (min (at.resolved + game.ahead) game.turns)) [
-  | inl lt ↦ elim (cases_lt at.commits to.commits) [
-    | inl on ↦ absurd (false≢true (ap is_some (sym none ∙ ap (slot ss) (commit_next game at lt)) ∙ w.committed at.commits on))
-    | inr stay ↦ let order = w.before in let n = commit_next game at lt in let m = commit_next game to (omega arith) in omega arith
-  ]
-  | inr ge ↦ elim (cases_lt at.resolved to.resolved) [
-    | inl on ↦ absurd (false≢true (ap is_some (sym none ∙ ap (slot ss) (reveal_next game at ge)) ∙ w.revealed at.resolved on))
-    | inr stay ↦ let n = reveal_next game at ge in let m = reveal_next game to (omega arith) in omega arith
-  ]
-]
+    revealed : (o : Option Received) → slot ss (2 * at.resolved + 1) ≡ o → illegal_in (slot_step game at.track (slot ss (2 * at.resolved)) o) ≡ Some x → (x.turn ≡ at.resolved) × (2 * at.resolved + 1 < length ss)
+    revealed None i e = absurd (let no : None ≡ Some x = e in cc)
+    revealed (Some g) i e =
+        let low = turn_low g.frame in
+        let high = turn_high g.frame in
+        let own = (w.own (2 * at.resolved + 1) g i).0 in
+        let turn = framed g g.frame e in
+        (omega arith, slot_within ss (2 * at.resolved + 1) g i)
 
 -- the first clash, with a frame in the empty slot of its place
-pub held_clash : (game : Game) (q : ℕ) (ss : List (Option Received)) (at : Reach) (r : Received) (w : Walked) → IsSession game → IsHeld game q ss at → first_clash game q (in_order ss) ≡ None →
-    slot_of r.frame < length ss → slot ss (slot_of r.frame) ≡ None → AllBefore r.entry (in_order ss) → AreSlots q (set ss (slot_of r.frame) (Some r)) w.reach.commits w.reach.resolved → IsWalked game q (set ss (slot_of r.frame) (Some r)) w → at.commits ≤ w.reach.commits → at.resolved ≤ w.reach.resolved →
-    option_or (opening_clash game (slot ss (other_slot r.frame)) r) w.illegal ≡ first_clash game q (in_order (set ss (slot_of r.frame) (Some r)))
+pub held_clash : (game : Game) (q : ℕ) (ss : List (Option Received)) (at to : Reach) (r : Received) → IsSession game → IsHeld game q ss at → first_clash game q (in_order ss) ≡ None → slot_of r.frame < length ss →
+    AllBefore r.entry (in_order ss) → IsHeld game q (set ss (slot_of r.frame) (Some r)) to →
+    lower_clash (opening_clash game (slot ss (other_slot r.frame)) r) (illegal_at game (set ss (slot_of r.frame) (Some r)) to) ≡ first_clash game q (in_order (set ss (slot_of r.frame) (Some r)))
 unfolding first_clash
-held_clash game q ss at r w is h clean lt none later slots walked far on = go (opening_clash game (slot ss (other_slot r.frame)) r) refl w.illegal refl
+held_clash game q ss at to r is h clean lt later all = go (opening_clash game (slot ss (other_slot r.frame)) r) refl (illegal_at game (set ss (slot_of r.frame) (Some r)) to) refl
   where
     value : (t : ℕ) → clash_in game q (in_order (set ss (slot_of r.frame) (Some r))) t
-        ≡ option_or (pair_clash game t (slot (set ss (slot_of r.frame) (Some r)) (2 * t)) (slot (set ss (slot_of r.frame) (Some r)) (2 * t + 1))) (end_clash t (next_slot game w.reach) w.illegal)
-    value t =
-        let all = walked_held game q (slot_of r.frame) ss r at w h slots walked in
-        turn_value game q t (set ss (slot_of r.frame) (Some r)) w.reach w.illegal is all.places slots walked.reach walked.stop all.known
+        ≡ option_or (pair_clash game t (slot (set ss (slot_of r.frame) (Some r)) (2 * t)) (slot (set ss (slot_of r.frame) (Some r)) (2 * t + 1))) (end_clash t to.resolved (illegal_at game (set ss (slot_of r.frame) (Some r)) to))
+    value t = turn_value game q t (set ss (slot_of r.frame) (Some r)) to is all
 
     opening : opening_clash game (slot ss (other_slot r.frame)) r
         ≡ pair_clash game (turn_of r.frame) (slot (set ss (slot_of r.frame) (Some r)) (2 * turn_of r.frame)) (slot (set ss (slot_of r.frame) (Some r)) (2 * turn_of r.frame + 1))
@@ -149,23 +137,6 @@ held_clash game q ss at r w is h clean lt none later slots walked far on = go (o
         ∙ ap (pair_clash game t (slot ss (2 * t))) (slot_other ss (slot_of r.frame) (2 * t + 1) r (λ e. apart (omega arith)))
         ∙ pairs_agree game q t ss at is h clean le
 
-    -- before the frame's turn no walk ends with a clash
-    before : (t : ℕ) → t < turn_of r.frame → end_clash t (next_slot game w.reach) w.illegal ≡ None
-    before t le = sym (end_none t (next_slot game w.reach) w.illegal (λ n. elim (cases_eq (next_slot game at) (slot_of r.frame)) [
-      | inl same ↦
-          let low = turn_low r.frame in
-          let next = next_low game q ss at is.ahead h.slots in
-          let here = (at_reveal game w.reach t n).0 in
-          absurd (omega arith)
-      | inr apart ↦
-          let empty = slot_other ss (slot_of r.frame) (next_slot game at) r apart ∙ next_empty game q ss at is h clean in
-          let stays = next_same game q (set ss (slot_of r.frame) (Some r)) at w.reach is.ahead h.slots.before slots empty far on in
-          stop_empty game (set ss (slot_of r.frame) (Some r)) w.reach w.illegal walked.stop (ap (slot (set ss (slot_of r.frame) (Some r))) stays ∙ empty)
-    ]))
-
-    turn_within : turn_of r.frame < game.turns
-    turn_within = let low = turn_low r.frame in let places = h.places in omega arith
-
     no_pairs : opening_clash game (slot ss (other_slot r.frame)) r ≡ None → (t : ℕ) → t < game.turns → pair_clash game t (slot (set ss (slot_of r.frame) (Some r)) (2 * t)) (slot (set ss (slot_of r.frame) (Some r)) (2 * t + 1)) ≡ None
     no_pairs e t le = elim (cases_eq t (turn_of r.frame)) [
       | inl same ↦
@@ -173,38 +144,65 @@ held_clash game q ss at r w is h clean lt none later slots walked far on = go (o
       | inr apart ↦ elsewhere t le apart
     ]
 
-    ended : (x : Clash) → w.illegal ≡ Some x → (2 * w.reach.resolved + 1 ≡ next_slot game w.reach) × (2 * w.reach.resolved + 1 < length (set ss (slot_of r.frame) (Some r)))
-    ended x e = ends_at_reveal game (set ss (slot_of r.frame) (Some r)) w.reach x (walked.stop ∙ ap (λ (o : Option Clash). Some o) e)
+    -- a turn of which neither the frames nor the first reveal behind those resolved shows anything
+    silent : (t : ℕ) → pair_clash game t (slot (set ss (slot_of r.frame) (Some r)) (2 * t)) (slot (set ss (slot_of r.frame) (Some r)) (2 * t + 1)) ≡ None → (t ≡ to.resolved → illegal_at game (set ss (slot_of r.frame) (Some r)) to ≡ None) →
+        clash_in game q (in_order (set ss (slot_of r.frame) (Some r))) t ≡ None
+    silent t pair end =
+        value t ∙ ap (λ (o : Option Clash). option_or o (end_clash t to.resolved (illegal_at game (set ss (slot_of r.frame) (Some r)) to))) pair
+        ∙ sym (end_none t to.resolved (illegal_at game (set ss (slot_of r.frame) (Some r)) to) end)
 
-    go : (o : Option Clash) → opening_clash game (slot ss (other_slot r.frame)) r ≡ o → (i : Option Clash) → w.illegal ≡ i → option_or o i ≡ first_clash game q (in_order (set ss (slot_of r.frame) (Some r)))
-    go (Some y) e i f =
+    turn_within : turn_of r.frame < game.turns
+    turn_within = let low = turn_low r.frame in let places = h.places in omega arith
+
+    by_opening : (y : Clash) → opening_clash game (slot ss (other_slot r.frame)) r ≡ Some y → ((t : ℕ) → t < turn_of r.frame → t ≡ to.resolved → illegal_at game (set ss (slot_of r.frame) (Some r)) to ≡ None) →
+        Some y ≡ first_of (clash_in game q (in_order (set ss (slot_of r.frame) (Some r)))) (range_with_len 0 game.turns)
+    by_opening y e before =
         let within = turn_within in
         sym (range_at (clash_in game q (in_order (set ss (slot_of r.frame) (Some r)))) 0 game.turns (turn_of r.frame) y (omega arith) (omega arith)
-        (λ t le below. value t ∙ ap (λ (o : Option Clash). option_or o (end_clash t (next_slot game w.reach) w.illegal)) (elsewhere t (omega arith) (λ k. omega arith)) ∙ before t below)
-        (value (turn_of r.frame) ∙ ap (λ (o : Option Clash). option_or o (end_clash (turn_of r.frame) (next_slot game w.reach) w.illegal)) (sym opening ∙ e)))
-    go None e None f =
-        sym (none_range (clash_in game q (in_order (set ss (slot_of r.frame) (Some r)))) 0 game.turns
-        (λ t le below. value t ∙ ap (λ (o : Option Clash). option_or o (end_clash t (next_slot game w.reach) w.illegal)) (no_pairs e t (omega arith)) ∙ ap (end_clash t (next_slot game w.reach)) f ∙ end_never t (next_slot game w.reach)))
-    go None e (Some x) f =
-        let end = ended x f in
-        let len = length-set ss (slot_of r.frame) (Some r) in
-        let places = h.places in
-        let at_end = end.0 in
-        let below_end = end.1 in
-        sym (range_at (clash_in game q (in_order (set ss (slot_of r.frame) (Some r)))) 0 game.turns w.reach.resolved x (omega arith) (omega arith)
-        (λ t le below. value t ∙ ap (λ (o : Option Clash). option_or o (end_clash t (next_slot game w.reach) w.illegal)) (no_pairs e t (omega arith)) ∙ sym (end_none t (next_slot game w.reach) w.illegal (λ k. absurd (omega arith))))
-        (value w.reach.resolved ∙ ap (λ (o : Option Clash). option_or o (end_clash w.reach.resolved (next_slot game w.reach) w.illegal)) (no_pairs e w.reach.resolved (omega arith))
-        ∙ ap (λ (b : Bool). if b then w.illegal else None) (eq-eqb (2 * w.reach.resolved + 1) (next_slot game w.reach) at_end) ∙ f))
+        (λ t le below. silent t (elsewhere t (omega arith) (λ k. omega arith)) (before t below))
+        (value (turn_of r.frame) ∙ ap (λ (o : Option Clash). option_or o (end_clash (turn_of r.frame) to.resolved (illegal_at game (set ss (slot_of r.frame) (Some r)) to))) (sym opening ∙ e)))
+
+    by_move : (x : Clash) → illegal_at game (set ss (slot_of r.frame) (Some r)) to ≡ Some x →
+        ((t : ℕ) → t ≤ to.resolved → t < game.turns → pair_clash game t (slot (set ss (slot_of r.frame) (Some r)) (2 * t)) (slot (set ss (slot_of r.frame) (Some r)) (2 * t + 1)) ≡ None) →
+        Some x ≡ first_of (clash_in game q (in_order (set ss (slot_of r.frame) (Some r)))) (range_with_len 0 game.turns)
+    by_move x f pairs =
+        let here = (illegal_turn game q (set ss (slot_of r.frame) (Some r)) to x all.slots f).1 in
+        let places = all.places in
+        let within : to.resolved < game.turns = omega arith in
+        sym (range_at (clash_in game q (in_order (set ss (slot_of r.frame) (Some r)))) 0 game.turns to.resolved x (omega arith) (omega arith)
+        (λ t le below. silent t (pairs t (omega arith) (omega arith)) (λ k. absurd (omega arith)))
+        (value to.resolved ∙ ap (λ (o : Option Clash). option_or o (end_clash to.resolved to.resolved (illegal_at game (set ss (slot_of r.frame) (Some r)) to))) (pairs to.resolved (omega arith) within)
+        ∙ end_here to.resolved (illegal_at game (set ss (slot_of r.frame) (Some r)) to) ∙ f))
+
+    go : (o : Option Clash) → opening_clash game (slot ss (other_slot r.frame)) r ≡ o → (i : Option Clash) → illegal_at game (set ss (slot_of r.frame) (Some r)) to ≡ i →
+        lower_clash o i ≡ first_of (clash_in game q (in_order (set ss (slot_of r.frame) (Some r)))) (range_with_len 0 game.turns)
+    go (Some y) e None f = by_opening y e (λ t below n. f)
+    go None e None f = sym (none_range (clash_in game q (in_order (set ss (slot_of r.frame) (Some r)))) 0 game.turns (λ t le below. silent t (no_pairs e t (omega arith)) (λ n. f)))
+    go None e (Some x) f = by_move x f (λ t le below. no_pairs e t below)
+    go (Some y) e (Some x) f = by_turn (nat_lt x.turn y.turn) refl
+      where
+        by_turn : (b : Bool) → nat_lt x.turn y.turn ≡ b → (if b then Some x else Some y) ≡ first_of (clash_in game q (in_order (set ss (slot_of r.frame) (Some r)))) (range_with_len 0 game.turns)
+        by_turn true k =
+            let below = ltb-true x.turn y.turn k in
+            let a = opening_turn game (slot ss (other_slot r.frame)) r y e in
+            let b = (illegal_turn game q (set ss (slot_of r.frame) (Some r)) to x all.slots f).0 in
+            by_move x f (λ t le lt. elsewhere t lt (λ n. omega arith))
+        by_turn false k =
+            let above = ltb-false x.turn y.turn k in
+            let a = opening_turn game (slot ss (other_slot r.frame)) r y e in
+            let b = (illegal_turn game q (set ss (slot_of r.frame) (Some r)) to x all.slots f).0 in
+            by_opening y e (λ t below n. absurd (omega arith))
 
 -- the answer to it
-pub held_answer : (game : Game) (q at_slot : ℕ) (ss : List (Option Received)) (at : Reach) (r : Received) (w : Walked) (opening found : Option Clash) (other : Option Received) (answer : Offer) (next : Bool) → IsSession game → IsHeld game q ss at →
-    first_clash game q (in_order ss) ≡ None → slot_of r.frame < length ss → slot ss (slot_of r.frame) ≡ None → AllBefore r.entry (in_order ss) → at_slot ≡ slot_of r.frame → AreSlots q (set ss at_slot (Some r)) w.reach.commits w.reach.resolved →
-    IsWalked game q (set ss at_slot (Some r)) w → at.commits ≤ w.reach.commits → at.resolved ≤ w.reach.resolved → other ≡ slot ss (other_slot r.frame) → opening ≡ opening_clash game other r → found ≡ option_or opening w.illegal → answer ≡ new_answer found next →
+pub held_answer : (game : Game) (q at_slot : ℕ) (ss : List (Option Received)) (at to : Reach) (r : Received) (opening illegal found : Option Clash) (other : Option Received) (answer : Offer) (next : Bool) → IsSession game → IsHeld game q ss at →
+    first_clash game q (in_order ss) ≡ None → slot_of r.frame < length ss → AllBefore r.entry (in_order ss) → at_slot ≡ slot_of r.frame → IsHeld game q (set ss at_slot (Some r)) to →
+    other ≡ slot ss (other_slot r.frame) → opening ≡ opening_clash game other r → illegal ≡ illegal_at game (set ss at_slot (Some r)) to → found ≡ lower_clash opening illegal → answer ≡ new_answer found next →
     answer ≡ new_answer (first_clash game q (in_order (set ss at_slot (Some r)))) next
-held_answer game q at_slot ss at r w opening found other answer next is h clean lt none later is_slot slots walked far on other_is opening_is found_is answer_is =
-    let P : ℕ → Type 0 = λ n. AreSlots q (set ss n (Some r)) w.reach.commits w.reach.resolved in
-    let Q : ℕ → Type 0 = λ n. IsWalked game q (set ss n (Some r)) w in
-    let clash = held_clash game q ss at r w is h clean lt none later (subst P is_slot slots) (subst Q is_slot walked) far on in
+held_answer game q at_slot ss at to r opening illegal found other answer next is h clean lt later is_slot all other_is opening_is illegal_is found_is answer_is =
+    let P : ℕ → Type 0 = λ n. IsHeld game q (set ss n (Some r)) to in
+    let clash = held_clash game q ss at to r is h clean lt later (subst P is_slot all) in
     answer_is
-    ∙ ap (λ (o : Option Clash). new_answer o next) (found_is ∙ ap (λ (o : Option Clash). option_or o w.illegal) (opening_is ∙ ap (λ (o : Option Received). opening_clash game o r) other_is) ∙ clash)
+    ∙ ap (λ (o : Option Clash). new_answer o next)
+    (found_is ∙ ap (λ (o : Option Clash). lower_clash o illegal) (opening_is ∙ ap (λ (o : Option Received). opening_clash game o r) other_is)
+    ∙ ap (lower_clash (opening_clash game (slot ss (other_slot r.frame)) r)) (illegal_is ∙ ap (λ (n : ℕ). illegal_at game (set ss n (Some r)) to) is_slot) ∙ clash)
     ∙ ap (λ (n : ℕ). new_answer (first_clash game q (in_order (set ss n (Some r)))) next) (sym is_slot)

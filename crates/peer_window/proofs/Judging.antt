@@ -1,6 +1,6 @@
 -- Judging: which reveal in the slots is an illegal one.
-use Rattle.std.proofs.Common.{◌≡◌, ℕ, zero, suc, ◌+◌, ◌*◌, ◌<◌, ◌≤◌, List, [], ◌∷◌, length, refl, Bool, true, false, sym, ◌∙◌, ap, arith, Option, Some, None, take}
-use Rattle.std.specs.Prelude.{not, ◌&&◌, if◌then◌else◌, is_none, min, nat_le, slice_get}
+use Rattle.std.proofs.Common.{◌≡◌, ℕ, zero, suc, ◌+◌, ◌*◌, ◌<◌, List, [], ◌∷◌, length, refl, Bool, true, false, sym, ◌∙◌, ap, arith, Option, Some, None, take}
+use Rattle.std.specs.Prelude.{not, ◌&&◌, if◌then◌else◌, is_none, nat_le, slice_get}
 use Rattle.std.proofs.lemmas.Bool.{and_parts, le-leb, lt-leb}
 use Rattle.std.proofs.lemmas.List.{take_all}
 use Rattle.definitions.specs.declared.world.Move.{Move}
@@ -19,23 +19,18 @@ use Rattle.move_rules.specs.Verdicts.{judged}
 use Rattle.reveal_check.specs.declared.judging.Verdict.TheVariants as V
 use Rattle.reveal_check.specs.Judgements.{by_rules}
 use Rattle.peer_window.specs.declared.received.Received.{Received}
-use Rattle.peer_window.specs.declared.received.Clash.{Clash}
 use Rattle.peer_window.specs.declared.walk.Reach.{Reach}
 use Rattle.peer_window.specs.Clashes.{illegal_clash}
-use Rattle.peer_window.specs.Steps.{IsReach, judged_step, slot_step, step_from, stop_of}
+use Rattle.peer_window.specs.Steps.{IsReach, illegal_at, illegal_in, judged_step, slot_step, turn_step}
 use Rattle.peer_window.specs.Slots.{AreSlots, digests_to, frames_in, in_order, moves_to, shown, slot}
-use Rattle.peer_window.proofs.Reached.{by_reveal, step_revealed}
-use Rattle.peer_window.proofs.Stretches.{digest_get, digests_length, get_past, move_get, moves_length}
+use Rattle.peer_window.proofs.Reached.{step_revealed}
+use Rattle.peer_window.proofs.Stretches.{digest_get, move_get, moves_length}
 
 -- each of these moves is legal after those before it
 legal_at : (game : Game) (q t : ℕ) (track : Track) (ms : List Move) (m : Move) → are_legal_from game q track ms ≡ true → slice_get ms t ≡ Some m → is_legal game q (track_from game track (take t ms)) m ≡ true
 legal_at game q t track [] m h e = absurd (let none : None ≡ Some m = e in cc)
 legal_at game q zero track (x ∷ ms) m h e = let same : x ≡ m = cc in ap (is_legal game q track) (sym same) ∙ (and_parts _ _ h).0
 legal_at game q (suc t) track (x ∷ ms) m h e = legal_at game q t (next_track game track x) ms m (and_parts _ _ h).1 e
-
-no_more : (a b : Bool) → (a && false && b) ≡ false
-no_more true b = refl
-no_more false b = refl
 
 never : (a : Bool) → (a && false) ≡ false
 never true = refl
@@ -53,7 +48,7 @@ resolved_legal game q c u t ss g m o w known lt e f =
     ∙ ap (λ (b : Bool). nat_le t (length (moves_to ss u)) && opens game (Reveal q t m o) (slice_get (digests_to ss c) t) && not b) at
     ∙ never _
 
--- a reveal of a later turn is not judged yet, nor one without a commitment
+-- a reveal of a later turn is not judged yet
 pub later_unjudged : (game : Game) (q c u t : ℕ) (ss : List (Option Received)) (g : Received) (m : Move) (o : Nonce) → AreSlots q ss c u → u < t → g.frame ≡ Reveal q t m o →
     is_illegal_at game q t (shown ss c u) g.frame ≡ false
 later_unjudged game q c u t ss g m o w lt f =
@@ -61,32 +56,22 @@ later_unjudged game q c u t ss g m o w lt f =
     ap (is_illegal_at game q t (shown ss c u)) f
     ∙ ap (λ (b : Bool). b && opens game (Reveal q t m o) (slice_get (digests_to ss c) t) && not (is_legal game q (track_after game q (take t (moves_to ss u))) m)) (lt-leb t (length (moves_to ss u)) (omega arith))
 
-pub uncommitted_unjudged : (game : Game) (q c u t : ℕ) (ss : List (Option Received)) (g : Received) (m : Move) (o : Nonce) → AreSlots q ss c u → c ≤ t → g.frame ≡ Reveal q t m o →
-    is_illegal_at game q t (shown ss c u) g.frame ≡ false
-uncommitted_unjudged game q c u t ss g m o w le f =
-    let len = digests_length q c u ss c w (omega arith) in
-    ap (is_illegal_at game q t (shown ss c u)) f
-    ∙ ap (λ (d : Option Digest). nat_le t (length (moves_to ss u)) && opens game (Reveal q t m o) d && not (is_legal game q (track_after game q (take t (moves_to ss u))) m)) (get_past (digests_to ss c) t (omega arith))
-    ∙ no_more _ _
+clash_if : (game : Game) (track : Track) (m : Move) (c g : Received) (b : Bool) (o : Option MoveFault) →
+    illegal_in (judged_step c g (if b then by_rules (judged game track m o) else V.BadOpening)) ≡ (if b && not (is_none o) then Some (illegal_clash c g) else None)
+clash_if game track m c g false o = refl
+clash_if game track m c g true (Some fault) = refl
+clash_if game track m c g true None = refl
 
-clash_if : (game : Game) (track : Track) (m : Move) (c g : Received) (b : Bool) (o : Option MoveFault) (x : Option Clash) →
-    stop_of (judged_step c g (if b then by_rules (judged game track m o) else V.BadOpening)) ≡ Some x → x ≡ (if b && not (is_none o) then Some (illegal_clash c g) else None)
-clash_if game track m c g false o x h = cc
-clash_if game track m c g true (Some fault) x h = cc
-clash_if game track m c g true None x h = absurd (let none : None ≡ Some x = h in cc)
-
--- the reveal at which a walk ended
-pub stopped_illegal : (game : Game) (q t : ℕ) (ss : List (Option Received)) (at : Reach) (x : Option Clash) (c g : Received) (d : Digest) (m : Move) (o : Nonce) → AreSlots q ss at.commits at.resolved → IsReach game q ss at →
-    stop_of (step_from game ss at) ≡ Some x → min (at.resolved + game.ahead) game.turns ≤ at.commits → t ≡ at.resolved → t < at.commits →
-    slot ss (2 * t) ≡ Some c → c.frame ≡ Commit q t d → slot ss (2 * t + 1) ≡ Some g → g.frame ≡ Reveal q t m o →
-    (if is_illegal_at game q t (shown ss at.commits at.resolved) g.frame then Some (illegal_clash c g) else None) ≡ x
+-- the reveal of the first turn that isn't resolved, where its commitment is held
+pub illegal_here : (game : Game) (q t : ℕ) (ss : List (Option Received)) (at : Reach) (c g : Received) (d : Digest) (m : Move) (o : Nonce) → AreSlots q ss at.commits at.resolved → IsReach game q ss at →
+    t ≡ at.resolved → t < at.commits → slot ss (2 * t) ≡ Some c → c.frame ≡ Commit q t d → slot ss (2 * t + 1) ≡ Some g → g.frame ≡ Reveal q t m o →
+    (if is_illegal_at game q t (shown ss at.commits at.resolved) g.frame then Some (illegal_clash c g) else None) ≡ illegal_at game ss at
 unfolding is_legal
-stopped_illegal game q t ss at x c g d m o w reach stop all n held e f i j =
+illegal_here game q t ss at c g d m o w reach n held e f i j =
     let len = moves_length q at.commits at.resolved ss at.resolved w (omega arith) in
-    let step : step_from game ss at ≡ judged_step c g (if digest_eq (digest_of game (Reveal q t m o)) d then by_rules (judged game at.track m (move_fault game q at.track m)) else V.BadOpening) =
-    by_reveal game ss at all ∙ ap (λ (v : ℕ). slot_step game at.track (slot ss (2 * v)) (slot ss (2 * v + 1))) (sym n)
+    let step : turn_step game ss at ≡ judged_step c g (if digest_eq (digest_of game (Reveal q t m o)) d then by_rules (judged game at.track m (move_fault game q at.track m)) else V.BadOpening) =
+    ap (λ (v : ℕ). slot_step game at.track (slot ss (2 * v)) (slot ss (2 * v + 1))) (sym n)
     ∙ ap (slot_step game at.track (slot ss (2 * t))) i ∙ step_revealed game at.track c g q t d m o (slot ss (2 * t)) e f j in
-    let is = clash_if game at.track m c g (digest_eq (digest_of game (Reveal q t m o)) d) (move_fault game q at.track m) x (ap stop_of (sym step) ∙ stop) in
     let due = digest_get q at.commits at.resolved ss at.commits t c d w (omega arith) held e f in
     let illegal : is_illegal_at game q t (shown ss at.commits at.resolved) g.frame ≡ (digest_eq (digest_of game (Reveal q t m o)) d && not (is_none (move_fault game q at.track m))) =
     ap (is_illegal_at game q t (shown ss at.commits at.resolved)) j
@@ -94,4 +79,5 @@ stopped_illegal game q t ss at x c g d m o w reach stop all n held e f i j =
     ∙ ap (λ (y : Option Digest). opens game (Reveal q t m o) y && not (is_legal game q (track_after game q (take t (moves_to ss at.resolved))) m)) due
     ∙ ap (λ (ms : List Move). digest_eq (digest_of game (Reveal q t m o)) d && not (is_none (move_fault game q (track_after game q ms) m))) (take_all t (moves_to ss at.resolved) (omega arith))
     ∙ ap (λ (y : Track). digest_eq (digest_of game (Reveal q t m o)) d && not (is_none (move_fault game q y m))) (sym reach.track) in
-    ap (λ (b : Bool). if b then Some (illegal_clash c g) else None) illegal ∙ sym is
+    ap (λ (b : Bool). if b then Some (illegal_clash c g) else None) illegal
+    ∙ sym (ap illegal_in step ∙ clash_if game at.track m c g (digest_eq (digest_of game (Reveal q t m o)) d) (move_fault game q at.track m))

@@ -2,6 +2,7 @@ pub mod Ordered
 pub mod Stretches
 pub mod Fitting
 pub mod Reached
+pub mod Halted
 pub mod Lookups
 pub mod Grown
 pub mod OfTurns

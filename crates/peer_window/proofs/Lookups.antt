@@ -1,5 +1,6 @@
 -- Lookups: what is known, read from the slots.
 use Rattle.std.proofs.Common.{◌≡◌, ℕ, ◌+◌, ◌*◌, ◌<◌, ◌≤◌, List, length, sym, ◌∙◌, ap, arith, Option, Some, None}
+use Rattle.std.proofs.lemmas.Option.{slice_get_past}
 use Rattle.std.specs.Prelude.{slice_get}
 use Rattle.definitions.specs.declared.world.Move.{Move}
 use Rattle.definitions.specs.declared.openings.Digest.{Digest}
@@ -8,7 +9,7 @@ use Rattle.definitions.specs.declared.frames.TurnFrame.TheVariants.{Commit, Reve
 use Rattle.definitions.specs.Held.{Known, places_in}
 use Rattle.peer_window.specs.declared.received.Received.{Received}
 use Rattle.peer_window.specs.Slots.{AreSlots, slot_of, shown, slot}
-use Rattle.peer_window.proofs.Stretches.{digest_get, digests_length, get_past, is_commitment, is_reveal, move_get, moves_length}
+use Rattle.peer_window.proofs.Stretches.{digest_get, digests_length, is_commitment, is_reveal, move_get, moves_length}
 
 pub count_digests : (q c u : ℕ) (ss : List (Option Received)) (k : Known) → k ≡ shown ss c u → AreSlots q ss c u → c ≡ length k.digests
 count_digests q c u ss k e w = sym (ap (λ (x : Known). length x.digests) e ∙ digests_length q c u ss c w (omega arith))
@@ -20,10 +21,10 @@ pub count_places : (q c u : ℕ) (ss : List (Option Received)) (k : Known) → k
 count_places q c u ss k e w = let a = count_digests q c u ss k e w in let b = count_moves q c u ss k e w in omega arith
 
 pub no_digest : (q c u t : ℕ) (ss : List (Option Received)) (k : Known) → k ≡ shown ss c u → AreSlots q ss c u → c ≤ t → None ≡ slice_get k.digests t
-no_digest q c u t ss k e w past = let a = count_digests q c u ss k e w in sym (get_past k.digests t (omega arith))
+no_digest q c u t ss k e w past = let a = count_digests q c u ss k e w in sym (slice_get_past k.digests t (omega arith))
 
 pub no_move : (q c u t : ℕ) (ss : List (Option Received)) (k : Known) → k ≡ shown ss c u → AreSlots q ss c u → u ≤ t → None ≡ slice_get k.moves t
-no_move q c u t ss k e w past = let a = count_moves q c u ss k e w in sym (get_past k.moves t (omega arith))
+no_move q c u t ss k e w past = let a = count_moves q c u ss k e w in sym (slice_get_past k.moves t (omega arith))
 
 pub the_digest : (q c u t at p v : ℕ) (ss : List (Option Received)) (k : Known) (r : Received) (d : Digest) → k ≡ shown ss c u → AreSlots q ss c u → at ≡ 2 * t → t < c →
     Some r ≡ slot ss at → r.frame ≡ Commit p v d → Some d ≡ slice_get k.digests t

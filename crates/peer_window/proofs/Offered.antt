@@ -1,5 +1,5 @@
 -- Offered: what an offer does with a window that is still open.
-use Rattle.std.proofs.Common.{◌≡◌, ℕ, zero, suc, ◌+◌, ◌<◌, ◌≤◌, List, [], ◌∷◌, ◌++◌, append-nil, length, length-set, take, drop, set, refl, Bool, true, false, sym, ◌∙◌, ap, subst, arith, Option, Some, None, ◌*◌}
+use Rattle.std.proofs.Common.{◌≡◌, ℕ, ◌+◌, ◌<◌, List, [], ◌∷◌, ◌++◌, append-nil, length, length-set, take, drop, set, refl, Bool, true, false, sym, ◌∙◌, ap, subst, arith, Option, Some, None, ◌*◌}
 use Rattle.std.specs.Prelude.{◌==◌, ◌||◌, nat_le, nat_lt, option_to_list}
 use Rattle.std.proofs.lemmas.Bool.{false≢true, leb-false}
 use Rattle.std.proofs.lemmas.List.{drop_all, take_all}
@@ -19,7 +19,7 @@ use Rattle.peer_window.specs.declared.walk.Reach.{Reach}
 use Rattle.peer_window.specs.Clashes.{first_clash, rival_clash}
 use Rattle.peer_window.specs.Slots.{in_order, other_slot, slot_of, shown, slot}
 use Rattle.peer_window.specs.Windows.{AreParts, IsHeld, IsWindow, Seen, answer, frames_after, is_far, is_same, new_answer, seen_of, with_frame}
-use Rattle.peer_window.proofs.Answered.{after_new, answer_far, answer_new, answer_same, frames_alone, frames_joined, place_plain, same_not_there, same_there, window_clean, window_held}
+use Rattle.peer_window.proofs.Answered.{after_new, answer_far, answer_new, answer_same, frames_alone, frames_joined, placed_slot, same_not_there, same_there, window_clean, window_held}
 use Rattle.peer_window.proofs.Lookups.{count_places}
 use Rattle.peer_window.proofs.Ordered.{AllBefore, in_order_set}
 use Rattle.peer_window.proofs.Rivals.{rival_known}
@@ -75,11 +75,11 @@ or_parts false b e = (refl, sym e)
 or_parts true b e = absurd (false≢true e)
 
 -- a frame that is not far has a slot
-pub within_slots : (game : Game) (n : ℕ) (ss : List (Option Received)) (f : TurnFrame) (far : Bool) → game.ahead ≡ 1 → length ss ≡ 2 * game.turns → far ≡ A.is_beyond game n f → far ≡ false → slot_of f < length ss
-within_slots game n ss f far one places test fails =
+pub within_slots : (game : Game) (n : ℕ) (ss : List (Option Received)) (f : TurnFrame) (far : Bool) → length ss ≡ 2 * game.turns → far ≡ A.is_beyond game n f → far ≡ false → slot_of f < length ss
+within_slots game n ss f far places test fails =
     let both = or_parts (nat_lt (n + WINDOW) (A.place_of game f)) (nat_le (2 * game.turns) (A.place_of game f)) (sym fails ∙ test) in
     let lt = leb-false (2 * game.turns) (A.place_of game f) both.1 in
-    let plain = place_plain game f one in
+    let slots = placed_slot game f lt in
     omega arith
 
 next_test : (game : Game) (w : Seen) (ss : List (Option Received)) (rival : Option Received) (closed : Bool) (at : Reach) (r : Received) → IsOpen game w ss rival closed at r.entry →
@@ -91,7 +91,7 @@ pub offer_new : (game : Game) (w : Seen) (ss new : List (Option Received)) (riva
     place ≡ slot_of r.frame → far ≡ A.is_beyond game (at.commits + at.resolved) r.frame → far ≡ false → None ≡ slot ss place → q ≡ w.player → new ≡ set ss (slot_of r.frame) (Some r) →
     a ≡ new_answer (first_clash game q (in_order new)) (A.place_of game r.frame == at.commits + at.resolved) → a ≡ answer game w r
 offer_new game w ss new rival closed at r place q far a is o place_is test fails empty player new_is a_is =
-    let lt = within_slots game (at.commits + at.resolved) ss r.frame far is.ahead o.held.places test fails in
+    let lt = within_slots game (at.commits + at.resolved) ss r.frame far o.held.places test fails in
     let none : slot ss (slot_of r.frame) ≡ None = ap (slot ss) (sym place_is) ∙ sym empty in
     let frames : in_order new ≡ with_frame w r =
     ap in_order new_is ∙ in_order_set ss (slot_of r.frame) r lt none o.later ∙ ap (λ (rs : List Received). rs ++ r ∷ []) (sym (frames_alone ss rival o.alone) ∙ ap (λ (x : Seen). x.frames) o.view) in
@@ -109,7 +109,7 @@ pub offer_frames : (game : Game) (w : Seen) (ss new : List (Option Received)) (r
     count ≡ length ss → place ≡ slot_of r.frame → far ≡ A.is_beyond game (at.commits + at.resolved) r.frame → far ≡ false → None ≡ slot ss place → new ≡ set ss (slot_of r.frame) (Some r) → a ≡ new_answer clash next →
     in_order (take count (new ++ drop (length new) ss)) ++ option_to_list rival ≡ frames_after w r a
 offer_frames game w ss new rival closed at r place count far a clash next is o count_is place_is test fails empty new_is a_is =
-    let lt = within_slots game (at.commits + at.resolved) ss r.frame far is.ahead o.held.places test fails in
+    let lt = within_slots game (at.commits + at.resolved) ss r.frame far o.held.places test fails in
     let none : slot ss (slot_of r.frame) ≡ None = ap (slot ss) (sym place_is) ∙ sym empty in
     ap (λ (xs : List (Option Received)). in_order xs ++ option_to_list rival) (written_back count ss new count_is (ap length new_is ∙ length-set ss (slot_of r.frame) (Some r)) ∙ new_is)
     ∙ ap (λ (x : Option Received). in_order (set ss (slot_of r.frame) (Some r)) ++ option_to_list x) o.alone
@@ -121,7 +121,7 @@ pub offer_rival : (game : Game) (w : Seen) (ss : List (Option Received)) (rival 
     player_of r.frame ≡ w.player → place ≡ slot_of r.frame → far ≡ A.is_beyond game (at.commits + at.resolved) r.frame → far ≡ false → Some h ≡ slot ss place → same ≡ frame_eq h.frame r.frame → same ≡ false →
     other ≡ slot ss (other_slot r.frame) → clash ≡ rival_clash game h other r → Conflict clash ≡ answer game w r
 offer_rival game w ss rival closed at r h place far same clash other is o player place_is test fails there is_same apart other_is clash_is =
-    let lt = within_slots game (at.commits + at.resolved) ss r.frame far is.ahead o.held.places test fails in
+    let lt = within_slots game (at.commits + at.resolved) ss r.frame far o.held.places test fails in
     let here : slot ss (slot_of r.frame) ≡ Some h = ap (slot ss) (sym place_is) ∙ sym there in
     let differ : frame_eq h.frame r.frame ≡ false = sym is_same ∙ apart in
     let found = rival_first_clash game w.player ss at r h is o.held o.clean player lt here differ in

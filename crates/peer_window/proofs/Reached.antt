@@ -1,7 +1,7 @@
 -- Reached: a step of a walk over the slots is a frame more of what is known, and where it ends nothing more is known.
 use Rattle.std.proofs.Common.{◌≡◌, ℕ, suc, ◌+◌, ◌*◌, ◌<◌, ◌≤◌, List, [], ◌∷◌, ◌++◌, length, refl, Bool, true, false, sym, ◌∙◌, ap, arith, inl, inr, Option, Some, None}
 use Rattle.std.specs.Prelude.{◌&&◌, if◌then◌else◌, is_none, is_some, min}
-use Rattle.std.proofs.lemmas.Bool.{cases_lt, cond-true, cond-false, lt-ltb, le-ltb}
+use Rattle.std.proofs.lemmas.Bool.{cases_lt, cond-true, cond-false, false≢true, lt-ltb, le-ltb}
 use Rattle.definitions.specs.declared.world.Move.{Move}
 use Rattle.definitions.specs.declared.world.Track.{Track}
 use Rattle.definitions.specs.declared.world.MoveFault.{MoveFault}
@@ -20,11 +20,10 @@ use Rattle.definition_laws.proofs.Tracks.{known_to_open, track_from_append}
 use Rattle.reveal_check.specs.declared.judging.Verdict.TheVariants as V
 use Rattle.reveal_check.specs.Judgements.{by_rules}
 use Rattle.peer_window.specs.declared.received.Received.{Received}
-use Rattle.peer_window.specs.declared.received.Clash.{Clash}
 use Rattle.peer_window.specs.declared.walk.Reach.{Reach}
 use Rattle.peer_window.specs.declared.walk.Step.TheVariants.{Committed, Resolved, Halt, Illegal}
 use Rattle.peer_window.specs.Clashes.{illegal_clash}
-use Rattle.peer_window.specs.Steps.{IsReach, commit_step, frame_step, is_commit_next, judged_step, reveal_step, slot_step, step_from, stop_of}
+use Rattle.peer_window.specs.Steps.{IsReach, commit_step, frame_step, is_commit_next, judged_step, reveal_step, slot_step, step_from, turn_step, is_stop}
 use Rattle.peer_window.specs.Slots.{AreSlots, frames_in, in_order, moves_to, shown, slot}
 use Rattle.peer_window.proofs.Ordered.{of_slot}
 use Rattle.peer_window.proofs.Stretches.{commitment_at, is_commitment, is_reveal, slot_within}
@@ -57,11 +56,11 @@ judged_on game track after m a r false o h = absurd (let e : Halt ≡ Resolved a
 judged_on game track after m a r true (Some fault) h = absurd (let e : Illegal (illegal_clash a r) ≡ Resolved after = h in cc)
 judged_on game track after m a r true None h = record { opens = refl; legal = refl; leads = sym (resolved_same _ _ h) }
 
-judged_stop : (game : Game) (track : Track) (m : Move) (a r : Received) (b : Bool) (o : Option MoveFault) (x : Option Clash) →
-    stop_of (judged_step a r (if b then by_rules (judged game track m o) else V.BadOpening)) ≡ Some x → (b && is_none o) ≡ false
-judged_stop game track m a r false o x h = refl
-judged_stop game track m a r true (Some fault) x h = refl
-judged_stop game track m a r true None x h = absurd (let e : None ≡ Some x = h in cc)
+judged_stop : (game : Game) (track : Track) (m : Move) (a r : Received) (b : Bool) (o : Option MoveFault) →
+    is_stop (judged_step a r (if b then by_rules (judged game track m o) else V.BadOpening)) ≡ true → (b && is_none o) ≡ false
+judged_stop game track m a r false o h = refl
+judged_stop game track m a r true (Some fault) h = refl
+judged_stop game track m a r true None h = absurd (false≢true h)
 
 -- what a step over a reveal of this turn says, by the commitment before it
 pub step_revealed : (game : Game) (track : Track) (c r : Received) (q t : ℕ) (d : Digest) (m : Move) (k : Nonce) (before : Option Received) → before ≡ Some c → c.frame ≡ Commit q t d → r.frame ≡ Reveal q t m k →
@@ -90,7 +89,7 @@ track_more game q ms m = track_from_append game (start_track game q) ms (m ∷ [
 pub by_commit : (game : Game) (ss : List (Option Received)) (at : Reach) → at.commits < min (at.resolved + game.ahead) game.turns → step_from game ss at ≡ commit_step (slot ss (2 * at.commits))
 by_commit game ss at lt = cond-true (is_commit_next game at) _ _ (lt-ltb _ _ lt)
 
-pub by_reveal : (game : Game) (ss : List (Option Received)) (at : Reach) → min (at.resolved + game.ahead) game.turns ≤ at.commits → step_from game ss at ≡ slot_step game at.track (slot ss (2 * at.resolved)) (slot ss (2 * at.resolved + 1))
+pub by_reveal : (game : Game) (ss : List (Option Received)) (at : Reach) → min (at.resolved + game.ahead) game.turns ≤ at.commits → step_from game ss at ≡ turn_step game ss at
 by_reveal game ss at le = cond-false (is_commit_next game at) _ _ (le-ltb _ _ le)
 
 -- the slot of the next frame
@@ -102,26 +101,6 @@ commit_next game at lt = cond-true (is_commit_next game at) _ _ (lt-ltb _ _ lt)
 
 pub reveal_next : (game : Game) (at : Reach) → min (at.resolved + game.ahead) game.turns ≤ at.commits → next_slot game at ≡ 2 * at.resolved + 1
 reveal_next game at le = cond-false (is_commit_next game at) _ _ (le-ltb _ _ le)
-
--- where the next frame is the reveal of a turn, the turn is the first that isn't resolved
-pub at_reveal : (game : Game) (at : Reach) (t : ℕ) → 2 * t + 1 ≡ next_slot game at → (t ≡ at.resolved) × (min (at.resolved + game.ahead) game.turns ≤ at.commits)
-at_reveal game at t e = elim (cases_lt at.commits (min (at.resolved + game.ahead) game.turns)) [
-  | inl lt ↦ let n = commit_next game at lt in absurd (omega arith)
-  | inr ge ↦ let n = reveal_next game at ge in (omega arith, ge)
-]
-
--- nothing stands at the next frame's slot: the walk ends there
-pub stop_none : (game : Game) (ss : List (Option Received)) (at : Reach) → slot ss (next_slot game at) ≡ None → stop_of (step_from game ss at) ≡ Some None
-stop_none game ss at e = elim (cases_lt at.commits (min (at.resolved + game.ahead) game.turns)) [
-  | inl lt ↦ ap stop_of (by_commit game ss at lt) ∙ ap (λ (o : Option Received). stop_of (commit_step o)) (ap (slot ss) (sym (commit_next game at lt)) ∙ e)
-  | inr ge ↦ ap stop_of (by_reveal game ss at ge) ∙ ap (λ (o : Option Received). stop_of (slot_step game at.track (slot ss (2 * at.resolved)) o)) (ap (slot ss) (sym (reveal_next game at ge)) ∙ e)
-]
-
-pub stop_empty : (game : Game) (ss : List (Option Received)) (at : Reach) (x : Option Clash) → stop_of (step_from game ss at) ≡ Some x → slot ss (next_slot game at) ≡ None → x ≡ None
-stop_empty game ss at x h e = let g = sym (stop_none game ss at e) ∙ h in got g
-  where
-    got : Some None ≡ Some x → x ≡ None
-    got g = cc
 
 -- a step over a commitment is none over a reveal
 never_resolved : (o : Option Received) (track : Track) → commit_step o ≡ Resolved track → ⊥
@@ -196,7 +175,7 @@ step_resolving game q ss at track is len w h = elim (cases_lt at.commits (min (a
         slot_step game at.track (slot ss (2 * at.resolved)) (Some r) ≡ Resolved track → IsResolving game q ss at track
     framed ge r e m k f g =
         let within = slot_within ss (2 * at.resolved + 1) r e in
-        let one = is.ahead in
+        let one = is.ahead.0 in
         let lt : at.resolved < game.turns = omega arith in
         let c = commitment_at q at.resolved at.commits at.resolved ss w (omega arith) in
         record {
@@ -230,7 +209,7 @@ step_resolved game q ss at track is len w reach h =
     let m : Move = s.mv in
     let all = s.all in
     let within = s.within in
-    let ahead = is.ahead in
+    let ahead = is.ahead.0 in
     let tracked : at.track ≡ track_after game q (moves_to ss at.resolved) = reach.track in
     let opening = opening_here game q at.resolved (moves_to ss at.resolved) s.digest ss s.reveal m s.nonce s.reveals s.reveals_frame in
     let legal : is_none (move_fault game q (track_after game q (moves_to ss at.resolved)) m) ≡ true = ap (λ (x : Track). is_none (move_fault game q x m)) (sym tracked) ∙ ap is_none goes.legal in
@@ -246,39 +225,39 @@ step_resolved game q ss at track is len w reach h =
     }
 
 -- where the walk ends, nothing more is known
-pub step_stop : (game : Game) (q : ℕ) (ss : List (Option Received)) (at : Reach) (x : Option Clash) → IsSession game → length ss ≡ 2 * game.turns → AreSlots q ss at.commits at.resolved → IsReach game q ss at →
-    stop_of (step_from game ss at) ≡ Some x → next_known game q (frames_in (in_order ss)) (shown ss at.commits at.resolved) ≡ shown ss at.commits at.resolved
+pub step_stop : (game : Game) (q : ℕ) (ss : List (Option Received)) (at : Reach) → IsSession game → length ss ≡ 2 * game.turns → AreSlots q ss at.commits at.resolved → IsReach game q ss at →
+    is_stop (step_from game ss at) ≡ true → next_known game q (frames_in (in_order ss)) (shown ss at.commits at.resolved) ≡ shown ss at.commits at.resolved
 unfolding is_legal
-step_stop game q ss at x is len w reach h = elim (cases_lt at.commits (min (at.resolved + game.ahead) game.turns)) [
-  | inl lt ↦ commits lt (slot ss (2 * at.commits)) refl (ap stop_of (sym (by_commit game ss at lt)) ∙ h)
+step_stop game q ss at is len w reach h = elim (cases_lt at.commits (min (at.resolved + game.ahead) game.turns)) [
+  | inl lt ↦ commits lt (slot ss (2 * at.commits)) refl (ap is_stop (sym (by_commit game ss at lt)) ∙ h)
   | inr ge ↦ elim (cases_lt at.resolved game.turns) [
-    | inl below ↦ reveals ge below (slot ss (2 * at.resolved + 1)) refl (ap stop_of (sym (by_reveal game ss at ge)) ∙ h)
+    | inl below ↦ reveals ge below (slot ss (2 * at.resolved + 1)) refl (ap is_stop (sym (by_reveal game ss at ge)) ∙ h)
     | inr end ↦ next_at_end game q at.commits at.resolved ss w ge end
   ]
 ]
   where
-    commits : at.commits < min (at.resolved + game.ahead) game.turns → (o : Option Received) → slot ss (2 * at.commits) ≡ o → stop_of (commit_step o) ≡ Some x →
+    commits : at.commits < min (at.resolved + game.ahead) game.turns → (o : Option Received) → slot ss (2 * at.commits) ≡ o → is_stop (commit_step o) ≡ true →
         next_known game q (frames_in (in_order ss)) (shown ss at.commits at.resolved) ≡ shown ss at.commits at.resolved
     commits lt None e g =
         next_at_commit game q at.commits at.resolved ss w lt ∙ ap (λ (o : Option Received). with_commit (shown ss at.commits at.resolved) (of_slot (λ r. commit_of at.commits r.frame) o)) e
-    commits lt (Some r) e g = absurd (let no : None ≡ Some x = g in cc)
+    commits lt (Some r) e g = absurd (false≢true g)
 
-    reveals : min (at.resolved + game.ahead) game.turns ≤ at.commits → at.resolved < game.turns → (o : Option Received) → slot ss (2 * at.resolved + 1) ≡ o → stop_of (slot_step game at.track (slot ss (2 * at.resolved)) o) ≡ Some x →
+    reveals : min (at.resolved + game.ahead) game.turns ≤ at.commits → at.resolved < game.turns → (o : Option Received) → slot ss (2 * at.resolved + 1) ≡ o → is_stop (slot_step game at.track (slot ss (2 * at.resolved)) o) ≡ true →
         next_known game q (frames_in (in_order ss)) (shown ss at.commits at.resolved) ≡ shown ss at.commits at.resolved
     reveals ge below o e g =
-        let one = is.ahead in
+        let one = is.ahead.0 in
         let c = commitment_at q at.resolved at.commits at.resolved ss w (omega arith) in
         next_at_reveal game q at.commits at.resolved ss c.0 c.1 w ge below (omega arith) c.2 c.3
         ∙ by_slot c.0 c.1 c.2 c.3 o e g
       where
-        by_slot : (a : Received) (d : Digest) → slot ss (2 * at.resolved) ≡ Some a → a.frame ≡ Commit q at.resolved d → (o : Option Received) → slot ss (2 * at.resolved + 1) ≡ o → stop_of (slot_step game at.track (slot ss (2 * at.resolved)) o) ≡ Some x →
+        by_slot : (a : Received) (d : Digest) → slot ss (2 * at.resolved) ≡ Some a → a.frame ≡ Commit q at.resolved d → (o : Option Received) → slot ss (2 * at.resolved + 1) ≡ o → is_stop (slot_step game at.track (slot ss (2 * at.resolved)) o) ≡ true →
             with_move (shown ss at.commits at.resolved) (of_slot (λ r. opening_of game q (moves_to ss at.resolved) d at.resolved r.frame) (slot ss (2 * at.resolved + 1))) ≡ shown ss at.commits at.resolved
         by_slot a d i j None e g = ap (λ (o : Option Received). with_move (shown ss at.commits at.resolved) (of_slot (λ r. opening_of game q (moves_to ss at.resolved) d at.resolved r.frame) o)) e
         by_slot a d i j (Some r) e g =
             let own = w.own (2 * at.resolved + 1) r e in
             let f = is_reveal r.frame q at.resolved own.0 own.1 in
             let m : Move = f.0 in
-            let halts = judged_stop game at.track m a r _ (move_fault game q at.track m) x (ap stop_of (sym (step_revealed game at.track a r q at.resolved d m f.1 (slot ss (2 * at.resolved)) i j f.2)) ∙ g) in
+            let halts = judged_stop game at.track m a r _ (move_fault game q at.track m) (ap is_stop (sym (step_revealed game at.track a r q at.resolved d m f.1 (slot ss (2 * at.resolved)) i j f.2)) ∙ g) in
             let opening = opening_here game q at.resolved (moves_to ss at.resolved) d ss r m f.1 e f.2 in
             let none : (if digest_eq (digest_of game (Reveal q at.resolved m f.1)) d && is_none (move_fault game q (track_after game q (moves_to ss at.resolved)) m) then Some m else None) ≡ None =
             ap (λ (y : Track). if digest_eq (digest_of game (Reveal q at.resolved m f.1)) d && is_none (move_fault game q y m) then Some m else None) (sym reach.track) ∙ ap (λ (b : Bool). if b then Some m else None) halts in
@@ -307,7 +286,7 @@ slots_resolved game q ss at track is len w h =
     let s = step_resolving game q ss at track is len w h in
     let all = s.all in
     let within = s.within in
-    let one = is.ahead in
+    let one = is.ahead.0 in
     record {
       own = w.own;
       committed = w.committed;

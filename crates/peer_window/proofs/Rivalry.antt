@@ -56,10 +56,6 @@ collision game a b x y z s e f g h =
     ap (λ (c : Bool). c && is_reveal b.frame && not (frame_eq a.frame b.frame) && same_digest game a b) e ∙ ap (λ (c : Bool). x && c && not (frame_eq a.frame b.frame) && same_digest game a b) f
     ∙ ap (λ (c : Bool). x && y && not c && same_digest game a b) g ∙ ap (λ (c : Bool). x && y && not z && c) h
 
-no_commit : (a b : Bool) → (a && false && b) ≡ false
-no_commit true b = refl
-no_commit false b = refl
-
 -- a second commitment, with another digest
 rival_commits : (game : Game) (q t : ℕ) (k : Known) (h r : Received) (o : Option Received) → is_reveal h.frame ≡ false → is_reveal r.frame ≡ false → same_digest game h r ≡ false → ((g : Received) → o ≡ Some g → is_reveal g.frame ≡ true) →
     first_of (clash_among game q t k (in_order (Some h ∷ o ∷ []) ++ r ∷ [])) kinds ≡ Some (clash_of t TwoCommits (h, r))

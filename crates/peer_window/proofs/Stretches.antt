@@ -1,7 +1,7 @@
 -- Stretches: what the slots of the first turns show, turn by turn.
-use Rattle.std.proofs.Common.{◌≡◌, ℕ, zero, suc, ◌+◌, ◌*◌, ◌<◌, ◌≤◌, List, [], ◌∷◌, ◌++◌, length, length-append, refl, true, sym, ◌∙◌, ap, arith, inl, inr, Option, Some, None}
-use Rattle.std.specs.Prelude.{is_some, slice_get}
-use Rattle.std.proofs.lemmas.Bool.{false≢true, cases_lt}
+use Rattle.std.proofs.Common.{◌≡◌, ℕ, zero, suc, ◌+◌, ◌*◌, ◌<◌, ◌≤◌, List, [], ◌∷◌, ◌++◌, length, length-append, refl, sym, ◌∙◌, ap, arith, inl, inr, Option, Some, None}
+use Rattle.std.specs.Prelude.{slice_get}
+use Rattle.std.proofs.lemmas.Bool.{cases_lt}
 use Rattle.plain_lemmas.proofs.Options.{some_of}
 use Rattle.definitions.specs.declared.world.Move.{Move}
 use Rattle.definitions.specs.declared.openings.Digest.{Digest}
@@ -18,11 +18,6 @@ pub slot_within : (ss : List (Option Received)) (p : ℕ) (r : Received) → slo
 slot_within [] p r h = absurd (let none : None ≡ Some r = h in cc)
 slot_within (s ∷ ss) zero r h = omega arith
 slot_within (s ∷ ss) (suc p) r h = let lt = slot_within ss p r h in omega arith
-
-pub slot_past : (ss : List (Option Received)) (p : ℕ) → length ss ≤ p → slot ss p ≡ None
-slot_past [] p h = refl
-slot_past (s ∷ ss) zero h = absurd (omega arith)
-slot_past (s ∷ ss) (suc p) h = slot_past ss p (omega arith)
 
 -- a frame of a commitment's slot is a commitment, and one of a reveal's a reveal
 pub is_commitment : (f : TurnFrame) (q t : ℕ) → slot_of f ≡ 2 * t → player_of f ≡ q → (d : Digest) × (f ≡ Commit q t d)
@@ -114,8 +109,3 @@ move_get q c u ss (suc k) t r m o w h lt e f =
           ap (λ (i : ℕ). slice_get (moves_to ss (suc i)) t) same ∙ ap (λ (ms : List Move). slice_get ms t) (moves_more ss q t r m o e f)
           ∙ ap (slice_get (moves_to ss t ++ m ∷ [])) len ∙ slice_get_last (moves_to ss t) m
     ]
-
-pub get_past : {X : Type 0} (xs : List X) (i : ℕ) → length xs ≤ i → slice_get xs i ≡ None
-get_past [] i h = refl
-get_past (x ∷ xs) zero h = absurd (omega arith)
-get_past (x ∷ xs) (suc i) h = get_past xs i (omega arith)

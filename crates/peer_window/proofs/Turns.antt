@@ -1,11 +1,12 @@
--- Turns: the first clash of a turn, by its two slots and by where the walk ended.
-use Rattle.std.proofs.Common.{◌≡◌, ℕ, ◌+◌, ◌*◌, ◌<◌, ◌≤◌, List, [], ◌∷◌, length, refl, Bool, true, false, sym, ◌∙◌, ap, arith, inl, inr, Option, Some, None}
-use Rattle.std.specs.Prelude.{not, ◌&&◌, ◌||◌, ◌==◌, if◌then◌else◌, is_some, max, min, nat_lt}
+-- Turns: the first clash of a turn, by its two slots and by the reveal of the first turn that isn't resolved.
+use Rattle.std.proofs.Common.{◌≡◌, ℕ, ◌+◌, ◌*◌, ◌<◌, ◌≤◌, List, [], ◌∷◌, refl, Bool, true, false, sym, ◌∙◌, ap, arith, inl, inr, Option, Some, None}
+use Rattle.std.specs.Prelude.{not, ◌&&◌, ◌||◌, ◌==◌, if◌then◌else◌, max, min, nat_lt}
 use Rattle.std.specs.Option.{option_or}
 use Rattle.std.proofs.lemmas.Bool.{cases_lt, eq-eqb, eqb-true, false≢true, ltb-false, ltb-true}
 use Rattle.definitions.specs.declared.findings.Kind.{Kind}
 use Rattle.definitions.specs.declared.findings.Kind.TheVariants.{TwoCommits, BadOpening, Collision, Illegal}
 use Rattle.definitions.specs.declared.world.Move.{Move}
+use Rattle.definitions.specs.declared.world.Track.{Track}
 use Rattle.definitions.specs.declared.openings.Digest.{Digest}
 use Rattle.definitions.specs.declared.openings.Nonce.{Nonce}
 use Rattle.definitions.specs.declared.frames.TurnFrame.{TurnFrame}
@@ -13,20 +14,21 @@ use Rattle.definitions.specs.declared.frames.TurnFrame.TheVariants.{Commit, Reve
 use Rattle.definitions.specs.World.{Game}
 use Rattle.definitions.specs.Logs.{turn_of}
 use Rattle.definitions.specs.Lists.{first_of}
-use Rattle.definitions.specs.Held.{Known, digest_of, known_to}
+use Rattle.definitions.specs.Held.{Known, digest_of}
 use Rattle.definitions.specs.Findings.{is_commit, is_illegal_at, kinds}
 use Rattle.grid_world.specs.Sessions.{IsSession}
 use Rattle.peer_window.specs.declared.received.Received.{Received}
 use Rattle.peer_window.specs.declared.received.Clash.{Clash}
 use Rattle.peer_window.specs.declared.walk.Reach.{Reach}
 use Rattle.peer_window.specs.Clashes.{clash_among, clash_in, illegal_clash, is_first, of_turn, same_digest}
-use Rattle.peer_window.specs.Steps.{IsReach, step_from, stop_of}
-use Rattle.peer_window.specs.Slots.{AreSlots, frames_in, in_order, shown, slot}
+use Rattle.peer_window.specs.Steps.{frame_step, illegal_at, illegal_in, slot_step}
+use Rattle.peer_window.specs.Slots.{in_order, shown, slot}
+use Rattle.peer_window.specs.Windows.{IsHeld}
 use Rattle.peer_window.proofs.OfTurns.{turn_slots}
 use Rattle.peer_window.proofs.Pairs.{among_none, among_one, among_two, digest_sym, kinds_are}
-use Rattle.peer_window.proofs.Judging.{later_unjudged, resolved_legal, stopped_illegal, uncommitted_unjudged}
-use Rattle.peer_window.proofs.Reached.{at_reveal, commit_next, next_slot, reveal_next, stop_empty}
-use Rattle.peer_window.proofs.Stretches.{is_commitment, slot_within}
+use Rattle.peer_window.proofs.Judging.{illegal_here, later_unjudged, resolved_legal}
+use Rattle.peer_window.proofs.Halted.{held_here, held_reach}
+use Rattle.peer_window.proofs.Stretches.{is_commitment}
 use Rattle.peer_window.proofs.Stretches as S
 
 -- what the frames of a turn's two slots show by their digests
@@ -36,9 +38,9 @@ pair_clash game t (Some c) None = None
 pair_clash game t (Some c) (Some g) =
     if same_digest game c g then None else Some (record { turn = t; kind = BadOpening; first = min c.entry g.entry; second = max c.entry g.entry })
 
--- what the walk's end shows of the turn
+-- what the reveal of the first turn that isn't resolved shows of the turn, if it is that turn
 abbrev pub end_clash : ℕ → ℕ → Option Clash → Option Clash
-end_clash t n x = if (2 * t + 1) == n then x else None
+end_clash t n x = if t == n then x else None
 
 pub clash_same : (a b : Clash) → a.turn ≡ b.turn → a.kind ≡ b.kind → a.first ≡ b.first → a.second ≡ b.second → a ≡ b
 clash_same a b e f g h =
@@ -124,71 +126,75 @@ both_slots game q t k c g d m o e f = go (nat_lt c.entry g.entry) refl
     go true h = first_then game q t k c g d m o e f (ltb-true c.entry g.entry h)
     go false h = then_first game q t k c g d m o e f (ltb-false c.entry g.entry h)
 
-pub end_none : (t n : ℕ) (x : Option Clash) → (2 * t + 1 ≡ n → x ≡ None) → None ≡ end_clash t n x
-end_none t n x h = go ((2 * t + 1) == n) refl
+pub end_none : (t n : ℕ) (x : Option Clash) → (t ≡ n → x ≡ None) → None ≡ end_clash t n x
+end_none t n x h = go (t == n) refl
   where
-    go : (b : Bool) → ((2 * t + 1) == n) ≡ b → None ≡ (if b then x else None)
-    go true e = sym (h (eqb-true (2 * t + 1) n e))
+    go : (b : Bool) → (t == n) ≡ b → None ≡ (if b then x else None)
+    go true e = sym (h (eqb-true t n e))
     go false e = refl
 
+pub end_here : (t : ℕ) (x : Option Clash) → end_clash t t x ≡ x
+end_here t x = ap (λ (b : Bool). if b then x else None) (eq-eqb t t refl)
+
+-- a turn without both frames shows nothing
+uncommitted : (game : Game) (track : Track) (o : Option Received) → illegal_in (slot_step game track None o) ≡ None
+uncommitted game track None = refl
+uncommitted game track (Some r) = go r.frame
+  where
+    go : (f : TurnFrame) → illegal_in (frame_step game track None r f) ≡ None
+    go (Commit p t d) = refl
+    go (Reveal p t m n) = refl
+
 -- the first clash of a turn, where the slots show all that is known
-pub turn_value : (game : Game) (q t : ℕ) (ss : List (Option Received)) (at : Reach) (x : Option Clash) → IsSession game → length ss ≡ 2 * game.turns → AreSlots q ss at.commits at.resolved → IsReach game q ss at → stop_of (step_from game ss at) ≡ Some x →
-    known_to game q (frames_in (in_order ss)) (2 * game.turns) ≡ shown ss at.commits at.resolved →
-    clash_in game q (in_order ss) t ≡ option_or (pair_clash game t (slot ss (2 * t)) (slot ss (2 * t + 1))) (end_clash t (next_slot game at) x)
+pub turn_value : (game : Game) (q t : ℕ) (ss : List (Option Received)) (at : Reach) → IsSession game → IsHeld game q ss at →
+    clash_in game q (in_order ss) t ≡ option_or (pair_clash game t (slot ss (2 * t)) (slot ss (2 * t + 1))) (end_clash t at.resolved (illegal_at game ss at))
 unfolding clash_in
-turn_value game q t ss at x is len w reach stop known =
-    ap (λ (k : Known). first_of (clash_among game q t k (of_turn t (in_order ss))) kinds) known
-    ∙ ap (λ (rs : List Received). first_of (clash_among game q t (shown ss at.commits at.resolved) rs) kinds) (turn_slots q at.commits at.resolved t ss w)
+turn_value game q t ss at is h =
+    ap (λ (k : Known). first_of (clash_among game q t k (of_turn t (in_order ss))) kinds) h.known
+    ∙ ap (λ (rs : List Received). first_of (clash_among game q t (shown ss at.commits at.resolved) rs) kinds) (turn_slots q at.commits at.resolved t ss h.slots)
     ∙ go (slot ss (2 * t)) refl (slot ss (2 * t + 1)) refl
   where
-    empty : slot ss (2 * t + 1) ≡ None → 2 * t + 1 ≡ next_slot game at → x ≡ None
-    empty e n = stop_empty game ss at x stop (ap (slot ss) (sym n) ∙ e)
-
-    -- a reveal that is next has its commitment
-    due : (g : Received) → slot ss (2 * t + 1) ≡ Some g → t ≡ at.resolved → min (at.resolved + game.ahead) game.turns ≤ at.commits → t < at.commits
-    due g i n all = let within = slot_within ss (2 * t + 1) g i in let one = is.ahead in omega arith
-
-    missing : (g : Received) → slot ss (2 * t) ≡ None → slot ss (2 * t + 1) ≡ Some g → 2 * t + 1 ≡ next_slot game at → x ≡ None
-    missing g e i n =
-        let next = at_reveal game at t n in
-        absurd (false≢true (ap is_some (sym e) ∙ w.committed t (due g i next.0 next.1)))
+    -- the turn's slots are those that the reveal is judged by
+    judged_by : (a b : Option Received) → slot ss (2 * t) ≡ a → slot ss (2 * t + 1) ≡ b → t ≡ at.resolved → illegal_at game ss at ≡ illegal_in (slot_step game at.track a b)
+    judged_by a b e i n =
+        ap (λ (v : ℕ). illegal_in (slot_step game at.track (slot ss (2 * v)) (slot ss (2 * v + 1)))) (sym n)
+        ∙ ap (λ (x : Option Received). illegal_in (slot_step game at.track x (slot ss (2 * t + 1)))) e ∙ ap (λ (x : Option Received). illegal_in (slot_step game at.track a x)) i
 
     value : (c g : Received) (d : Digest) (m : Move) (o : Nonce) → slot ss (2 * t) ≡ Some c → c.frame ≡ Commit q t d → slot ss (2 * t + 1) ≡ Some g → g.frame ≡ Reveal q t m o →
-        (if is_illegal_at game q t (shown ss at.commits at.resolved) g.frame then Some (illegal_clash c g) else None) ≡ end_clash t (next_slot game at) x
+        (if is_illegal_at game q t (shown ss at.commits at.resolved) g.frame then Some (illegal_clash c g) else None) ≡ end_clash t at.resolved (illegal_at game ss at)
     value c g d m o e f i j = elim (cases_lt t at.resolved) [
       | inl below ↦
-          ap (λ (b : Bool). if b then Some (illegal_clash c g) else None) (resolved_legal game q at.commits at.resolved t ss g m o w known below i j)
-          ∙ end_none t (next_slot game at) x (λ n. let next = (at_reveal game at t n).0 in absurd (omega arith))
+          ap (λ (b : Bool). if b then Some (illegal_clash c g) else None) (resolved_legal game q at.commits at.resolved t ss g m o h.slots h.known below i j)
+          ∙ end_none t at.resolved (illegal_at game ss at) (λ n. absurd (omega arith))
       | inr above ↦ elim (cases_lt at.resolved t) [
         | inl later ↦
-            ap (λ (b : Bool). if b then Some (illegal_clash c g) else None) (later_unjudged game q at.commits at.resolved t ss g m o w later j)
-            ∙ end_none t (next_slot game at) x (λ n. let next = (at_reveal game at t n).0 in absurd (omega arith))
-        | inr here ↦ elim (cases_lt at.commits (min (at.resolved + game.ahead) game.turns)) [
-          | inl lt ↦
-              let one = is.ahead in
-              let next = commit_next game at lt in
-              ap (λ (b : Bool). if b then Some (illegal_clash c g) else None) (uncommitted_unjudged game q at.commits at.resolved t ss g m o w (omega arith) j)
-              ∙ end_none t (next_slot game at) x (λ n. absurd (omega arith))
-          | inr all ↦
-              let same : t ≡ at.resolved = omega arith in
-              let next = reveal_next game at all in
-              let n : 2 * t + 1 ≡ next_slot game at = omega arith in
-              stopped_illegal game q t ss at x c g d m o w reach stop all same (due g i same all) e f i j ∙ ap (λ (b : Bool). if b then x else None) (sym (eq-eqb (2 * t + 1) (next_slot game at) n))
-        ]
+            ap (λ (b : Bool). if b then Some (illegal_clash c g) else None) (later_unjudged game q at.commits at.resolved t ss g m o h.slots later j)
+            ∙ end_none t at.resolved (illegal_at game ss at) (λ n. absurd (omega arith))
+        | inr here ↦
+            let same : t ≡ at.resolved = omega arith in
+            let held = held_here game q ss at c is h (ap (λ (n : ℕ). slot ss (2 * n)) (sym same) ∙ e) in
+            illegal_here game q t ss at c g d m o h.slots (held_reach game q ss at h) same (omega arith) e f i j
+            ∙ sym (ap (λ (n : ℕ). end_clash t n (illegal_at game ss at)) (sym same) ∙ end_here t (illegal_at game ss at))
       ]
     ]
 
     nothing : (rs : List Received) → ((kind : Kind) → clash_among game q t (shown ss at.commits at.resolved) rs kind ≡ None) → first_of (clash_among game q t (shown ss at.commits at.resolved) rs) kinds ≡ None
-    nothing rs h = kinds_are (clash_among game q t (shown ss at.commits at.resolved) rs) None None None None (h TwoCommits) (h BadOpening) (h Collision) (h Illegal)
+    nothing rs none = kinds_are (clash_among game q t (shown ss at.commits at.resolved) rs) None None None None (none TwoCommits) (none BadOpening) (none Collision) (none Illegal)
 
     go : (a : Option Received) → slot ss (2 * t) ≡ a → (b : Option Received) → slot ss (2 * t + 1) ≡ b →
-        first_of (clash_among game q t (shown ss at.commits at.resolved) (in_order (a ∷ b ∷ []))) kinds ≡ option_or (pair_clash game t a b) (end_clash t (next_slot game at) x)
-    go None e None i = nothing [] (λ kind. among_none game q t (shown ss at.commits at.resolved) kind) ∙ end_none t (next_slot game at) x (empty i)
-    go None e (Some g) i = nothing (g ∷ []) (λ kind. among_one game q t (shown ss at.commits at.resolved) g kind) ∙ end_none t (next_slot game at) x (missing g e i)
-    go (Some c) e None i = nothing (c ∷ []) (λ kind. among_one game q t (shown ss at.commits at.resolved) c kind) ∙ end_none t (next_slot game at) x (empty i)
+        first_of (clash_among game q t (shown ss at.commits at.resolved) (in_order (a ∷ b ∷ []))) kinds ≡ option_or (pair_clash game t a b) (end_clash t at.resolved (illegal_at game ss at))
+    go None e None i =
+        nothing [] (λ kind. among_none game q t (shown ss at.commits at.resolved) kind)
+        ∙ end_none t at.resolved (illegal_at game ss at) (λ n. judged_by None None e i n ∙ uncommitted game at.track None)
+    go None e (Some g) i =
+        nothing (g ∷ []) (λ kind. among_one game q t (shown ss at.commits at.resolved) g kind)
+        ∙ end_none t at.resolved (illegal_at game ss at) (λ n. judged_by None (Some g) e i n ∙ uncommitted game at.track (Some g))
+    go (Some c) e None i =
+        nothing (c ∷ []) (λ kind. among_one game q t (shown ss at.commits at.resolved) c kind)
+        ∙ end_none t at.resolved (illegal_at game ss at) (λ n. judged_by (Some c) None e i n)
     go (Some c) e (Some g) i =
-        let a = w.own (2 * t) c e in
-        let b = w.own (2 * t + 1) g i in
+        let a = h.slots.own (2 * t) c e in
+        let b = h.slots.own (2 * t + 1) g i in
         let cf = is_commitment c.frame q t a.0 a.1 in
         let gf = S.is_reveal g.frame q t b.0 b.1 in
         both_slots game q t (shown ss at.commits at.resolved) c g cf.0 gf.0 gf.1 cf.1 gf.2

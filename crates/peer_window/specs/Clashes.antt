@@ -1,5 +1,5 @@
 -- Clashes: what frames that came show of their player.
-use Rattle.std.specs.Prelude.{ℕ, Bool, false, ◌&&◌, ◌||◌, ◌*◌, List, [], ◌∷◌, Option, Some, None, min, max, filter, ◌==◌, if◌then◌else◌, option_map}
+use Rattle.std.specs.Prelude.{ℕ, Bool, false, ◌&&◌, ◌||◌, ◌*◌, List, [], ◌∷◌, Option, Some, None, min, max, nat_lt, filter, ◌==◌, if◌then◌else◌, option_map}
 use Rattle.std.specs.List.{range_with_len}
 use Rattle.definitions.specs.declared.frames.TurnFrame.{TurnFrame}
 use Rattle.definitions.specs.declared.frames.TurnFrame.TheVariants.{Commit, Reveal}
@@ -85,6 +85,12 @@ opening_clash game None r = None
 opening_clash game (Some other) r =
     if same_digest game other r then None
     else Some (record { turn = turn_of r.frame; kind = BadOpening; first = other.entry; second = r.entry })
+
+-- the first of two clashes, by turn; of one turn, the first of the two
+abbrev pub lower_clash : Option Clash → Option Clash → Option Clash
+lower_clash None b = b
+lower_clash (Some a) None = Some a
+lower_clash (Some a) (Some b) = if nat_lt b.turn a.turn then Some b else Some a
 
 -- what an illegal reveal shows with the commitment that it opens
 abbrev pub illegal_clash : Received → Received → Clash

@@ -1,5 +1,5 @@
 -- Steps: what stands next in a stream, and how far a walk over the slots comes.
-use Rattle.std.specs.Prelude.{◌≡◌, ℕ, ◌+◌, ◌*◌, List, Option, Some, None, Bool, min, nat_lt, if◌then◌else◌}
+use Rattle.std.specs.Prelude.{◌≡◌, ℕ, ◌+◌, ◌*◌, List, Option, Some, None, Bool, true, false, min, nat_lt, if◌then◌else◌}
 use Rattle.definitions.specs.declared.world.Track.{Track}
 use Rattle.definitions.specs.declared.openings.Opening.{Opening}
 use Rattle.definitions.specs.declared.frames.TurnFrame.{TurnFrame}
@@ -15,7 +15,6 @@ use Rattle.peer_window.specs.declared.received.Clash.{Clash}
 use Rattle.peer_window.specs.declared.walk.Reach.{Reach}
 use Rattle.peer_window.specs.declared.walk.Step.{Step}
 use Rattle.peer_window.specs.declared.walk.Step.TheVariants.{Committed, Resolved, Halt, Illegal}
-use Rattle.peer_window.specs.declared.walk.Walked.{Walked}
 use Rattle.peer_window.specs.Clashes.{illegal_clash}
 use Rattle.peer_window.specs.Slots.{slot, in_order, frames_in, shown}
 
@@ -48,18 +47,31 @@ slot_step game track before (Some r) = frame_step game track before r r.frame
 abbrev pub is_commit_next : Game → Reach → Bool
 is_commit_next game at = nat_lt at.commits (min (at.resolved + game.ahead) game.turns)
 
+-- the step over the reveal of the first turn that isn't resolved
+abbrev pub turn_step : Game → List (Option Received) → Reach → Step
+turn_step game ss at = slot_step game at.track (slot ss (2 * at.resolved)) (slot ss (2 * at.resolved + 1))
+
 -- the step over the next frame
 abbrev pub step_from : Game → List (Option Received) → Reach → Step
-step_from game ss at =
-    if is_commit_next game at then commit_step (slot ss (2 * at.commits))
-    else slot_step game at.track (slot ss (2 * at.resolved)) (slot ss (2 * at.resolved + 1))
+step_from game ss at = if is_commit_next game at then commit_step (slot ss (2 * at.commits)) else turn_step game ss at
 
--- what a step says where the walk ends with it
-abbrev pub stop_of : Step → Option (Option Clash)
-stop_of Committed = None
-stop_of (Resolved track) = None
-stop_of Halt = Some None
-stop_of (Illegal clash) = Some (Some clash)
+-- a walk ends with the step
+abbrev pub is_stop : Step → Bool
+is_stop Committed = false
+is_stop (Resolved track) = false
+is_stop Halt = true
+is_stop (Illegal clash) = true
+
+-- what a step over an illegal reveal shows
+abbrev pub illegal_in : Step → Option Clash
+illegal_in Committed = None
+illegal_in (Resolved track) = None
+illegal_in Halt = None
+illegal_in (Illegal clash) = Some clash
+
+-- what the reveal of the first turn that isn't resolved shows, if it is illegal
+abbrev pub illegal_at : Game → List (Option Received) → Reach → Option Clash
+illegal_at game ss at = illegal_in (turn_step game ss at)
 
 -- so much of the player's stream is there, and leads to this track
 pub record IsReach (game : Game) (q : ℕ) (ss : List (Option Received)) (at : Reach) : Type 0 where
@@ -67,7 +79,6 @@ pub record IsReach (game : Game) (q : ℕ) (ss : List (Option Received)) (at : R
   pub track : at.track ≡ track_after game q (shown ss at.commits at.resolved).moves
 
 -- what is there, and no more of it
-pub record IsWalked (game : Game) (q : ℕ) (ss : List (Option Received)) (w : Walked) : Type 0 where
-  pub reach : IsReach game q ss w.reach
-  pub whole : next_known game q (frames_in (in_order ss)) (shown ss w.reach.commits w.reach.resolved) ≡ shown ss w.reach.commits w.reach.resolved
-  pub stop : stop_of (step_from game ss w.reach) ≡ Some w.illegal
+pub record IsWalked (game : Game) (q : ℕ) (ss : List (Option Received)) (at : Reach) : Type 0 where
+  pub reach : IsReach game q ss at
+  pub whole : next_known game q (frames_in (in_order ss)) (shown ss at.commits at.resolved) ≡ shown ss at.commits at.resolved

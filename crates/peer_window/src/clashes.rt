@@ -74,6 +74,25 @@ pub(crate) fn opening_clash(
     }
 }
 
+/// The first of two clashes, by turn; of one turn, the one that is given first.
+pub(crate) fn lower_clash(one: Option<Clash>, other: Option<Clash>) -> Option<Clash>
+    ensures { result ≡ C.lower_clash one other }
+{
+    match one {
+        None => other,
+        Some(first) => match other {
+            None => Some(first),
+            Some(second) => {
+                if second.turn < first.turn {
+                    Some(second)
+                } else {
+                    Some(first)
+                }
+            }
+        },
+    }
+}
+
 /// The clash of a reveal that opens the commitment held and isn't legal. Either may have come first.
 pub(crate) fn illegal_clash(commitment: &Received, reveal: &Received) -> Clash
     ensures { result ≡ C.illegal_clash commitment.now reveal.now }

@@ -1,4 +1,5 @@
-//! How far a player's stream goes: over the slots of its next frames, until one is empty or doesn't fit.
+//! How far a player's stream goes: over the slots of its next frames, until one is empty or doesn't fit; and what the reveal
+//! behind the turns resolved shows, also where commitments before it are missing.
 
 ghost use Rattle.std.specs.Prelude.{◌≡◌, ◌<◌, ◌≤◌, ◌*◌, ◌+◌, length, IsTrue};
 ghost use Rattle.definitions.specs.World.{players_of, is_open};
@@ -33,13 +34,6 @@ pub(crate) enum Step {
     Halt,
     /// A reveal that opens the commitment and isn't legal.
     Illegal(Clash),
-}
-
-/// Where a walk ends, and the illegal reveal that ends it, if it is one.
-#[derive(Clone, Copy, Debug, PartialEq, Eq)]
-pub(crate) struct Walked {
-    pub reach: Reach,
-    pub illegal: Option<Clash>,
 }
 
 /// The step over a reveal, by the commitment that is held of its turn.
@@ -107,7 +101,7 @@ fn commit_step(slots: &[Option<Received>], turn: Turn) -> Step
     }
 }
 
-/// The step over the reveal of a turn.
+/// The step over the reveal of the first turn that isn't resolved.
 fn turn_step(
     session: &Session,
     walker: &mut Walker,
@@ -118,7 +112,7 @@ fn turn_step(
     requires player { player < players_of session.now }
     requires slots { AreSlots player slots.now reach.now.commits reach.now.resolved }
     requires track { IsTrue (is_open session.now.grid reach.now.track.at) }
-    ensures step { result ≡ W.slot_step session.now reach.now.track (slot slots.now (2 * reach.now.resolved)) (slot slots.now (2 * reach.now.resolved + 1)) }
+    ensures step { result ≡ W.turn_step session.now slots.now reach.now }
 {
     match slot(slots, reveal_slot(reach.resolved)) {
         None => Step::Halt,
@@ -158,15 +152,13 @@ pub(crate) fn walk(
     player: PlayerId,
     slots: &[Option<Received>],
     from: &Reach,
-) -> Walked
+) -> Reach
     requires player { player < players_of session.now }
     requires length { length slots.now ≡ 2 * session.now.turns }
     requires slots { AreSlots player slots.now from.now.commits from.now.resolved }
     requires reach { W.IsReach session.now player slots.now from.now }
     ensures walked { W.IsWalked session.now player slots.now result }
-    ensures slots { AreSlots player slots.now result.reach.commits result.reach.resolved }
-    ensures further { from.now.commits ≤ result.reach.commits }
-    ensures later { from.now.resolved ≤ result.reach.resolved }
+    ensures slots { AreSlots player slots.now result.commits result.resolved }
 {
     session.facts();
     let mut reach = *from;
@@ -187,17 +179,35 @@ pub(crate) fn walk(
                 };
             }
             Step::Halt => {
-                return Walked {
-                    reach,
-                    illegal: None,
-                };
+                return reach;
             }
-            Step::Illegal(clash) => {
-                return Walked {
-                    reach,
-                    illegal: Some(clash),
-                };
+            Step::Illegal(_) => {
+                return reach;
             }
         }
+    }
+}
+
+/// What the reveal of the first turn that isn't resolved shows, if it opens the commitment held and isn't legal.
+///
+/// The walk may not have come to the reveal, since commitments of later turns have lower places: it is judged all the same.
+pub(crate) fn illegal_reveal(
+    session: &Session,
+    walker: &mut Walker,
+    player: PlayerId,
+    slots: &[Option<Received>],
+    reach: &Reach,
+) -> Option<Clash>
+    requires player { player < players_of session.now }
+    requires slots { AreSlots player slots.now reach.now.commits reach.now.resolved }
+    requires reach { W.IsReach session.now player slots.now reach.now }
+    ensures { result ≡ W.illegal_at session.now slots.now reach.now }
+{
+    session.facts();
+    match turn_step(session, walker, player, slots, reach) {
+        Step::Committed => None,
+        Step::Resolved(_) => None,
+        Step::Halt => None,
+        Step::Illegal(clash) => Some(clash),
     }
 }

@@ -12,10 +12,10 @@ ghost use Rattle.peer_window.specs.Clashes.{first_clash};
 ghost use Rattle.peer_window.specs.Windows.{IsWindow, IsHeld, answer, frames_after, new_answer};
 ghost use Rattle.peer_window.specs.Windows as W;
 
-use crate::clashes::{opening_clash, rival_clash};
+use crate::clashes::{lower_clash, opening_clash, rival_clash};
 use crate::received::{Clash, Offer, Received};
 use crate::slots::{commitment_slot, other_slot, reveal_slot, slot, slot_of};
-use crate::walk::{Reach, walk};
+use crate::walk::{Reach, illegal_reveal, walk};
 use definitions::{Digest, FramePlace, Move, Place, PlayerId, Track, Turn, TurnFrame};
 use grid_world::Session;
 use move_rules::{Walker, start_track};
@@ -121,10 +121,11 @@ fn hold(
     let other = slot(slots, other_slot(&received.frame));
     let at = slot_of(&received.frame);
     slots[at as usize] = Some(*received);
-    let walked = walk(session, walker, player, slots, from);
-    let clash = opening_clash(session, &other, received).or(walked.illegal);
+    let reach = walk(session, walker, player, slots, from);
+    let illegal = illegal_reveal(session, walker, player, slots, &reach);
+    let clash = lower_clash(opening_clash(session, &other, received), illegal);
     Held {
-        reach: walked.reach,
+        reach,
         offer: answer_of(clash, was_next),
     }
 }
@@ -160,10 +161,12 @@ impl Window {
     ///
     /// The answers are tried in this order. Far: its place is more than eight past the next one, or past the last turn. Same:
     /// an equal frame came before. Neither changes anything. Conflict: the frames that came show with this one that the
-    /// player broke the protocol; the first of what they show is named, by turn, kind and entries. Taken: it was the next
-    /// one, and the frames that were stashed behind it are taken with it. Stashed: it waits for the frames before it. The call
-    /// takes no memory, and looks at the frames of its own turn and at those that follow the next place. Entry numbers rise from
-    /// call to call, and after a conflict the window is closed: it shows what it knows, and no frame is offered any more.
+    /// player broke the protocol; the first of what they show is named, by turn, kind and entries. A move is judged as soon as the
+    /// turns before it are resolved and its commitment is held, though commitments of later turns at lower places may be missing.
+    /// Taken: it was the next one, and the frames that were stashed behind it are taken with it. Stashed: it waits for the frames
+    /// before it. The call takes no memory, and looks at the frames of its own turn, at those that follow the next place, and at
+    /// those of the first turn that isn't resolved. Entry numbers rise from call to call, and after a conflict the window is
+    /// closed: it shows what it knows, and no frame is offered any more.
     pub fn offer(
         &mut self,
         session: &Session,

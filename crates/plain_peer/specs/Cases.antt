@@ -1,5 +1,5 @@
 -- Cases: a turn of a player, and what two frames show of it by what is known of the turns before.
-use Rattle.std.specs.Prelude.{◌≡◌, ℕ, Bool, false, not, ◌&&◌, ◌||◌, List, [], ◌∷◌, Option, Some, None, ◌==◌, if◌then◌else◌, option_map, find, IsTrue}
+use Rattle.std.specs.Prelude.{◌≡◌, ℕ, Bool, false, not, ◌&&◌, ◌||◌, List, [], ◌∷◌, Option, Some, None, length, slice_get, ◌==◌, if◌then◌else◌, option_map, find, IsTrue}
 use Rattle.definitions.specs.declared.world.Track.{Track}
 use Rattle.definitions.specs.declared.frames.TurnFrame.{TurnFrame}
 use Rattle.definitions.specs.declared.frames.TurnFrame.TheVariants.{Commit, Reveal}
@@ -9,9 +9,9 @@ use Rattle.definitions.specs.declared.findings.Kind.TheVariants.{TwoCommits, Bad
 use Rattle.definitions.specs.declared.findings.Spot.{Spot}
 use Rattle.definitions.specs.World.{Game, is_open}
 use Rattle.definitions.specs.Moves.{is_legal}
+use Rattle.definitions.specs.Held.{Known}
 use Rattle.definitions.specs.Findings.{Sighting, sightings_from, is_commit, are_two_commits, are_bad_opening, are_collision, opens, is_illegal_at, got_known}
 use Rattle.definitions.specs.declared.openings.Digest.{Digest}
-use Rattle.streams.specs.declared.stream.Stream.{Stream}
 use Rattle.plain_peer.specs.declared.sights.Seen.{Seen}
 use Rattle.plain_peer.specs.declared.cases.Case.{Case}
 
@@ -24,9 +24,9 @@ abbrev pub commit_entry : List Sighting → Option ℕ
 commit_entry [] = None
 commit_entry (s ∷ ss) = if is_commit s.frame then Some s.spot.entry else commit_entry ss
 
--- the digest due for the turn, if it is the one behind those that are resolved
-abbrev pub due_for : Stream → ℕ → Option Digest
-due_for s t = if s.resolved == t then s.due else None
+-- the digest due for the turn, if it is the one behind those that are resolved and its commitment is held
+abbrev pub due_for : Known → ℕ → Option Digest
+due_for k t = if length k.moves == t then slice_get k.digests t else None
 
 -- the number is this one
 abbrev pub is_entry : Option ℕ → ℕ → Bool

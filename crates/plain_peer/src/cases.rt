@@ -1,9 +1,9 @@
 //! A player's turn, and what two frames show of it.
 
-ghost use Rattle.std.specs.Prelude.{◌≡◌, ◌<◌, ◌+◌, ◌*◌, ◌||◌, IsTrue};
+ghost use Rattle.std.specs.Prelude.{◌≡◌, ◌≢◌, ◌<◌, ◌||◌, IsTrue};
 ghost use Rattle.definitions.specs.World.{players_of, is_open};
 ghost use Rattle.definitions.specs.Places.{reveal_place};
-ghost use Rattle.definitions.specs.Logs.{got_of};
+ghost use Rattle.definitions.specs.Logs.{frames_of};
 ghost use Rattle.definitions.specs.Held.{known_to};
 ghost use Rattle.definitions.specs.Findings as D;
 ghost use Rattle.streams.specs.Streams.{stream_of};
@@ -14,10 +14,10 @@ use definitions::{Digest, Entry, Kind, PlayerId, Track, Turn, TurnFrame};
 use grid_world::Session;
 use move_rules::Walker;
 use reveal_check::{frame_digest, same_digest};
-use streams::Stream;
+use streams::{Stream, held};
 
 /// What two frames of a player's turn are judged by: the entry of the turn's first commitment, the digest that the turn's
-/// reveal has to open, if the turns before are resolved, and the track after them.
+/// reveal has to open, if the turns before are resolved and the commitment is held, and the track after them.
 #[derive(Clone, Copy)]
 pub(crate) struct Case {
     pub player: PlayerId,
@@ -27,28 +27,39 @@ pub(crate) struct Case {
     pub track: Track,
 }
 
-/// The digest that the turn's reveal has to open, if the turns before are resolved and the turn isn't.
-fn due_for(stream: &Stream, turn: Turn) -> Option<Digest>
-    ensures { result ≡ C.due_for stream.now turn }
+/// The digest that the turn's reveal has to open, by what is known of the stream up to the turn's reveal: where the turns
+/// before are resolved and the turn's commitment is held.
+fn due_for(
+    session: &Session,
+    me: PlayerId,
+    entries: &[Entry],
+    q: PlayerId,
+    turn: Turn,
+    stream: &Stream,
+) -> Option<Digest>
+    requires { stream.now ≡ stream_of session.now q (known_to session.now q (frames_of me q entries.now) (reveal_place session.now turn)) }
+    ensures { result ≡ C.due_for (known_to session.now q (frames_of me q entries.now) (reveal_place session.now turn)) turn }
 {
     if stream.resolved == turn {
-        stream.due
+        held(session, me, entries, q, stream, turn)
     } else {
         None
     }
 }
 
-/// The case of a player's turn, by what is known of the player's stream up to the turn's commitment.
+/// The case of a player's turn, by what is known of the player's stream up to the turn's reveal.
 pub(crate) fn case_of(
     session: &Session,
+    me: PlayerId,
     entries: &[Entry],
     q: PlayerId,
     turn: Turn,
     stream: &Stream,
 ) -> Case
     requires player { q < players_of session.now }
+    requires other { q ≢ me }
     requires turn { turn < session.now.turns }
-    requires stream { stream.now ≡ stream_of session.now q (known_to session.now q (got_of q entries.now) (reveal_place session.now turn)) }
+    requires stream { stream.now ≡ stream_of session.now q (known_to session.now q (frames_of me q entries.now) (reveal_place session.now turn)) }
     ensures case { C.IsCase session.now entries.now result }
     ensures player { result.player ≡ q }
     ensures turn { result.turn ≡ turn }
@@ -58,7 +69,7 @@ pub(crate) fn case_of(
         player: q,
         turn,
         commitment: first_commitment(entries, q, turn),
-        due: due_for(stream, turn),
+        due: due_for(session, me, entries, q, turn, stream),
         track: stream.track,
     }
 }

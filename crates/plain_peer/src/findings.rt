@@ -3,20 +3,17 @@
 ghost use Rattle.std.specs.Prelude.{◌≡◌, ◌≢◌, ◌<◌, ◌+◌, ◌*◌, ◌^◌, [], ◌∷◌, length, drop, find, is_none, option_map, IsTrue};
 ghost use Rattle.std.specs.List.{list_any};
 ghost use Rattle.definitions.specs.World.{players_of, is_open};
-ghost use Rattle.definitions.specs.Places.{commit_place, reveal_place};
-ghost use Rattle.definitions.specs.Logs.{frames_of};
-ghost use Rattle.definitions.specs.Held.{known_to};
 ghost use Rattle.definitions.specs.Findings as D;
-ghost use Rattle.streams.specs.Streams.{stream_of};
 ghost use Rattle.plain_peer.specs.Cases as C;
 ghost use Rattle.definition_laws.specs.First as F;
 
 use crate::cases::{Case, case_of, shows};
+use crate::reading::read_on;
 use crate::sights::{Seen, seen_in, turns_seen};
-use definitions::{Entry, Finding, Kind, PlayerId, Spot, Turn};
+use definitions::{Entry, Finding, Kind, PlayerId, Spot};
 use grid_world::Session;
 use move_rules::Walker;
-use streams::{Stream, further, start_stream};
+use streams::start_stream;
 
 /// The kinds in the order in which findings are listed.
 const KINDS: [Kind; 4] = [
@@ -145,31 +142,6 @@ fn finding_of_case(
     None
 }
 
-/// The first finding of a player's turn; the stream goes on from what is known before the turn to what is known after it.
-fn finding_of_turn(
-    session: &Session,
-    walker: &mut Walker,
-    me: PlayerId,
-    entries: &[Entry],
-    q: PlayerId,
-    turn: Turn,
-    stream: &mut Stream,
-) -> Option<Finding>
-    requires player { q < players_of session.now }
-    requires other { q ≢ me }
-    requires few { length entries.now < 2 ^ 32 }
-    requires turn { turn < session.now.turns }
-    requires stream { stream.old ≡ stream_of session.now q (known_to session.now q (frames_of me q entries.now) (commit_place session.now turn)) }
-    ensures finding { result ≡ F.finding_of_turn session.now entries.now q turn }
-    ensures stream { stream.new ≡ stream_of session.now q (known_to session.now q (frames_of me q entries.now) (reveal_place session.now turn + 1)) }
-{
-    session.facts();
-    let committed = further(session, walker, me, entries, q, stream);
-    let case = case_of(session, entries, q, turn, &committed);
-    *stream = further(session, walker, me, entries, q, &committed);
-    finding_of_case(session, walker, entries, &case)
-}
-
 /// The first finding of a log that got a frame from the player last and had no finding before.
 pub fn first_finding(
     session: &Session,
@@ -188,8 +160,13 @@ pub fn first_finding(
     session.facts();
     let turns = u64::from(session.turns()).min(turns_seen(entries, q)) as u32;
     let mut stream = start_stream(session, q);
+    let mut read = 0;
     for turn in 0..turns {
-        let found = finding_of_turn(session, walker, me, entries, q, turn, &mut stream);
+        let place = session.reveal_place(turn);
+        read_on(session, walker, me, entries, q, &mut stream, read, place);
+        read = place;
+        let case = case_of(session, me, entries, q, turn, &stream);
+        let found = finding_of_case(session, walker, entries, &case);
         if found.is_some() {
             return found;
         }

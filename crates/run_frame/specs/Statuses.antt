@@ -1,7 +1,7 @@
 -- The number of a status, and the line by which it is told.
 use Rattle.std.specs.Prelude.{ℕ, List, [], ◌++◌, codes, decimal}
 use Rattle.definitions.specs.declared.sessions.SessionRule.{SessionRule}
-use Rattle.definitions.specs.declared.sessions.SessionRule.TheVariants.{S1, S2, S3, S4, S5, S6, S7, S8, S9}
+use Rattle.definitions.specs.declared.sessions.SessionRule.TheVariants.{S1, S2, S3, S4, S5, S6, S7, S8, S9, S10, S11, S12}
 use Rattle.definitions.specs.declared.logs.LogWhy.{LogWhy}
 use Rattle.definitions.specs.declared.logs.LogWhy.TheVariants.{TooLong, Torn, BadChain, BadEntry, NotReplayed}
 use Rattle.run_frame.specs.declared.statuses.TextName.{TextName}
@@ -36,6 +36,9 @@ rule_name S6 = codes "S6"
 rule_name S7 = codes "S7"
 rule_name S8 = codes "S8"
 rule_name S9 = codes "S9"
+rule_name S10 = codes "S10"
+rule_name S11 = codes "S11"
+rule_name S12 = codes "S12"
 
 -- the word for what is wrong with a log
 abbrev pub why_word : LogWhy → List ℕ

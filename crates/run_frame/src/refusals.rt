@@ -31,6 +31,9 @@ fn name_of_rule(rule: SessionRule) -> &'static [u8]
         SessionRule::S7 => b"S7",
         SessionRule::S8 => b"S8",
         SessionRule::S9 => b"S9",
+        SessionRule::S10 => b"S10",
+        SessionRule::S11 => b"S11",
+        SessionRule::S12 => b"S12",
     }
 }
 

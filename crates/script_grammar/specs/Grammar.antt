@@ -1,5 +1,6 @@
 -- Grammar: what a line of a script says.
 use Rattle.std.specs.Prelude.{ℕ, ◌≤◌, Bool, true, false, List, [], ◌∷◌, length, Option, Some, None, bytes_eq, ◌==◌, codes, if◌then◌else◌}
+use Rattle.definitions.specs.declared.limits.TheConstants.{GREATEST_PLAYER, LONGEST_PIECE}
 use Rattle.byte_fields.specs.Fronts.{◌>>=◌, behind}
 use Rattle.text_fields.specs.Numbers.{number_then}
 use Rattle.text_fields.specs.Cells.{cell_then}
@@ -25,14 +26,14 @@ strike_of text = do
 -- `Q FRAME`
 unfoldable pub got_of : List ℕ → Option DriveLine
 got_of text = do
-  from ← number_then 255 text
+  from ← number_then GREATEST_PLAYER text
   frame ← frame_of from.1
   Some (Got from.0 frame)
 
--- `Q HEX`
-unfoldable pub piece_of : List ℕ → Option DriveLine
-piece_of text = do
-  from ← number_then 15 text
+-- `Q HEX`, with Q up to the last player
+unfoldable pub piece_of : (last : ℕ) → List ℕ → Option DriveLine
+piece_of last text = do
+  from ← number_then last text
   bytes ← bytes_of from.1
   Some (Bytes from.0 bytes)
 
@@ -55,34 +56,34 @@ unfoldable pub frame_from : List ℕ → Option DriveLine
 frame_from line = behind (codes "got ") line >>= got_of
 
 -- `bytes Q HEX`
-unfoldable pub bytes_from : List ℕ → Option DriveLine
-bytes_from line = behind (codes "bytes ") line >>= piece_of
+unfoldable pub bytes_from : (last : ℕ) → List ℕ → Option DriveLine
+bytes_from last line = behind (codes "bytes ") line >>= piece_of last
 
 -- a frame or bytes that come from a player
-unfoldable pub coming_of : List ℕ → Option DriveLine
-coming_of line = or_else (frame_from line) (bytes_from line)
+unfoldable pub coming_of : (last : ℕ) → List ℕ → Option DriveLine
+coming_of last line = or_else (frame_from line) (bytes_from last line)
 
 -- `log`, a choice, or what comes from a player
-unfoldable pub word_line : List ℕ → Option DriveLine
-word_line line = if bytes_eq line (codes "log") then Some Log else or_else (choose_of line) (coming_of line)
+unfoldable pub word_line : (last : ℕ) → List ℕ → Option DriveLine
+word_line last line = if bytes_eq line (codes "log") then Some Log else or_else (choose_of line) (coming_of last line)
 
 -- it is empty, or a comment
 abbrev pub is_passed_over : List ℕ → Bool
 is_passed_over [] = true
 is_passed_over (b ∷ line) = b == 35
 
--- what a line says
-unfoldable pub line_of : List ℕ → DriveLine
-line_of line = if is_passed_over line then Nothing else or_bad (word_line line)
+-- what a line says, where bytes may come from players up to the last one
+unfoldable pub line_of : (last : ℕ) → List ℕ → DriveLine
+line_of last line = if is_passed_over line then Nothing else or_bad (word_line last line)
 
--- bytes come from a player up to 15, and are at most 512
-abbrev pub IsFew : DriveLine → Type 0
-IsFew (Bytes q bytes) = (q ≤ 15) × (length bytes ≤ 512)
-IsFew Nothing = Unit {0}
-IsFew (Choose mv nonce) = Unit {0}
-IsFew (Got q f) = Unit {0}
-IsFew Log = Unit {0}
-IsFew Bad = Unit {0}
+-- bytes come from a player up to the last one, and are at most so many
+abbrev pub IsFew : (last : ℕ) → DriveLine → Type 0
+IsFew last (Bytes q bytes) = (q ≤ last) × (length bytes ≤ LONGEST_PIECE)
+IsFew last Nothing = Unit {0}
+IsFew last (Choose mv nonce) = Unit {0}
+IsFew last (Got q f) = Unit {0}
+IsFew last Log = Unit {0}
+IsFew last Bad = Unit {0}
 
 -- the line is in no grammar
 abbrev pub is_bad : DriveLine → Bool

@@ -1,6 +1,7 @@
 -- Spelling: the text of each line of a script, from the parts that the line says.
 use Rattle.std.specs.Prelude.{ℕ, ◌≡◌, ◌≤◌, ◌<◌, ◌⊎◌, List, [], ◌++◌, Option, Some, None, length, codes}
 use Rattle.hex.specs.Hex.{IsBytes, encode_lower}
+use Rattle.definitions.specs.declared.limits.TheConstants.{GREATEST_PLAYER}
 use Rattle.definitions.specs.declared.world.Cell.{Cell}
 use Rattle.definitions.specs.declared.world.Move.{Move}
 use Rattle.definitions.specs.declared.openings.Nonce.{Nonce}
@@ -32,11 +33,12 @@ bytes_text q bytes = codes "bytes " ++ (number_text q ++ encode_lower bytes)
 abbrev pub IsPassedOver : List ℕ → Type 0
 IsPassedOver line = (line ≡ []) ⊎ ((comment : List ℕ) × (line ≡ codes "#" ++ comment))
 
--- what a line says: the parts fit their limits, and the line is spelled from them. No line says `Bad`
-abbrev pub Says : List ℕ → DriveLine → Type 0
-Says line Nothing = IsPassedOver line
-Says line (Choose mv nonce) = FitsCell mv.to × FitsStrike mv.strike × FitsNonce nonce × (line ≡ choose_text mv nonce)
-Says line (Got q frame) = (q ≤ 255) × FitsFrame frame × IsBytes (frame_bytes frame) × (line ≡ got_text q frame)
-Says line (Bytes q bytes) = (q ≤ 15) × (0 < length bytes) × IsBytes bytes × (line ≡ bytes_text q bytes)
-Says line Log = line ≡ codes "log"
-Says line Bad = ⊥
+-- what a line says: the parts fit their limits, and the line is spelled from them. Bytes may come from players up to the last one. No
+-- line says `Bad`
+abbrev pub Says : (last : ℕ) → List ℕ → DriveLine → Type 0
+Says last line Nothing = IsPassedOver line
+Says last line (Choose mv nonce) = FitsCell mv.to × FitsStrike mv.strike × FitsNonce nonce × (line ≡ choose_text mv nonce)
+Says last line (Got q frame) = (q ≤ GREATEST_PLAYER) × FitsFrame frame × IsBytes (frame_bytes frame) × (line ≡ got_text q frame)
+Says last line (Bytes q bytes) = (q ≤ last) × (0 < length bytes) × IsBytes bytes × (line ≡ bytes_text q bytes)
+Says last line Log = line ≡ codes "log"
+Says last line Bad = ⊥

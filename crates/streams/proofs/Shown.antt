@@ -1,26 +1,26 @@
--- Shown: what is known of a stream one place further, where players commit one turn ahead.
-use Rattle.std.proofs.Common.{◌≡◌, ℕ, zero, suc, ◌+◌, ◌-◌, ◌*◌, ◌≤◌, ◌<◌, List, [], ◌∷◌, ◌++◌, length, length-append, refl, true, sym, ◌∙◌, ap, subst, arith, inl, inr, ◌⊎◌, Option, Some, None}
+-- Shown: what is known of a stream one place further.
+use Rattle.std.proofs.Common.{◌≡◌, ℕ, zero, suc, ◌+◌, ◌-◌, ◌*◌, ◌≤◌, ◌<◌, List, [], ◌∷◌, length, length-append, refl, true, sym, ◌∙◌, ap, subst, arith, inl, inr, ◌⊎◌, Option, Some, None}
 use Rattle.std.specs.Prelude.{option_map, is_none, min, slice_get}
-use Rattle.std.proofs.lemmas.Bool.{and_parts, cases_lt}
-use Rattle.std.proofs.lemmas.Option.{slice_get_within}
-use Rattle.definitions.specs.declared.world.Move.{Move}
+use Rattle.std.proofs.lemmas.Bool.{cases_lt}
+use Rattle.std.proofs.lemmas.Option.{slice_get_past, slice_get_within}
 use Rattle.definitions.specs.declared.world.Track.{Track}
 use Rattle.definitions.specs.declared.openings.Digest.{Digest}
 use Rattle.definitions.specs.declared.frames.TurnFrame.{TurnFrame}
 use Rattle.definitions.specs.World.{Game, players_of, is_open}
-use Rattle.definitions.specs.Moves.{is_legal, next_track, start_track, track_from, track_after, are_legal_from}
+use Rattle.definitions.specs.Moves.{next_track, start_track, track_after}
 use Rattle.definitions.specs.declared.logs.Entry.{Entry}
 use Rattle.definitions.specs.Logs.{frames_of}
 use Rattle.definitions.specs.Lists.{first_of}
 use Rattle.definitions.specs.Held.{Known, known, known_to, next_known, first_commit, opened, places_in, with_commit, with_move}
-use Rattle.definition_laws.proofs.Listing.{none_past, slice_get_last}
+use Rattle.definition_laws.proofs.Headline.{known_to_sound}
+use Rattle.definition_laws.proofs.Listing.{none_past}
 use Rattle.definition_laws.proofs.Knowing.{known_to_orderly, known_to_stuck, next_place_or, places_or_stuck, next_commit, next_reveal, next_end}
 use Rattle.definition_laws.proofs.Tracks.{AreKnownLegal, known_to_legal, moves_open, track_from_append}
 use Rattle.grid_world.specs.Sessions.{IsSession}
 use Rattle.grid_world.proofs.Facts.{seat_open}
 use Rattle.streams.specs.declared.stream.Stream.{Stream}
 use Rattle.streams.specs.Frames.{opening_at}
-use Rattle.streams.specs.Streams.{stream_of, places_of, IsReadFrom, IsStream}
+use Rattle.streams.specs.Streams.{stream_of, places_of, IsCommitNext, IsReadFrom, IsStream}
 use Rattle.streams.proofs.Opened.{first_opening_at}
 
 -- where a player stands after the moves that are known of it is open
@@ -34,8 +34,7 @@ stream_facts game q n fs is lt =
     let o = known_to_orderly game q fs n in
     let within = o.within in
     let turns = o.turns in
-    let one = is.ahead in
-    let most = is.turns in
+    let most = is.turns.1 in
     record {
       before = before o.least;
       after = omega arith;
@@ -47,61 +46,14 @@ stream_facts game q n fs is lt =
     before : (length (known_to game q fs n).moves ≡ 0) ⊎ (min (length (known_to game q fs n).moves + game.ahead) (game.turns + 1) ≤ length (known_to game q fs n).digests + 1) →
         length (known_to game q fs n).moves ≤ length (known_to game q fs n).digests
     before (inl e) = omega arith
-    before (inr e) = let one = is.ahead in let turns = (known_to_orderly game q fs n).turns in omega arith
+    before (inr e) = let one = is.ahead.0 in let turns = (known_to_orderly game q fs n).turns in omega arith
 
--- no digest is due: the next place is that of a commitment, if any
-pub next_without : (game : Game) (q : ℕ) (fs : List TurnFrame) (k : Known) → IsStream game (stream_of game q k) → game.ahead ≡ 1 → slice_get k.digests (length k.moves) ≡ None →
-    length k.digests < game.turns → next_known game q fs k ≡ with_commit k (first_commit fs (length k.digests))
-next_without game q fs k s one none lt =
-    let past = none_past k.digests (length k.moves) (ap is_none none) in
-    let before = s.before in
-    next_commit game q fs k (omega arith)
-
-pub next_after_all : (game : Game) (q : ℕ) (fs : List TurnFrame) (k : Known) → IsStream game (stream_of game q k) → game.ahead ≡ 1 → slice_get k.digests (length k.moves) ≡ None →
-    length k.digests ≡ game.turns → next_known game q fs k ≡ k
-next_after_all game q fs k s one none all =
-    let past = none_past k.digests (length k.moves) (ap is_none none) in
-    let before = s.before in
-    next_end game q fs k (omega arith) (omega arith)
-
--- a digest is due: the next place is that of the reveal which opens it
-pub next_due : (game : Game) (q : ℕ) (fs : List TurnFrame) (k : Known) (d : Digest) → IsStream game (stream_of game q k) → game.ahead ≡ 1 → slice_get k.digests (length k.moves) ≡ Some d →
-    next_known game q fs k ≡ with_move k (first_of (opening_at game q (track_after game q k.moves) d (length k.moves)) fs)
-next_due game q fs k d s one due =
-    let lt = slice_get_within k.digests (length k.moves) d due in
-    let within = s.within in
-    next_reveal game q fs k (omega arith) (omega arith)
-    ∙ ap (λ (o : Option Digest). with_move k (opened game q k.moves fs (length k.moves) o)) due
-    ∙ ap (with_move k) (sym (first_opening_at game q k.moves d fs (length k.moves)))
-
-stream_from : (s r : Stream) → s.commits ≡ r.commits → s.resolved ≡ r.resolved → s.track ≡ r.track → s.due ≡ r.due → s ≡ r
-stream_from s r a b c d =
-    let at_commits : ℕ → Stream = λ x. record { commits = x; resolved = s.resolved; track = s.track; due = s.due } in
-    let at_resolved : ℕ → Stream = λ x. record { commits = r.commits; resolved = x; track = s.track; due = s.due } in
-    let at_track : Track → Stream = λ x. record { commits = r.commits; resolved = r.resolved; track = x; due = s.due } in
-    let at_due : Option Digest → Stream = λ x. record { commits = r.commits; resolved = r.resolved; track = r.track; due = x } in
-    ap at_commits a ∙ ap at_resolved b ∙ ap at_track c ∙ ap at_due d
-
--- the stream with one commitment more, and with one move more
-stream_committed : (game : Game) (q : ℕ) (k : Known) (d : Digest) → IsStream game (stream_of game q k) → slice_get k.digests (length k.moves) ≡ None →
-    stream_of game q (with_commit k (Some d)) ≡ record { commits = length k.digests + 1; resolved = length k.moves; track = track_after game q k.moves; due = Some d }
-stream_committed game q k d s none =
-    let past = none_past k.digests (length k.moves) (ap is_none none) in
-    let before = s.before in
-    let same : length k.moves ≡ length k.digests = omega arith in
-    stream_from _ _ (length-append k.digests (d ∷ [])) refl refl (ap (slice_get (k.digests ++ d ∷ [])) same ∙ slice_get_last k.digests d)
-
-stream_revealed : (game : Game) (q : ℕ) (k : Known) (m : Move) (d : Digest) → IsStream game (stream_of game q k) → slice_get k.digests (length k.moves) ≡ Some d →
-    stream_of game q (with_move k (Some m)) ≡ record { commits = length k.digests; resolved = length k.moves + 1; track = next_track game (track_after game q k.moves) m; due = None }
-stream_revealed game q k m d s due =
-    let after = s.after in
-    let l : length (k.moves ++ m ∷ []) ≡ length k.moves + 1 = length-append k.moves (m ∷ []) in
-    stream_from _ _ refl l (track_from_append game (start_track game q) k.moves (m ∷ [])) (ap (slice_get k.digests) l ∙ past k.digests (length k.moves + 1) (omega arith))
-  where
-    past : (xs : List Digest) (i : ℕ) → length xs ≤ i → slice_get xs i ≡ None
-    past [] i h = refl
-    past (x ∷ xs) zero h = absurd (omega arith)
-    past (x ∷ xs) (suc i) h = past xs i (omega arith)
+stream_from : (s r : Stream) → s.commits ≡ r.commits → s.resolved ≡ r.resolved → s.track ≡ r.track → s ≡ r
+stream_from s r a b c =
+    let at_commits : ℕ → Stream = λ x. record { commits = x; resolved = s.resolved; track = s.track } in
+    let at_resolved : ℕ → Stream = λ x. record { commits = r.commits; resolved = x; track = s.track } in
+    let at_track : Track → Stream = λ x. record { commits = r.commits; resolved = r.resolved; track = x } in
+    ap at_commits a ∙ ap at_resolved b ∙ ap at_track c
 
 -- what holds of a stream that the frames show
 pub shown_facts : (game : Game) (q : ℕ) (fs : List TurnFrame) (s : Stream) → IsSession game → q < players_of game → IsReadFrom game q fs s → IsStream game s
@@ -110,13 +62,6 @@ shown_facts game q fs s is lt shown = subst (λ (r : Stream). IsStream game r) (
 -- what the frames show of the places of this stream
 abbrev known_by : Game → ℕ → List TurnFrame → Stream → Known
 known_by game q fs s = known_to game q fs (places_of s)
-
-known_facts : (game : Game) (q : ℕ) (fs : List TurnFrame) (s : Stream) → IsSession game → q < players_of game → IsStream game (stream_of game q (known_by game q fs s))
-known_facts game q fs s is lt = stream_facts game q (places_of s) fs is lt
-
-shown_due : (game : Game) (q : ℕ) (fs : List TurnFrame) (s : Stream) (o : Option Digest) → IsReadFrom game q fs s → s.due ≡ o →
-    slice_get (known_by game q fs s).digests (length (known_by game q fs s).moves) ≡ o
-shown_due game q fs s o shown e = sym (ap (λ (r : Stream). r.due) shown) ∙ e
 
 shown_commits : (game : Game) (q : ℕ) (fs : List TurnFrame) (s : Stream) → IsReadFrom game q fs s → s.commits ≡ length (known_by game q fs s).digests
 shown_commits game q fs s shown = ap (λ (r : Stream). r.commits) shown
@@ -134,48 +79,37 @@ shown_next game q fs s r l next place is =
     let later : suc (places_of s) ≡ places_of r = omega arith in
     is ∙ ap (stream_of game q) (sym next) ∙ ap (λ n. stream_of game q (known_to game q fs n)) later
 
--- nothing is due and all is committed
-pub still_end : (game : Game) (q : ℕ) (fs : List TurnFrame) (s : Stream) → IsSession game → q < players_of game → IsReadFrom game q fs s → s.due ≡ None → s.commits ≡ game.turns →
-    next_known game q fs (known_by game q fs s) ≡ known_by game q fs s
-still_end game q fs s is lt shown none all =
-    next_after_all game q fs (known_by game q fs s) (known_facts game q fs s is lt) is.ahead (shown_due game q fs s None shown none)
-    (sym (shown_commits game q fs s shown) ∙ all)
-
-next_commitment : (game : Game) (q : ℕ) (fs : List TurnFrame) (s : Stream) (o : Option Digest) → IsSession game → q < players_of game → IsReadFrom game q fs s → s.due ≡ None →
-    (s.commits ≡ game.turns → ⊥) → o ≡ first_commit fs s.commits → next_known game q fs (known_by game q fs s) ≡ with_commit (known_by game q fs s) o
-next_commitment game q fs s o is lt shown none some found =
-    let facts = shown_facts game q fs s is lt shown in
-    let within = facts.within in
-    let commits = shown_commits game q fs s shown in
-    next_without game q fs (known_by game q fs s) (known_facts game q fs s is lt) is.ahead (shown_due game q fs s None shown none) (below commits within)
-    ∙ ap (with_commit (known_by game q fs s)) (ap (first_commit fs) (sym commits) ∙ sym found)
+-- the digest held of a turn is that of its first commitment
+held_first : (game : Game) (q n t : ℕ) (fs : List TurnFrame) → t < length (known_to game q fs n).digests → first_commit fs t ≡ slice_get (known_to game q fs n).digests t
+held_first game q n t fs lt = go (slice_get (known_to game q fs n).digests t) refl
   where
-    below : s.commits ≡ length (known_by game q fs s).digests → s.commits ≤ game.turns → length (known_by game q fs s).digests < game.turns
-    below e h = elim (cases_lt s.commits game.turns) [
-      | inl a ↦ omega arith
-      | inr b ↦ let same : s.commits ≡ game.turns = omega arith in absurd (some same)
-    ]
+    go : (o : Option Digest) → slice_get (known_to game q fs n).digests t ≡ o → first_commit fs t ≡ slice_get (known_to game q fs n).digests t
+    go None e = let past = none_past (known_to game q fs n).digests t (ap is_none e) in absurd (omega arith)
+    go (Some d) e = (known_to_sound game q fs n).first t d e ∙ sym e
 
--- nothing is due, and the next commitment is not there
-pub still_commit : (game : Game) (q : ℕ) (fs : List TurnFrame) (s : Stream) → IsSession game → q < players_of game → IsReadFrom game q fs s → s.due ≡ None →
-    (s.commits ≡ game.turns → ⊥) → None ≡ first_commit fs s.commits → next_known game q fs (known_by game q fs s) ≡ known_by game q fs s
-still_commit game q fs s is lt shown none some found = next_commitment game q fs s None is lt shown none some found
+pub held_there : (game : Game) (q t : ℕ) (fs : List TurnFrame) (s : Stream) → IsReadFrom game q fs s → t < s.commits → first_commit fs t ≡ slice_get (known_by game q fs s).digests t
+held_there game q t fs s shown lt = let commits = shown_commits game q fs s shown in held_first game q (places_of s) t fs (omega arith)
 
--- nothing is due, and the next commitment is there
-pub there_commit : (game : Game) (q : ℕ) (fs : List TurnFrame) (s : Stream) (d : Digest) → IsSession game → q < players_of game → IsReadFrom game q fs s → s.due ≡ None →
-    (s.commits ≡ game.turns → ⊥) → Some d ≡ first_commit fs s.commits →
-    IsReadFrom game q fs (record { commits = s.commits + 1; resolved = s.resolved; track = s.track; due = Some d })
-there_commit game q fs s d is lt shown none some found =
-    shown_next game q fs s _ (with_commit (known_by game q fs s) (Some d)) (next_commitment game q fs s (Some d) is lt shown none some found) (omega arith)
-    (stream_from _ _ (ap (λ n. n + 1) (shown_commits game q fs s shown)) (shown_resolved game q fs s shown) (shown_track game q fs s shown) refl
-    ∙ sym (stream_committed game q (known_by game q fs s) d (known_facts game q fs s is lt) (shown_due game q fs s None shown none)))
+pub held_past : (game : Game) (q t : ℕ) (fs : List TurnFrame) (s : Stream) → IsReadFrom game q fs s → s.commits ≤ t → None ≡ slice_get (known_by game q fs s).digests t
+held_past game q t fs s shown le = let commits = shown_commits game q fs s shown in sym (slice_get_past (known_by game q fs s).digests t (omega arith))
 
-next_opening : (game : Game) (q : ℕ) (fs : List TurnFrame) (s : Stream) (d : Digest) → IsSession game → q < players_of game → IsReadFrom game q fs s → s.due ≡ Some d →
-    next_known game q fs (known_by game q fs s) ≡ with_move (known_by game q fs s) (first_of (opening_at game q s.track d s.resolved) fs)
-next_opening game q fs s d is lt shown due =
-    next_due game q fs (known_by game q fs s) d (known_facts game q fs s is lt) is.ahead (shown_due game q fs s (Some d) shown due)
-    ∙ ap (λ (t : Track). with_move (known_by game q fs s) (first_of (opening_at game q t d (length (known_by game q fs s).moves)) fs)) (sym (shown_track game q fs s shown))
-    ∙ ap (λ n. with_move (known_by game q fs s) (first_of (opening_at game q s.track d n) fs)) (sym (shown_resolved game q fs s shown))
+-- a commitment is next: it is not there, or it is
+next_commitment : (game : Game) (q : ℕ) (fs : List TurnFrame) (s : Stream) (o : Option Digest) → IsReadFrom game q fs s → IsCommitNext game s → o ≡ first_commit fs s.commits →
+    next_known game q fs (known_by game q fs s) ≡ with_commit (known_by game q fs s) o
+next_commitment game q fs s o shown next found =
+    let commits = shown_commits game q fs s shown in
+    let resolved = shown_resolved game q fs s shown in
+    next_commit game q fs (known_by game q fs s) (omega arith) ∙ ap (with_commit (known_by game q fs s)) (ap (first_commit fs) (sym commits) ∙ sym found)
+
+pub still_commit : (game : Game) (q : ℕ) (fs : List TurnFrame) (s : Stream) → IsReadFrom game q fs s → IsCommitNext game s → None ≡ first_commit fs s.commits →
+    next_known game q fs (known_by game q fs s) ≡ known_by game q fs s
+still_commit game q fs s shown next found = next_commitment game q fs s None shown next found
+
+pub there_commit : (game : Game) (q : ℕ) (fs : List TurnFrame) (s : Stream) (d : Digest) → IsReadFrom game q fs s → IsCommitNext game s → Some d ≡ first_commit fs s.commits →
+    IsReadFrom game q fs (record { commits = s.commits + 1; resolved = s.resolved; track = s.track })
+there_commit game q fs s d shown next found =
+    shown_next game q fs s _ (with_commit (known_by game q fs s) (Some d)) (next_commitment game q fs s (Some d) shown next found) (omega arith)
+    (stream_from _ _ (ap (λ n. n + 1) (shown_commits game q fs s shown) ∙ sym (length-append (known_by game q fs s).digests (d ∷ []))) (shown_resolved game q fs s shown) (shown_track game q fs s shown))
 
 map_none : {X Y : Type 0} (g : X → Y) (o : Option X) → None ≡ option_map g o → o ≡ None
 map_none g None h = refl
@@ -185,28 +119,64 @@ map_some : {X Y : Type 0} (g : X → Y) (o : Option X) (y : Y) → Some y ≡ op
 map_some g None y h = absurd (cc)
 map_some g (Some x) y h = (x, refl, cc)
 
--- a reveal is due and not there
-pub still_due : (game : Game) (q : ℕ) (fs : List TurnFrame) (s : Stream) (d : Digest) → IsSession game → q < players_of game → IsReadFrom game q fs s → s.due ≡ Some d →
-    None ≡ option_map (next_track game s.track) (first_of (opening_at game q s.track d s.resolved) fs) → next_known game q fs (known_by game q fs s) ≡ known_by game q fs s
-still_due game q fs s d is lt shown due found = next_opening game q fs s d is lt shown due ∙ ap (with_move (known_by game q fs s)) (map_none _ _ found)
+not_next : (game : Game) (s : Stream) → (IsCommitNext game s → ⊥) → min (s.resolved + game.ahead) game.turns ≤ s.commits
+not_next game s next = elim (cases_lt s.commits (min (s.resolved + game.ahead) game.turns)) [
+  | inl lt ↦ absurd (next lt)
+  | inr ge ↦ ge
+]
 
--- a reveal is due and there
-pub there_due : (game : Game) (q : ℕ) (fs : List TurnFrame) (s : Stream) (d : Digest) (t : Track) → IsSession game → q < players_of game → IsReadFrom game q fs s → s.due ≡ Some d →
-    Some t ≡ option_map (next_track game s.track) (first_of (opening_at game q s.track d s.resolved) fs) →
-    IsReadFrom game q fs (record { commits = s.commits; resolved = s.resolved + 1; track = t; due = None })
-there_due game q fs s d t is lt shown due found =
+-- a reveal is next: no commitment of its turn is held, as where all turns are resolved
+pub still_none : (game : Game) (q : ℕ) (fs : List TurnFrame) (s : Stream) → IsReadFrom game q fs s → (IsCommitNext game s → ⊥) → None ≡ slice_get (known_by game q fs s).digests s.resolved →
+    next_known game q fs (known_by game q fs s) ≡ known_by game q fs s
+still_none game q fs s shown next none =
+    let commits = shown_commits game q fs s shown in
+    let resolved = shown_resolved game q fs s shown in
+    let all = not_next game s next in
+    elim (cases_lt s.resolved game.turns) [
+      | inl lt ↦
+          next_reveal game q fs (known_by game q fs s) (omega arith) (omega arith)
+          ∙ ap (λ (o : Option Digest). with_move (known_by game q fs s) (opened game q (known_by game q fs s).moves fs (length (known_by game q fs s).moves) o))
+          (ap (slice_get (known_by game q fs s).digests) (sym resolved) ∙ sym none)
+      | inr end ↦ next_end game q fs (known_by game q fs s) (omega arith) (omega arith)
+    ]
+
+-- its turn's commitment is held
+next_opening : (game : Game) (q : ℕ) (fs : List TurnFrame) (s : Stream) (d : Digest) → IsSession game → q < players_of game → IsReadFrom game q fs s → (IsCommitNext game s → ⊥) →
+    Some d ≡ slice_get (known_by game q fs s).digests s.resolved → next_known game q fs (known_by game q fs s) ≡ with_move (known_by game q fs s) (first_of (opening_at game q s.track d s.resolved) fs)
+next_opening game q fs s d is lt shown next due =
+    let commits = shown_commits game q fs s shown in
+    let resolved = shown_resolved game q fs s shown in
+    let facts = shown_facts game q fs s is lt shown in
+    let within = facts.within in
+    let there = slice_get_within (known_by game q fs s).digests s.resolved d (sym due) in
+    let all = not_next game s next in
+    next_reveal game q fs (known_by game q fs s) (omega arith) (omega arith)
+    ∙ ap (λ (o : Option Digest). with_move (known_by game q fs s) (opened game q (known_by game q fs s).moves fs (length (known_by game q fs s).moves) o))
+    (ap (slice_get (known_by game q fs s).digests) (sym resolved) ∙ sym due)
+    ∙ ap (with_move (known_by game q fs s)) (sym (first_opening_at game q (known_by game q fs s).moves d fs (length (known_by game q fs s).moves)))
+    ∙ ap (λ (t : Track). with_move (known_by game q fs s) (first_of (opening_at game q t d (length (known_by game q fs s).moves)) fs)) (sym (shown_track game q fs s shown))
+    ∙ ap (λ n. with_move (known_by game q fs s) (first_of (opening_at game q s.track d n) fs)) (sym resolved)
+
+pub still_due : (game : Game) (q : ℕ) (fs : List TurnFrame) (s : Stream) (d : Digest) → IsSession game → q < players_of game → IsReadFrom game q fs s → (IsCommitNext game s → ⊥) →
+    Some d ≡ slice_get (known_by game q fs s).digests s.resolved → None ≡ option_map (next_track game s.track) (first_of (opening_at game q s.track d s.resolved) fs) →
+    next_known game q fs (known_by game q fs s) ≡ known_by game q fs s
+still_due game q fs s d is lt shown next due found = next_opening game q fs s d is lt shown next due ∙ ap (with_move (known_by game q fs s)) (map_none _ _ found)
+
+pub there_due : (game : Game) (q : ℕ) (fs : List TurnFrame) (s : Stream) (d : Digest) (t : Track) → IsSession game → q < players_of game → IsReadFrom game q fs s → (IsCommitNext game s → ⊥) →
+    Some d ≡ slice_get (known_by game q fs s).digests s.resolved → Some t ≡ option_map (next_track game s.track) (first_of (opening_at game q s.track d s.resolved) fs) →
+    IsReadFrom game q fs (record { commits = s.commits; resolved = s.resolved + 1; track = t })
+there_due game q fs s d t is lt shown next due found =
     let m = map_some (next_track game s.track) (first_of (opening_at game q s.track d s.resolved) fs) t found in
     shown_next game q fs s _ (with_move (known_by game q fs s) (Some m.0))
-    (next_opening game q fs s d is lt shown due ∙ ap (with_move (known_by game q fs s)) m.1) (omega arith)
-    (stream_from _ _ (shown_commits game q fs s shown) (ap (λ n. n + 1) (shown_resolved game q fs s shown))
-    (m.2 ∙ ap (λ (u : Track). next_track game u m.0) (shown_track game q fs s shown)) refl
-    ∙ sym (stream_revealed game q (known_by game q fs s) m.0 d (known_facts game q fs s is lt) (shown_due game q fs s (Some d) shown due)))
+    (next_opening game q fs s d is lt shown next due ∙ ap (with_move (known_by game q fs s)) m.1) (omega arith)
+    (stream_from _ _ (shown_commits game q fs s shown) (ap (λ n. n + 1) (shown_resolved game q fs s shown) ∙ sym (length-append (known_by game q fs s).moves (m.0 ∷ [])))
+    (m.2 ∙ ap (λ (u : Track). next_track game u m.0) (shown_track game q fs s shown) ∙ sym (track_from_append game (start_track game q) (known_by game q fs s).moves (m.0 ∷ []))))
 
 -- of no place nothing is known
 pub stream_none : (game : Game) (q : ℕ) (fs : List TurnFrame) (t : Track) → t ≡ start_track game q →
-    record { commits = 0; resolved = 0; track = t; due = None } ≡ stream_of game q (known_to game q fs 0)
+    record { commits = 0; resolved = 0; track = t } ≡ stream_of game q (known_to game q fs 0)
 unfolding known_to
-stream_none game q fs t e = stream_from _ _ refl refl e refl
+stream_none game q fs t e = stream_from _ _ refl refl e
 
 -- what is known of some places is what is known of as many as are there
 known_to_there : (game : Game) (q : ℕ) (fs : List TurnFrame) (n : ℕ) → known_to game q fs n ≡ known_to game q fs (places_in (known_to game q fs n))
@@ -227,12 +197,16 @@ pub read_from : (game : Game) (q n : ℕ) (fs : List TurnFrame) (s : Stream) →
 read_from game q n fs s e =
     e ∙ ap (stream_of game q) (known_to_there game q fs n) ∙ ap (λ (r : Stream). stream_of game q (known_to game q fs (places_of r))) (sym e)
 
+-- what the frames show of the places of a stream is what it stands for
+pub read_known : (game : Game) (q n : ℕ) (fs : List TurnFrame) (s : Stream) → s ≡ stream_of game q (known_to game q fs n) → known_to game q fs (places_of s) ≡ known_to game q fs n
+read_known game q n fs s e = ap (λ (x : Stream). known_to game q fs (places_of x)) e ∙ sym (known_to_there game q fs n)
+
 -- with one place more than are known
 pub read_next : (game : Game) (q n : ℕ) (fs : List TurnFrame) (s r : Stream) → s ≡ stream_of game q (known_to game q fs n) →
     r ≡ stream_of game q (next_known game q fs (known_to game q fs (places_of s))) → r ≡ stream_of game q (known_to game q fs (n + 1))
 unfolding known_to
 read_next game q n fs s r e f =
-    let same : known_to game q fs (places_of s) ≡ known_to game q fs n = ap (λ (x : Stream). known_to game q fs (places_of x)) e ∙ sym (known_to_there game q fs n) in
+    let same = read_known game q n fs s e in
     let later : suc n ≡ n + 1 = omega arith in
     f ∙ ap (λ (k : Known). stream_of game q (next_known game q fs k)) same ∙ ap (λ m. stream_of game q (known_to game q fs m)) later
 

@@ -1,28 +1,47 @@
 //! What a log shows of a player's stream.
 
-ghost use Rattle.std.specs.Prelude.{◌≡◌, ◌<◌, ◌+◌, ◌*◌, List, Some, None, IsTrue};
+ghost use Rattle.std.specs.Prelude.{◌≡◌, ◌<◌, ◌+◌, ◌*◌, List, IsTrue, slice_get};
 ghost use Rattle.definitions.specs.World.{players_of, is_inside};
 ghost use Rattle.definitions.specs.declared.frames.TurnFrame.{TurnFrame};
 ghost use Rattle.definitions.specs.Logs.{frames_of};
 ghost use Rattle.definitions.specs.Held.{known, known_to, next_known};
-ghost use Rattle.streams.specs.Streams.{stream_of, places_of, IsReadFrom, IsNext, IsStream};
+ghost use Rattle.streams.specs.Streams.{stream_of, places_of, IsReadFrom, IsCommitNext, IsNext, IsStream};
 
 use crate::frames::{first_commit, first_opening};
-use definitions::{Digest, Entry, PlayerId, Track};
+use definitions::{Digest, Entry, PlayerId, Track, Turn};
 use grid_world::Session;
 use move_rules::{Walker, start_track};
 
-/// What a log shows of a player's stream: how many commitments are held, how many turns are resolved, the track after
-/// these, and the digest held that the reveal of the next turn has to open.
+/// What a log shows of a player's stream: how many commitments are held, how many turns are resolved, and the track after
+/// these. The commitments are those of the first turns; they go at most as many turns past those resolved as players commit
+/// ahead.
 #[derive(Clone, Copy, Debug, PartialEq, Eq)]
 pub struct Stream {
     pub commits: u32,
     pub resolved: u32,
     pub track: Track,
-    pub due: Option<Digest>,
 }
 
-/// The stream with the next turn's commitment; none where that isn't there or all turns are committed.
+/// The digest of the commitment that the stream has for a turn; None where it has none.
+pub fn held(
+    session: &Session,
+    me: PlayerId,
+    entries: &[Entry],
+    q: PlayerId,
+    stream: &Stream,
+    turn: Turn,
+) -> Option<Digest>
+    requires { IsReadFrom session.now q (frames_of me q entries.now) stream.now }
+    ensures { result ≡ slice_get (known_to session.now q (frames_of me q entries.now) (places_of stream.now)).digests turn }
+{
+    if turn < stream.commits {
+        first_commit(entries, me, q, turn)
+    } else {
+        None
+    }
+}
+
+/// The stream with the next commitment; none where that isn't there.
 fn with_commitment(
     session: &Session,
     me: PlayerId,
@@ -32,25 +51,22 @@ fn with_commitment(
 ) -> Option<Stream>
     requires player { q < players_of session.now }
     requires stream { IsReadFrom session.now q (frames_of me q entries.now) stream.now }
-    requires due { stream.now.due ≡ None }
+    requires next { IsCommitNext session.now stream.now }
     ensures { IsNext session.now q (frames_of me q entries.now) stream.now result }
 {
     session.facts();
-    if stream.commits == session.turns() {
-        return None;
+    match first_commit(entries, me, q, stream.commits) {
+        None => None,
+        Some(_) => Some(Stream {
+            commits: stream.commits + 1,
+            resolved: stream.resolved,
+            track: stream.track,
+        }),
     }
-    let Some(digest) = first_commit(entries, me, q, stream.commits) else {
-        return None;
-    };
-    Some(Stream {
-        commits: stream.commits + 1,
-        resolved: stream.resolved,
-        track: stream.track,
-        due: Some(digest),
-    })
 }
 
-/// The stream with the reveal that opens the digest due; none where that isn't there.
+/// The stream with the next reveal, which opens the commitment held of its turn; none where that isn't there, or where all
+/// turns are resolved.
 fn with_reveal(
     session: &Session,
     walker: &mut Walker,
@@ -58,14 +74,17 @@ fn with_reveal(
     entries: &[Entry],
     q: PlayerId,
     stream: &Stream,
-    digest: &Digest,
 ) -> Option<Stream>
     requires player { q < players_of session.now }
     requires stream { IsReadFrom session.now q (frames_of me q entries.now) stream.now }
-    requires due { stream.now.due ≡ Some digest.now }
+    requires next { IsCommitNext session.now stream.now → ⊥ }
     ensures { IsNext session.now q (frames_of me q entries.now) stream.now result }
 {
     session.facts();
+    let turn = stream.resolved;
+    let Some(digest) = held(session, me, entries, q, stream, turn) else {
+        return None;
+    };
     let Some(track) = first_opening(
         session,
         walker,
@@ -73,16 +92,15 @@ fn with_reveal(
         entries,
         q,
         &stream.track,
-        digest,
-        stream.resolved,
+        &digest,
+        turn,
     ) else {
         return None;
     };
     Some(Stream {
         commits: stream.commits,
-        resolved: stream.resolved + 1,
+        resolved: turn + 1,
         track,
-        due: None,
     })
 }
 
@@ -99,9 +117,11 @@ fn next_stream(
     requires stream { IsReadFrom session.now q (frames_of me q entries.now) stream.now }
     ensures { IsNext session.now q (frames_of me q entries.now) stream.now result }
 {
-    match &stream.due {
-        None => with_commitment(session, me, entries, q, stream),
-        Some(digest) => with_reveal(session, walker, me, entries, q, stream, digest),
+    session.facts();
+    if stream.commits < (stream.resolved + session.ahead()).min(session.turns()) {
+        with_commitment(session, me, entries, q, stream)
+    } else {
+        with_reveal(session, walker, me, entries, q, stream)
     }
 }
 
@@ -133,7 +153,6 @@ pub fn start_stream(session: &Session, q: PlayerId) -> Stream
         commits: 0,
         resolved: 0,
         track: start_track(session, q),
-        due: None,
     }
 }
 

@@ -6,6 +6,7 @@ ghost use Rattle.text_fields.specs.Hexes as H;
 
 use crate::pieces::Piece;
 use commitment::whole_turn;
+use definitions::limits::{LONGEST_LINE, LONGEST_PIECE};
 use definitions::{Nonce, TurnFrame};
 use hex::decode_to_slice;
 
@@ -40,13 +41,13 @@ pub fn read_nonce(text: &[u8]) -> Option<Nonce>
 /// The commitment or reveal whose whole spelling the lower-case digits are. None comes exactly where the text is no such
 /// digits.
 pub fn read_frame(text: &[u8]) -> Option<TurnFrame>
-    requires { length text.now ≤ 1024 }
+    requires { length text.now ≤ LONGEST_LINE }
     ensures { result ≡ H.frame_of text.now }
 {
     if !is_lower(text) {
         return None;
     }
-    let mut buffer = [0; 512];
+    let mut buffer = [0; LONGEST_PIECE];
     let bytes = &mut buffer[..text.len() / 2];
     match decode_to_slice(text, bytes) {
         Ok(()) => whole_turn(bytes),
@@ -56,15 +57,15 @@ pub fn read_frame(text: &[u8]) -> Option<TurnFrame>
 
 /// The bytes that the lower-case digits spell, one at least. None comes exactly where the text is no such digits.
 pub fn read_piece(text: &[u8]) -> Option<Piece>
-    requires { length text.now ≤ 1024 }
+    requires { length text.now ≤ LONGEST_LINE }
     ensures value { result ≡ H.bytes_of text.now }
-    ensures few { IfSome result (λ p. length p ≤ 512) }
+    ensures few { IfSome result (λ p. length p ≤ LONGEST_PIECE) }
 {
     if text.is_empty() || !is_lower(text) {
         return None;
     }
     let len = text.len() / 2;
-    let mut buffer = [0; 512];
+    let mut buffer = [0; LONGEST_PIECE];
     match decode_to_slice(text, &mut buffer[..len]) {
         Ok(()) => Some(Piece::of(buffer, len)),
         Err(_) => None,

@@ -10,6 +10,7 @@ use Rattle.definitions.specs.World.{Game, players_of, no_seat}
 use Rattle.definitions.specs.Moves.{track_after}
 use Rattle.definitions.specs.Held.{known}
 use Rattle.dilation.specs.Dilated.{cell_of, starts_of}
+use Rattle.dilation.proofs.Items.{item_set, item_set_other}
 use Rattle.definition_laws.specs.Distances.{last_cell}
 use Rattle.wait_rule.specs.Shown.{AreLastCells}
 
@@ -23,18 +24,6 @@ pub last_cells_start : (game : Game) (me : ℕ) (h : List Entry) → ((q : ℕ) 
 last_cells_start game me h none q lt other =
     item_map (λ s. s.start) game.seats q no_seat ∙ ap (λ (ms : List Move). (track_after game q ms).at) (sym (none q other))
 
-item_set_same : {X : Type 0} (xs : List X) (i : ℕ) (x d : X) → i < length xs → item_or (slice_set xs i x) i d ≡ x
-item_set_same [] i x d lt = absurd (omega arith)
-item_set_same (y ∷ ys) zero x d lt = refl
-item_set_same (y ∷ ys) (suc i) x d lt = item_set_same ys i x d (omega arith)
-
-item_set_other : {X : Type 0} (xs : List X) (i j : ℕ) (x d : X) → (j ≡ i → ⊥) → item_or (slice_set xs i x) j d ≡ item_or xs j d
-item_set_other [] i j x d other = refl
-item_set_other (y ∷ ys) zero zero x d other = absurd (other refl)
-item_set_other (y ∷ ys) zero (suc j) x d other = refl
-item_set_other (y ∷ ys) (suc i) zero x d other = refl
-item_set_other (y ∷ ys) (suc i) (suc j) x d other = item_set_other ys i j x d (λ e. other (ap suc e))
-
 -- where a turn of one player is resolved, only its cell is another one
 pub last_cells_set : (game : Game) (me : ℕ) (h later : List Entry) (cells : List Cell) (p : ℕ) (cell : Cell) → AreLastCells game me h cells → length cells ≡ players_of game → p < players_of game →
     cell ≡ last_cell game me later p → ((q : ℕ) → (q ≡ p → ⊥) → (q ≡ me → ⊥) → last_cell game me later q ≡ last_cell game me h q) → AreLastCells game me later (slice_set cells p cell)
@@ -42,7 +31,7 @@ last_cells_set game me h later cells p cell seen all player here others q lt oth
     elim (cases_eq q p) [
       | inl same ↦
           let P : ℕ → Type 0 = λ n. cell_of (slice_set cells p cell) n ≡ last_cell game me later n in
-          subst P (sym same) (item_set_same cells p cell no_seat.start (omega arith) ∙ here)
+          subst P (sym same) (item_set cells p cell no_seat.start (omega arith) ∙ here)
       | inr differs ↦ item_set_other cells p q cell no_seat.start differs ∙ seen q lt other ∙ sym (others q differs other)
     ]
 

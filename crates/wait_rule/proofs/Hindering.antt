@@ -15,7 +15,6 @@ use Rattle.definitions.specs.Held.{known, held, resolved, resolved_count}
 use Rattle.definitions.specs.Meets.{meets, cell_before}
 use Rattle.definitions.specs.Honest.{others, lets_commit, lets_reveal}
 use Rattle.definitions.specs.Needs as N
-use Rattle.grid_world.specs.Sessions.{IsSession}
 use Rattle.dilation.specs.Dilated.{cell_of}
 use Rattle.wait_rule.specs.declared.views.View.{View}
 use Rattle.wait_rule.specs.declared.views.Stage.{Stage}
@@ -94,13 +93,13 @@ what_in (Commit t last) = F.Reveal
 what_in (Reveal t at) = F.Commit
 what_in After = F.Reveal
 
-hinders_is : (game : Game) (me q : ℕ) (h : List Entry) (stage : Stage) (v : View) (from : Cell) → game.ahead ≡ 1 → waits game stage ≡ true → StandsThere game me h stage →
+hinders_is : (game : Game) (me q : ℕ) (h : List Entry) (stage : Stage) (v : View) (from : Cell) → waits game stage ≡ true → StandsThere game me h stage →
     IsView game me h q v → from ≡ last_cell game me h q → hinders game me stage q v from ≡ not (lets game me h stage q)
-hinders_is game me q h (Commit t last) v from one waits there shown seen =
+hinders_is game me q h (Commit t last) v from waits there shown seen =
     meets_is game me q (t - game.ahead) v.resolved h last from (there (leb-true _ _ waits)) shown.resolved_is seen ∙ hinders_commit game me q (t - game.ahead) h
-hinders_is game me q h (Reveal t at) v from one waits there shown seen =
+hinders_is game me q h (Reveal t at) v from waits there shown seen =
     ap (λ (b : Bool). not (holds v t) && b) (meets_is game me q t v.resolved h at from there shown.resolved_is seen) ∙ hinders_reveal game me q t h v shown
-hinders_is game me q h After v from one waits there shown seen =
+hinders_is game me q h After v from waits there shown seen =
     ap (λ (n : ℕ). nat_lt n game.turns) shown.resolved_is ∙ not_not (nat_lt (resolved_count game me h q) game.turns)
 
 need_is : (game : Game) (me q : ℕ) (h : List Entry) (stage : Stage) (v : View) → IsView game me h q v → need_of game stage q v ≡ N.need_of game me h (turn_in game stage) (what_in stage) q
@@ -125,10 +124,10 @@ by_slot game me h (Commit t last) = go (nat_lt t game.ahead) refl (nat_le game.a
     go false lt false le = let a = ltb-false _ _ lt in absurd (false≢true (sym le ∙ le-leb _ _ a))
 
 -- the needs that are listed are those of the log
-pub needs_are : (game : Game) (me : ℕ) (h : List Entry) (stage : Stage) (views : List View) (cells : List Cell) → IsSession game → AreViews game me h views → AreLastCells game me h cells →
+pub needs_are : (game : Game) (me : ℕ) (h : List Entry) (stage : Stage) (views : List View) (cells : List Cell) → AreViews game me h views → AreLastCells game me h cells →
     IsStageOf game me h stage → needs_of game me stage views cells ≡ N.needs game me h
 unfolding needs_of N.needs others
-needs_are game me h stage views cells facts shown seen is =
+needs_are game me h stage views cells shown seen is =
     go (waits game stage) refl ∙ sym (by_slot game me h stage) ∙ ap (N.needs_at game me h) (sym is.slot)
   where
     go : (b : Bool) → waits game stage ≡ b → (if b then flat_map (need_in game me stage views cells) (range_with_len 0 (players_of game)) else []) ≡ needs_at_stage game me h stage b
@@ -136,7 +135,7 @@ needs_are game me h stage views cells facts shown seen is =
     go true w =
         steps_are me (λ q. hinders game me stage q (item_or views q no_view) (cell_of cells q)) (λ q. need_of game stage q (item_or views q no_view))
         (lets game me h stage) (N.need_of game me h (turn_in game stage) (what_in stage)) (players_of game) 0
-        (λ q lt other. hinders_is game me q h stage (item_or views q no_view) (cell_of cells q) facts.ahead w is.cell (shown q (omega arith) other) (seen q (omega arith) other))
+        (λ q lt other. hinders_is game me q h stage (item_or views q no_view) (cell_of cells q) w is.cell (shown q (omega arith) other) (seen q (omega arith) other))
         (λ q lt other. need_is game me q h stage (item_or views q no_view) (shown q (omega arith) other))
 
 -- the first commitments wait for no one

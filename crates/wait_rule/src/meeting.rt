@@ -28,16 +28,16 @@ pub(crate) struct Meeting {
 }
 
 /// The player who asks stands at this cell.
-fn stand_at(meeting: &mut Meeting, session: &Session, _me: PlayerId, cell: Cell)
+fn stand_at(meeting: &mut Meeting, session: &Session, me: PlayerId, cell: Cell)
     requires meeting { IsMeeting session.now meeting.old }
-    requires player { _me < players_of session.now }
+    requires player { me < players_of session.now }
     requires open { IsTrue (is_open session.now.grid cell) }
     ensures meeting { IsMeeting session.now meeting.new }
     ensures dilation { meeting.new.dilation ≡ meeting.old.dilation }
-    ensures own { meeting.new.own.cells ≡ D.sphere_of session.now _me (cell ∷ []) }
+    ensures own { meeting.new.own.cells ≡ D.sphere_of session.now me (cell ∷ []) }
 {
     meeting.theirs.set_one(cell);
-    sphere_of(&mut meeting.own, &meeting.theirs, session);
+    sphere_of(&mut meeting.own, &meeting.theirs, session, me);
 }
 
 /// Takes the own sphere from the stage that the own frames have come to.
@@ -69,7 +69,7 @@ fn meets(meeting: &mut Meeting, session: &Session, q: PlayerId, missed: u32) -> 
         (D.sphere_of session.now q (reach_of session.now q missed (cell_of meeting.old.dilation.cells q ∷ []))) }
 {
     meeting.dilation.grow_to(q, missed);
-    sphere_of(&mut meeting.theirs, meeting.dilation.reached(q), session);
+    sphere_of(&mut meeting.theirs, meeting.dilation.reached(q), session, q);
     meeting.own.meets(&meeting.theirs)
 }
 

@@ -176,7 +176,6 @@ impl WaitRule {
         ensures needs { (h : List Entry) → AreViews session.now me h views.now → AreLastCells session.now me h self.old.cells
             → IsStageOf session.now me h stage → out.new ≡ N.needs session.now me h }
     {
-        session.facts();
         out.clear();
         if waits(session, stage) {
             look_from(&mut self.meeting, session, me, stage);

@@ -14,8 +14,9 @@ pub struct View {
 /// Which own frame is to be made next.
 #[derive(Clone, Copy, Debug, PartialEq, Eq)]
 pub enum Stage {
-    /// The commitment to a turn. `last` is the own cell before the turn whose frames it waits for: the one before. The
-    /// first turn's commitment waits for no one, and any cell will do.
+    /// The commitment to a turn. `last` is the own cell before the turn whose frames it waits for: the one that is as many
+    /// turns earlier as players commit ahead. The commitment to a turn that has fewer before it waits for no one, and any
+    /// cell will do.
     Commit { turn: Turn, last: Cell },
     /// The reveal of a turn. `at` is the own cell before that turn.
     Reveal { turn: Turn, at: Cell },

@@ -1,4 +1,4 @@
-use Rattle.definition_laws.proofs.Rows.{refuses_by_cause, begins, logs_choice, plays_blind, waits_where_spheres_meet, goes_where_apart, walls_keep_apart, runners, two_ahead, ends_done}
+use Rattle.definition_laws.proofs.Rows.{three_ahead, players_differ, refuses_by_cause, begins, logs_choice, plays_blind, waits_where_spheres_meet, goes_where_apart, walls_keep_apart, runners, two_ahead, ends_done}
 use Rattle.definition_laws.proofs.worked_choices.Goals as goal
 
 pub returns-clause-begins : goal.returns-clause-begins
@@ -30,3 +30,9 @@ returns-clause-ends c = ends_done
 
 pub returns-clause-moves : goal.returns-clause-moves
 returns-clause-moves c = refuses_by_cause
+
+pub returns-clause-further_ahead : goal.returns-clause-further_ahead
+returns-clause-further_ahead c = three_ahead
+
+pub returns-clause-differ : goal.returns-clause-differ
+returns-clause-differ c = players_differ

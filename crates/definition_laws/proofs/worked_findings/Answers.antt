@@ -1,4 +1,4 @@
-use Rattle.definition_laws.proofs.Rows.{catches_two_commitments, catches_bad_openings, catches_illegal, finds_two_faces}
+use Rattle.definition_laws.proofs.Rows.{catches_illegal_ahead, catches_two_commitments, catches_bad_openings, catches_illegal, finds_two_faces}
 use Rattle.definition_laws.proofs.worked_findings.Goals as goal
 
 pub returns-clause-commitments : goal.returns-clause-commitments
@@ -12,3 +12,6 @@ returns-clause-moves c = catches_illegal
 
 pub returns-clause-faces : goal.returns-clause-faces
 returns-clause-faces c = finds_two_faces
+
+pub returns-clause-moves_ahead : goal.returns-clause-moves_ahead
+returns-clause-moves_ahead c = catches_illegal_ahead

@@ -1,4 +1,4 @@
-use Rattle.definition_laws.proofs.Rows.{takes_once, stashes_early, window_of_eight, goes_on_when_known, strikes_cost, takes_ahead}
+use Rattle.definition_laws.proofs.Rows.{reveals_in_order, takes_once, stashes_early, window_of_eight, goes_on_when_known, strikes_cost, takes_ahead}
 use Rattle.definition_laws.proofs.worked_frames.Goals as goal
 
 pub returns-clause-once : goal.returns-clause-once
@@ -18,3 +18,6 @@ returns-clause-strikes c = strikes_cost
 
 pub returns-clause-ahead : goal.returns-clause-ahead
 returns-clause-ahead c = takes_ahead
+
+pub returns-clause-reveals : goal.returns-clause-reveals
+returns-clause-reveals c = reveals_in_order

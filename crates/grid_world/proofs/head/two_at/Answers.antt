@@ -1,6 +1,7 @@
 use Rattle.std.proofs.Common.{sym}
-use Rattle.grid_world.specs.Lines as words
-use Rattle.grid_world.proofs.FirstLine.{line_at-none, line_at-some, two_of-empty}
+use Rattle.text_lines.specs.Lines as words
+use Rattle.text_lines.proofs.FirstLine.{two_of-empty}
+use Rattle.grid_world.proofs.FirstLine.{line_at-none, line_at-some}
 use Rattle.grid_world.proofs.head.two_at.Goals as goal
 
 pub returns-in-None : goal.returns-in-None

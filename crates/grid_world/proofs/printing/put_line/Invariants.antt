@@ -1,5 +1,5 @@
 use Rattle.std.proofs.Common.{◌≡◌, ◌++◌, drop}
-use Rattle.grid_world.specs.Lines.{fields_of}
+use Rattle.text_lines.specs.Lines.{fields_of}
 use Rattle.grid_world.proofs.printing.put_line.Given as goal
 
 abbrev pub invariant-loop-number : goal.invariant-loop-number

@@ -1,5 +1,5 @@
 use Rattle.std.proofs.Common.{◌≡◌, ◌++◌, drop, map}
-use Rattle.grid_world.specs.Lines.{joined}
+use Rattle.text_lines.specs.Lines.{joined}
 use Rattle.grid_world.specs.Text.{wall_line}
 use Rattle.grid_world.proofs.printing.put_walls.Given as goal
 

@@ -1,4 +1,4 @@
-use Rattle.std.proofs.Common.{◌∙◌, ◌+◌, ap, sym, arith}
+use Rattle.std.proofs.Common.{◌∙◌, ap, sym, arith}
 use Rattle.definitions.specs.World as world
 use Rattle.influence.proofs.Grown.{grown_none, size_kept, open_kept, step_more, sphere_is}
 use Rattle.influence.proofs.sphere.sphere_of.Goals as goal
@@ -18,8 +18,7 @@ loop-step-preserved c = step_more _ _ _ _ _ _ c.grid.ensures.value c.loop-step.i
 
 pub returns : goal.returns
 returns c =
-    λ q player.
-    sphere_is c.args.session.now q c.loop-step._step _ c.args.from.now c.args.out.now _ _ c.rules-rules.ensures.session player c.requires.size c.requires.out_size
-    (let e = ap (λ (r : world.Rules). r.speed) c.rules-rules.ensures.value in omega arith)
-    (let e = ap (λ (r : world.Rules). r.reach + r.blast) c.rules-rules.ensures.value in omega arith)
+    sphere_is c.args.session.now c.args.player c.loop-step._step _ c.args.from.now c.args.out.now _ _ c.requires.size c.requires.out_size
+    (omega arith) (omega arith)
+    (let e = ap (λ (r : world.Rules). r.blast) c.rules.ensures.value in omega arith)
     c.loop-step.invariant c.grow_square.ensures

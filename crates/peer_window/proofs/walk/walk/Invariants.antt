@@ -1,4 +1,4 @@
-use Rattle.std.proofs.Common.{length, ◌+◌, ◌-◌, ◌≤◌}
+use Rattle.std.proofs.Common.{length, ◌+◌, ◌-◌}
 use Rattle.peer_window.specs.Slots.{AreSlots}
 use Rattle.peer_window.specs.Steps as W
 use Rattle.peer_window.proofs.walk.walk.Given as goal
@@ -6,8 +6,6 @@ use Rattle.peer_window.proofs.walk.walk.Given as goal
 abbrev pub invariant-loop-reach : goal.invariant-loop-reach
 invariant-loop-reach l = record {
   slots : AreSlots l.player l.slots l.reach.commits l.reach.resolved;
-  further : l.from.commits ≤ l.reach.commits;
-  later : l.from.resolved ≤ l.reach.resolved;
   reach : W.IsReach l.session l.player l.slots l.reach;
 }
 

@@ -8,15 +8,13 @@ pub follow-requires-clause-kept : goal.follow-requires-clause-kept
 follow-requires-clause-kept g c =
     let inside = c.self.inside in
     let player : c.args.player < players_of inside.session = subst (λ (v : Dilated). c.args.player < players_of v.game) (sym c.self.view_is) c.requires.player in
-    let at : c.from-at.result < players_of inside.session = subst (λ n. n < players_of inside.session) (sym c.from-at.ensures) player in
-    kept_at inside.session inside.cells.items inside.kept.items c.from-at.result c.index-cell.result.now c.index_mut.result.now c.self.invariant at c.index-cell.ensures c.index_mut.ensures.value
+    kept_at inside.session inside.cells.items inside.kept.items c.from-at.result c.args.player c.index-cell.result.now c.index_mut.result.now c.self.invariant c.from-at.ensures player c.index-cell.ensures c.index_mut.ensures.value
 
 pub invariant_of-self : goal.invariant_of-self
 invariant_of-self g c =
     let inside = c.self.inside in
     let player : c.args.player < players_of inside.session = subst (λ (v : Dilated). c.args.player < players_of v.game) (sym c.self.view_is) c.requires.player in
-    let at : c.from-at.result < players_of inside.session = subst (λ n. n < players_of inside.session) (sym c.from-at.ensures) player in
-    dilated_grown inside.session inside.cells.items inside.kept.items c.from-at.result c.index-cell.result.now c.follow.new.kept c.self.invariant at c.index-cell.ensures c.follow.ensures.kept
+    dilated_grown inside.session inside.cells.items inside.kept.items c.from-at.result c.args.player c.index-cell.result.now c.follow.new.kept c.self.invariant c.from-at.ensures player c.index-cell.ensures c.follow.ensures.kept
 
 pub returns-clause-kept : goal.returns-clause-kept
 returns-clause-kept g c =

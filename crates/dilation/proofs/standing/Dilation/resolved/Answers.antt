@@ -15,7 +15,7 @@ begin-requires-clause-size c =
 pub invariant_of-self : goal.invariant_of-self
 invariant_of-self c =
     let inside = c.self.inside in
-    dilated_seen inside.session inside.cells.items inside.kept.items c.from-at.result c.args.cell c.begin.new.kept c.self.invariant
+    dilated_seen inside.session inside.cells.items inside.kept.items c.from-at.result c.args.player c.args.cell c.begin.new.kept c.self.invariant c.from-at.ensures
     (subst (λ (v : Dilated). IsTrue (is_open v.game.grid c.args.cell)) (sym c.self.view_is) c.requires.«open») c.begin.ensures.kept
 
 pub returns : goal.returns

@@ -23,7 +23,7 @@ more_made g h f e = ap (λ (l : List Entry). made_count l) e ∙ ap (λ (fs : Li
 still_honest : (game : Game) (me : ℕ) (g h : List Entry) (f : TurnFrame) → IsHonest game me h → next_made game me h ≡ Some f → g ≡ h ++ Made f ∷ [] → IsHonest game me g
 still_honest game me g h f i next e = let Is : List Entry → Type 0 = λ l. IsHonest game me l in subst Is (sym e) (next_honest game me h f i next)
 
--- from where one turn is chosen ahead, no more frames are made than the turns that players commit ahead, and two
+-- without another choice no more frames are made than the turns that players commit ahead, and two
 few_more : (game : Game) (me n : ℕ) (first g : List Entry) → OwnCounts game me first → OwnCounts game me g → chosen me g ≡ chosen me first → made_count g ≡ made_count first + n → n ≤ game.ahead + 2
 few_more game me n first g a b same more =
     let o = a.orderly in
@@ -89,7 +89,7 @@ loop-frame-preserved c =
 pub overflow_add-count : goal.overflow_add-count
 overflow_add-count c =
     let few = c.loop-frame.invariant.few in
-    let one = c.loop-frame.invariant.session.ahead in
+    let most = c.loop-frame.invariant.session.ahead.1 in
     omega arith
 
 -- where no frame is next, the log is advanced

@@ -54,6 +54,6 @@ pub hold-held-requires-clause-place : goal.hold-held-requires-clause-place
 hold-held-requires-clause-place c =
     let w = c.self.inside in
     let o = opened c.args.session.now c.args.self.now w.player w.slots.items w.rival w.closed w.reach c.args.entry c.self.view_is c.requires.window c.requires.open_still c.requires.later c.self.invariant in
-    let fits = within_slots c.args.session.now (w.reach.commits + w.reach.resolved) w.slots.items c.args.frame.now c.is_beyond.result c.facts.ensures.ahead o.held.places c.is_beyond.ensures c.if-is_beyond.false in
+    let fits = within_slots c.args.session.now (w.reach.commits + w.reach.resolved) w.slots.items c.args.frame.now c.is_beyond.result o.held.places c.is_beyond.ensures c.if-is_beyond.false in
     let same = ap length c.deref_mut.ensures.value in
     omega arith

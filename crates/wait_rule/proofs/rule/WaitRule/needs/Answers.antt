@@ -11,7 +11,7 @@ returns-then-waits-clause-needs c =
     λ h shown seen is.
     c.add_needs.ensures.needs
     ∙ ap (λ (cs : List Cell). needs_of c.args.session.now c.args.me c.args.stage c.args.views.now cs) (ap (λ (d : Dilated). d.cells) c.look_from.ensures.dilation ∙ ap (λ (s : Standing). s.cells) c.self.view_is)
-    ∙ needs_are c.args.session.now c.args.me h c.args.stage c.args.views.now c.args.self.now.cells c.facts.ensures shown seen is
+    ∙ needs_are c.args.session.now c.args.me h c.args.stage c.args.views.now c.args.self.now.cells shown seen is
 
 pub returns-else-waits-clause-computed : goal.returns-else-waits-clause-computed
 returns-else-waits-clause-computed c = c.clear.ensures ∙ sym (needs_none c.args.session.now c.args.me c.args.stage c.args.views.now c.args.self.now.cells (sym c.waits.ensures ∙ c.if-waits.false))
@@ -20,4 +20,4 @@ pub returns-else-waits-clause-needs : goal.returns-else-waits-clause-needs
 returns-else-waits-clause-needs c =
     λ h shown seen is.
     c.clear.ensures ∙ sym (needs_none c.args.session.now c.args.me c.args.stage c.args.views.now c.args.self.now.cells (sym c.waits.ensures ∙ c.if-waits.false))
-    ∙ needs_are c.args.session.now c.args.me h c.args.stage c.args.views.now c.args.self.now.cells c.facts.ensures shown seen is
+    ∙ needs_are c.args.session.now c.args.me h c.args.stage c.args.views.now c.args.self.now.cells shown seen is

@@ -1,0 +1,61 @@
+-- Items: how the items of a list are read, where one of them was written or is one more.
+use Rattle.std.proofs.Common.{◌≡◌, ℕ, zero, suc, ◌<◌, List, [], ◌∷◌, ◌++◌, length, refl, ap, arith}
+use Rattle.std.specs.Prelude.{map, slice_set}
+use Rattle.definitions.specs.Lists.{EachIs, item_or}
+
+-- what is read of each item, where one of them is another
+pub map_set : {X Y : Type 0} (f : X → Y) (xs : List X) (i : ℕ) (x : X) → map f (slice_set xs i x) ≡ slice_set (map f xs) i (f x)
+map_set f [] i x = refl
+map_set f (y ∷ xs) zero x = refl
+map_set f (y ∷ xs) (suc i) x = ap (λ ys. f y ∷ ys) (map_set f xs i x)
+
+-- what is read of the item at a place
+pub map_item : {X Y : Type 0} (f : X → Y) (xs : List X) (i : ℕ) (d : X) (e : Y) → i < length xs → f (item_or xs i d) ≡ item_or (map f xs) i e
+map_item f [] i d e lt = absurd (omega arith)
+map_item f (x ∷ xs) zero d e lt = refl
+map_item f (x ∷ xs) (suc i) d e lt = map_item f xs i d e (omega arith)
+
+pub length_set : {X : Type 0} (xs : List X) (i : ℕ) (x : X) → length (slice_set xs i x) ≡ length xs
+length_set [] i x = refl
+length_set (y ∷ xs) zero x = refl
+length_set (y ∷ xs) (suc i) x = ap suc (length_set xs i x)
+
+-- what holds of each item still does, where it holds of the one that was written
+pub each_set : {X : Type 0} (P : X → Type 0) (xs : List X) (i : ℕ) (x : X) → EachIs P xs → P x → EachIs P (slice_set xs i x)
+each_set P [] i x each new = tt
+each_set P (y ∷ xs) zero x each new = (new, each.1)
+each_set P (y ∷ xs) (suc i) x each new = (each.0, each_set P xs i x each.1 new)
+
+pub map_more : {X Y : Type 0} (f : X → Y) (xs : List X) (x : X) → map f (xs ++ x ∷ []) ≡ map f xs ++ f x ∷ []
+map_more f [] x = refl
+map_more f (y ∷ xs) x = ap (λ ys. f y ∷ ys) (map_more f xs x)
+
+pub map_length : {X Y : Type 0} (f : X → Y) (xs : List X) → length (map f xs) ≡ length xs
+map_length f [] = refl
+map_length f (x ∷ xs) = ap suc (map_length f xs)
+
+-- an item before the one that is one more, and that one
+pub item_before : {X : Type 0} (xs : List X) (x : X) (i : ℕ) (d : X) → i < length xs → item_or (xs ++ x ∷ []) i d ≡ item_or xs i d
+item_before [] x i d lt = absurd (omega arith)
+item_before (y ∷ xs) x zero d lt = refl
+item_before (y ∷ xs) x (suc i) d lt = item_before xs x i d (omega arith)
+
+pub item_last : {X : Type 0} (xs : List X) (x : X) (i : ℕ) (d : X) → i ≡ length xs → item_or (xs ++ x ∷ []) i d ≡ x
+item_last [] x zero d here = refl
+item_last [] x (suc i) d here = absurd (omega arith)
+item_last (y ∷ xs) x zero d here = absurd (omega arith)
+item_last (y ∷ xs) x (suc i) d here = item_last xs x i d (omega arith)
+
+-- the item that was written
+pub item_set : {X : Type 0} (xs : List X) (i : ℕ) (x d : X) → i < length xs → item_or (slice_set xs i x) i d ≡ x
+item_set [] i x d lt = absurd (omega arith)
+item_set (y ∷ xs) zero x d lt = refl
+item_set (y ∷ xs) (suc i) x d lt = item_set xs i x d (omega arith)
+
+-- and the others
+pub item_set_other : {X : Type 0} (xs : List X) (i j : ℕ) (x d : X) → (j ≡ i → ⊥) → item_or (slice_set xs i x) j d ≡ item_or xs j d
+item_set_other [] i j x d other = refl
+item_set_other (y ∷ ys) zero zero x d other = absurd (other refl)
+item_set_other (y ∷ ys) zero (suc j) x d other = refl
+item_set_other (y ∷ ys) (suc i) zero x d other = refl
+item_set_other (y ∷ ys) (suc i) (suc j) x d other = item_set_other ys i j x d (λ e. other (ap suc e))

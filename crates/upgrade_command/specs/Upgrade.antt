@@ -1,0 +1,28 @@
+-- Upgrade: the answer to the command, and why it ends as it does.
+use Rattle.std.specs.Prelude.{◌≡◌, ℕ, List, Result, Ok, Err}
+use Rattle.definitions.specs.World.{Game}
+use Rattle.grid_world.specs.Reading.{game_at}
+use Rattle.grid_world.specs.Text.{session_text, upgraded}
+use Rattle.run_frame.specs.Frame.{Answer, bare_answer}
+use Rattle.run_frame.specs.declared.statuses.Status.{Status}
+use Rattle.run_frame.specs.declared.statuses.Status.TheVariants.{Done, NoMemory, OutputFault}
+use Rattle.upgrade_command.specs.Laws.{PlayAlike}
+
+-- the answer to the command: the session's text in version 2, where there is a session
+abbrev pub upgrade_answer : Result Game Status → Answer
+upgrade_answer (Err status) = bare_answer status
+upgrade_answer (Ok game) = record { body = session_text (upgraded game); status = Done }
+
+-- What is behind an answer with this body to a session.
+pub record TellsUpgrade (game : Game) (body : List ℕ) : Type 0 where
+  -- it is read as the session in version 2
+  pub read : game_at body ≡ Ok (upgraded game)
+  -- which plays as the session does
+  pub alike : PlayAlike (upgraded game) game
+
+-- Why a run that has a session may end so: at the end of the command. Want of memory and faults have their causes outside.
+abbrev pub UpgradeCause : Status → Type 0
+UpgradeCause Done = Unit {0}
+UpgradeCause NoMemory = Unit {0}
+UpgradeCause OutputFault = Unit {0}
+UpgradeCause status = ⊥
