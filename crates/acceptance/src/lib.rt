@@ -13,6 +13,8 @@ mod drives;
 #[cfg(test)]
 mod faults;
 #[cfg(test)]
+mod judged;
+#[cfg(test)]
 mod matches;
 #[cfg(test)]
 mod olds;

@@ -9,7 +9,7 @@ static CORRIDOR: &[u8] =
     b"playout 1\ngrid 12 1\nrules 1 1 0\ncharge 1 2 1\nturns 8\nplayers 2\nplayer 0 0 0\nplayer 1 9 0\nend\n";
 
 /// Words that are no command, each behind a space but the first.
-static NO_COMMANDS: [&str; 18] = [
+static NO_COMMANDS: [&str; 22] = [
     "",
     "drive",
     "drive s",
@@ -23,6 +23,10 @@ static NO_COMMANDS: [&str; 18] = [
     "drive s 0 o x",
     "drive -s 0",
     "driev s 0",
+    "judge",
+    "judge s",
+    "judge s o o",
+    "judge s -o",
     "upgrade",
     "upgrade s o",
     "upgrade -s",

@@ -115,15 +115,15 @@ fn shelf_of_two(
     Ok(MemoryShelf::new(files, fails))
 }
 
-/// A shelf with a session's file of the name `s`, and a log's file of the name `o`.
-fn shelf_with_log(
+/// A shelf with a session's file of the name `s`, and another file of the name `o`.
+fn shelf_with(
     alloc: Global,
     session: &[u8],
-    old: &[u8],
+    other: &[u8],
     fails: &'static [u32],
 ) -> Result<MemoryShelf, AllocError> {
     let first = file_of(alloc, b"s", session)?;
-    let second = file_of(alloc, b"o", old)?;
+    let second = file_of(alloc, b"o", other)?;
     shelf_of_two(alloc, first, second, fails)
 }
 
@@ -153,7 +153,7 @@ pub fn run_files(
     script: &[u8],
     fails: &Fails,
 ) -> Result<(Status, Vec<u8>), AllocError> {
-    let mut shelf = shelf_with_log(alloc, files.session, files.old, fails.shelf)?;
+    let mut shelf = shelf_with(alloc, files.session, files.old, fails.shelf)?;
     let words = words_with_log(alloc, files.name, player)?;
     let mut input = source_of(alloc, script, fails.source)?;
     let mut out = sink_of(alloc, fails.sink)?;
@@ -175,4 +175,28 @@ pub fn run_old(
         old,
     };
     run_files(alloc, player, &files, script, &NONE)
+}
+
+/// The words of `judge` that name the session's file and the exhibit's.
+fn words_to_judge(alloc: Global) -> Result<Vec<Vec<u8>>, AllocError> {
+    let mut words = Vec::new(alloc);
+    words.push(Vec::from_slice(alloc, b"judge")?)?;
+    words.push(Vec::from_slice(alloc, b"s")?)?;
+    words.push(Vec::from_slice(alloc, b"o")?)?;
+    Ok(words)
+}
+
+/// Runs `judge` on an exhibit in a session, and gives its status and what it wrote.
+pub fn run_judge(
+    alloc: Global,
+    session: &[u8],
+    evidence: &[u8],
+    fails: &Fails,
+) -> Result<(Status, Vec<u8>), AllocError> {
+    let mut shelf = shelf_with(alloc, session, evidence, fails.shelf)?;
+    let words = words_to_judge(alloc)?;
+    let mut input = source_of(alloc, b"", fails.source)?;
+    let mut out = sink_of(alloc, fails.sink)?;
+    let status = run_in_memory(alloc, words.as_slice(), &mut input, &mut out, &mut shelf);
+    Ok((status, Vec::from_slice(alloc, out.bytes())?))
 }

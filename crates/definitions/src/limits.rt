@@ -71,3 +71,9 @@ pub const GREATEST_PLAYER: u8 = 255;
 
 /// The most players whose needs are listed at once.
 pub const MOST_NEEDS: usize = 64;
+
+/// The most frames of an evidence text: a commitment and a reveal for each turn of the longest session.
+pub const MOST_EVIDENCE_FRAMES: usize = 16_384;
+
+/// How many bytes of a file decide what an evidence text says.
+pub const EVIDENCE_FRONT: usize = 2_097_152;

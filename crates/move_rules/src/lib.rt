@@ -12,5 +12,5 @@ pub mod walker;
 mod window;
 
 pub use definitions::{Move, MoveFault, Track};
-pub use tracks::start_track;
+pub use tracks::{next_track, start_track};
 pub use walker::Walker;

@@ -19,8 +19,8 @@ pub fn start_track(session: &Session, player: PlayerId) -> Track
 }
 
 /// The track after a legal move: at its target, with the charge less the cost after a strike, and one more, up to the
-/// cap, without one.
-pub(crate) fn next_track(session: &Session, track: &Track, mv: &Move) -> Track
+/// cap, without one. Whoever asks has judged the move, of which the cost of its strike is asked here.
+pub fn next_track(session: &Session, track: &Track, mv: &Move) -> Track
     requires { IfSome mv.now.strike (λ c. session.now.rules.cost ≤ track.now.charge) }
     ensures { result ≡ M.next_track session.now track.now mv.now }
 {

@@ -23,18 +23,26 @@ use Rattle.drive_command.specs.Words.{Driving}
 use Rattle.drive_command.proofs.Commanded.{drive_caused, drive_done, drive_tells_play}
 use Rattle.upgrade_command.specs.Upgrade.{TellsUpgrade, upgrade_answer}
 use Rattle.upgrade_command.proofs.Tells.{upgrade_tells}
-use Rattle.peer_cli.specs.Causes.{HasCause, IsGood, IsMeant, IsSeated, IsSet}
+use Rattle.text_fields.specs.declared.fault.TextFault.{TextFault}
+use Rattle.text_fields.specs.declared.fault.TextFault.TheVariants as text
+use Rattle.evidence.specs.declared.exhibit.Exhibit.{Exhibit}
+use Rattle.evidence.specs.Reading as evidence
+use Rattle.evidence.specs.Reading.{exhibit_at}
+use Rattle.judge_command.specs.Judge.{JudgeCause, is_shown, judge_answer, verdict_answer}
+use Rattle.judge_command.specs.Words.{Judging}
+use Rattle.peer_cli.specs.Exhibits.{case_for, evidence_front_of, exhibit_by, exhibit_in, with_exhibit}
+use Rattle.peer_cli.specs.Causes.{HasCause, IsCase, IsGood, IsMeant, IsSeated, IsSet}
 use Rattle.peer_cli.specs.Commands.{answer_of, begins_with}
-use Rattle.peer_cli.specs.Files.{Contents}
+use Rattle.peer_cli.specs.Files.{Contents, content}
 use Rattle.peer_cli.specs.Games.{begun, empty_beginning, ended_by, front_of, log_front_of, old_beginning, session_in, with_old, with_player}
 use Rattle.peer_cli.specs.Outside.{CountsFaults, OneFailed, Outside}
-use Rattle.peer_cli.specs.Words.{Command, Drive, Upgrade}
+use Rattle.peer_cli.specs.Words.{Command, Drive, Judge, Upgrade}
 use Rattle.peer_cli.proofs.Begun.{begun_honest}
 
 -- the answer where a run begins with this
 pub set_answer : (d : Driving) (contents : Contents) (input : Input) (b : Beginning) → IsSet d contents b → drive_answer d.player (begins_with d contents) input ≡ begun_answer d.player b input
 set_answer d contents input b s =
-    let old = option_map (λ name. contents.log) d.old in
+    let old = option_map (λ name. content contents 1) d.old in
     ap (λ (r : Result Game SessionFault). drive_answer d.player (with_old d.player (with_player d.player (ended_by r)) old) input) s.seated.read ∙
     ap (λ (c : Bool). drive_answer d.player (with_old d.player (if c then Ok b.game else Err Usage) old) input) (lt-ltb d.player (players_of b.game) s.seated.player_is) ∙
     ap (λ (r : Result Beginning Status). drive_answer d.player r input) s.begins
@@ -65,50 +73,77 @@ module _ (d : Driving) (contents : Contents) (input : Input) (ends : ending_of i
   begins b set = begun_so b set (begun_answer d.player b input).status (drive_caused d.player b input ends)
 
   -- a log that is named, by the fault for which the player can't go on from it
-  named_log : (game : Game) (name : List ℕ) → IsSeated d contents game → d.old ≡ Some name → (fault : Option Fault) → old_fault game d.player (log_front_of contents.log) ≡ fault →
-      HasCause (Some (Drive d)) contents input (drive_answer d.player (old_beginning game (log_front_of contents.log) fault) input).status
+  named_log : (game : Game) (name : List ℕ) → IsSeated d contents game → d.old ≡ Some name → (fault : Option Fault) → old_fault game d.player (log_front_of (content contents 1)) ≡ fault →
+      HasCause (Some (Drive d)) contents input (drive_answer d.player (old_beginning game (log_front_of (content contents 1)) fault) input).status
   named_log game name seated n None e =
-      let bytes = log_front_of contents.log in
+      let bytes = log_front_of (content contents 1) in
       let b : Beginning = record { game = game; first = old_entries game bytes; dropped = dropped_at game bytes } in
       begins b
       (record {
         seated = seated;
-        begins = ap (λ (o : Option (List ℕ)). begun d.player game (option_map (λ name. contents.log) o)) n ∙ ap (old_beginning game bytes) e;
+        begins = ap (λ (o : Option (List ℕ)). begun d.player game (option_map (λ name. content contents 1) o)) n ∙ ap (old_beginning game bytes) e;
       })
   named_log game name seated n (Some f) e = record { game = game; name = name; seated = seated; named = n; log_is = refl; fault_is = e }
 
   with_log : (game : Game) (old : Option (List ℕ)) → IsSeated d contents game → d.old ≡ old →
-      HasCause (Some (Drive d)) contents input (drive_answer d.player (begun d.player game (option_map (λ name. contents.log) old)) input).status
-  with_log game None seated n = begins (empty_beginning game) (record { seated = seated; begins = ap (λ (o : Option (List ℕ)). begun d.player game (option_map (λ name. contents.log) o)) n })
-  with_log game (Some name) seated n = named_log game name seated n (old_fault game d.player (log_front_of contents.log)) refl
+      HasCause (Some (Drive d)) contents input (drive_answer d.player (begun d.player game (option_map (λ name. content contents 1) old)) input).status
+  with_log game None seated n = begins (empty_beginning game) (record { seated = seated; begins = ap (λ (o : Option (List ℕ)). begun d.player game (option_map (λ name. content contents 1) o)) n })
+  with_log game (Some name) seated n = named_log game name seated n (old_fault game d.player (log_front_of (content contents 1))) refl
 
   -- a session of which the player may be one
-  seated : (game : Game) → game_at (front_of contents.session) ≡ Ok game → (b : Bool) → nat_lt d.player (players_of game) ≡ b →
-      HasCause (Some (Drive d)) contents input (drive_answer d.player (with_old d.player (if b then Ok game else Err Usage) (option_map (λ name. contents.log) d.old)) input).status
+  seated : (game : Game) → game_at (front_of (content contents 0)) ≡ Ok game → (b : Bool) → nat_lt d.player (players_of game) ≡ b →
+      HasCause (Some (Drive d)) contents input (drive_answer d.player (with_old d.player (if b then Ok game else Err Usage) (option_map (λ name. content contents 1) d.old)) input).status
   seated game read true e = with_log game d.old (record { read = read; player_is = ltb-true d.player (players_of game) e }) refl
   seated game read false e = record { game = game; read = read; past = grind (arith, e) }
 
-  read : (r : Result Game SessionFault) → game_at (front_of contents.session) ≡ r →
-      HasCause (Some (Drive d)) contents input (drive_answer d.player (with_old d.player (with_player d.player (ended_by r)) (option_map (λ name. contents.log) d.old)) input).status
+  read : (r : Result Game SessionFault) → game_at (front_of (content contents 0)) ≡ r →
+      HasCause (Some (Drive d)) contents input (drive_answer d.player (with_old d.player (with_player d.player (ended_by r)) (option_map (λ name. content contents 1) d.old)) input).status
   read (Ok game) f = seated game f (nat_lt d.player (players_of game)) refl
   read (Err Memory) f = tt
-  read (Err (At line what)) f = fault_said (front_of contents.session) (At line what) f
+  read (Err (At line what)) f = fault_said (front_of (content contents 0)) (At line what) f
 
 -- The command to upgrade.
-upgrade_read : (session : List ℕ) (contents : Contents) (input : Input) (r : Result Game SessionFault) → game_at (front_of contents.session) ≡ r →
+upgrade_read : (session : List ℕ) (contents : Contents) (input : Input) (r : Result Game SessionFault) → game_at (front_of (content contents 0)) ≡ r →
     HasCause (Some (Upgrade session)) contents input (upgrade_answer (ended_by r)).status
 upgrade_read session contents input (Ok game) f = (record { game = game; read = f }, tt)
 upgrade_read session contents input (Err Memory) f = tt
-upgrade_read session contents input (Err (At line what)) f = fault_said (front_of contents.session) (At line what) f
+upgrade_read session contents input (Err (At line what)) f = fault_said (front_of (content contents 0)) (At line what) f
 
-upgrade_answer_is : (contents : Contents) (game : Game) → game_at (front_of contents.session) ≡ Ok game → upgrade_answer (session_in contents.session) ≡ upgrade_answer (Ok game)
+upgrade_answer_is : (contents : Contents) (game : Game) → game_at (front_of (content contents 0)) ≡ Ok game → upgrade_answer (session_in (content contents 0)) ≡ upgrade_answer (Ok game)
 upgrade_answer_is contents game read = ap (λ (r : Result Game SessionFault). upgrade_answer (ended_by r)) read
+
+-- The command to judge.
+case_answer : (contents : Contents) (case : Game × Exhibit) → IsCase contents case → judge_answer (case_for (content contents 0) (content contents 1)) ≡ judge_answer (Ok case)
+case_answer contents case is =
+    ap (λ (r : Result Game SessionFault). judge_answer (with_exhibit (ended_by r) (exhibit_in (content contents 1)))) is.read ∙
+    ap (λ (r : Result Exhibit TextFault). judge_answer (with_exhibit (Ok case.0) (exhibit_by r))) is.exhibit
+
+verdict_cause : (game : Game) (x : Exhibit) (b : Bool) → is_shown game x ≡ b → JudgeCause game x (verdict_answer b).status
+verdict_cause game x true e = e
+verdict_cause game x false e = e
+
+judge_exhibit : (j : Judging) (contents : Contents) (input : Input) (game : Game) → game_at (front_of (content contents 0)) ≡ Ok game → (r : Result Exhibit TextFault) →
+    exhibit_at (evidence_front_of (content contents 1)) ≡ r → HasCause (Some (Judge j)) contents input (judge_answer (with_exhibit (Ok game) (exhibit_by r))).status
+judge_exhibit j contents input game f (Ok x) e = go (is_shown game x) refl
+  where
+    go : (b : Bool) → is_shown game x ≡ b → HasCause (Some (Judge j)) contents input (verdict_answer b).status
+    go true b = record { case = (game, x); files = record { read = f; exhibit = e }; cause = b }
+    go false b = record { case = (game, x); files = record { read = f; exhibit = e }; cause = b }
+judge_exhibit j contents input game f (Err text.Memory) e = tt
+judge_exhibit j contents input game f (Err (text.At line)) e = (record { game = game; read = f }, ap evidence.fault_of e)
+
+judge_read : (j : Judging) (contents : Contents) (input : Input) (r : Result Game SessionFault) → game_at (front_of (content contents 0)) ≡ r →
+    HasCause (Some (Judge j)) contents input (judge_answer (with_exhibit (ended_by r) (exhibit_in (content contents 1)))).status
+judge_read j contents input (Ok game) f = judge_exhibit j contents input game f (exhibit_at (evidence_front_of (content contents 1))) refl
+judge_read j contents input (Err Memory) f = tt
+judge_read j contents input (Err (At line what)) f = fault_said (front_of (content contents 0)) (At line what) f
 
 -- Each command.
 pub caused : (command : Option Command) (contents : Contents) (input : Input) → ending_of input ≡ AtEnd → HasCause command contents input (answer_of command contents input).status
 caused None contents input ends = tt
-caused (Some (Drive d)) contents input ends = read d contents input ends (game_at (front_of contents.session)) refl
-caused (Some (Upgrade session)) contents input ends = upgrade_read session contents input (game_at (front_of contents.session)) refl
+caused (Some (Drive d)) contents input ends = read d contents input ends (game_at (front_of (content contents 0))) refl
+caused (Some (Upgrade session)) contents input ends = upgrade_read session contents input (game_at (front_of (content contents 0))) refl
+caused (Some (Judge j)) contents input ends = judge_read j contents input (game_at (front_of (content contents 0))) refl
 
 -- where all is good, the end of the command is due
 pub good_done : (command : Option Command) (contents : Contents) (input : Input) → ending_of input ≡ AtEnd → IsGood command contents input → (answer_of command contents input).status ≡ Done
@@ -116,6 +151,7 @@ good_done None contents input ends good = absurd good
 good_done (Some (Drive d)) contents input ends (b, set, played) =
     ap (λ (a : Answer). a.status) (set_answer d contents input b set) ∙ drive_done d.player b input ends played
 good_done (Some (Upgrade session)) contents input ends good = ap (λ (a : Answer). a.status) (upgrade_answer_is contents good.game good.read)
+good_done (Some (Judge j)) contents input ends (case, is, none) = ap (λ (a : Answer). a.status) (case_answer contents case is) ∙ ap (λ (b : Bool). (verdict_answer b).status) none
 
 -- what is behind the answer
 pub meant : (command : Option Command) (contents : Contents) (input : Input) → IsMeant command contents input
@@ -127,6 +163,7 @@ meant (Some (Drive d)) contents input = λ b set.
     (drive_tells_play d.player b input ahead (begun_honest b.game d.player _ b set.begins).honest)
 meant (Some (Upgrade session)) contents input = λ game read.
     subst (λ (a : Answer). TellsUpgrade game a.body) (sym (upgrade_answer_is contents game read)) (upgrade_tells game _ (game_found _ game read))
+meant (Some (Judge j)) contents input = tt
 
 -- what holds of the status that is due, of want of memory and of faults holds of the status that comes
 module _ (before now : SinkState) (whole cut : Answer) (source shelf : Type 0) where

@@ -1,22 +1,22 @@
 -- InMemory: a run over objects in memory keeps to what they hold.
-use Rattle.std.proofs.Common.{◌≡◌, false, true, List, ◌++◌, ℕ, Option, Some, None, length, drop, refl, ap, sym, ◌∙◌, subst, append_assoc}
-use Rattle.std.specs.Prelude.{option_and_then}
+use Rattle.std.proofs.Common.{◌≡◌, false, true, List, [], ◌∷◌, ◌++◌, ℕ, zero, suc, Option, Some, None, length, drop, refl, ap, sym, ◌∙◌, subst, append_assoc}
+use Rattle.std.specs.Prelude.{map}
 use Rattle.std.proofs.Math.Seq.{drop-append_seam}
+use Rattle.definitions.specs.Lists.{item_or}
 use Rattle.station.specs.Files.{content_in}
 use Rattle.station.specs.Outside.{Rose}
-use Rattle.station.specs.Pieces.{Piece, AllGive}
+use Rattle.station.specs.Pieces.{AllGive}
 use Rattle.station.specs.Plans.{HeldShelf, HeldSink, HeldSource, Left, Bytes, Nothing, bytes_left, is_ended, shelf_state, sink_state, source_state}
 use Rattle.station.specs.Shelves.{ShelfState}
 use Rattle.station.specs.Since.{since}
-use Rattle.line_io.specs.Fronts.{AllShown}
 use Rattle.run_frame.specs.Ends.{Finished}
 use Rattle.line_io.specs.Inputs.{AtEnd, AtFault, MayFollow, input_of}
 use Rattle.run_frame.specs.declared.statuses.Status.{Status}
-use Rattle.peer_cli.specs.Commands.{ReadsFor, answer_of, contents_of}
-use Rattle.peer_cli.specs.Files.{AreContents, Calls, IsLogReading, IsLogShown}
+use Rattle.peer_cli.specs.Commands.{ReadsFor, answer_of, contents_of, names_of}
+use Rattle.peer_cli.specs.Files.{AreContents, AreReadings, Calls}
 use Rattle.peer_cli.specs.Memory.{WritesInMemory}
 use Rattle.peer_cli.specs.Runs.{ReadsOn, Runs}
-use Rattle.peer_cli.specs.Words.{Command, Drive, Upgrade}
+use Rattle.peer_cli.specs.Words.{Command}
 
 -- what was left is what was read and what is left
 left_is : (s t : HeldSource) → ReadsOn (source_state s) (source_state t) → bytes_left s.left ≡ since s.seen t.seen ++ bytes_left t.left
@@ -34,22 +34,17 @@ none_left : (left : Left) → MayFollow (is_ended left) (bytes_left left)
 none_left (Bytes bytes) = λ e. absurd (let never : false ≡ true = e in cc)
 none_left Nothing = λ e. refl
 
-log_gives : (files : List ℕ → Option (List ℕ)) (old : Option (List ℕ)) (calls : List Piece) → IsLogReading old calls → IsLogShown (Some files) old calls → AllGive (option_and_then files old) calls
-log_gives files None calls r t = subst (AllGive None) (sym r) tt
-log_gives files (Some name) calls r t = t
-
 -- the files of a shelf that shows them are what was read
+shown_are : (files : List ℕ → Option (List ℕ)) (names : List (List ℕ)) (calls : Calls) → AreReadings (Some files) names calls → AreContents (map files names) calls
+shown_are files [] calls r n = subst (λ (c : Calls). AllGive None (item_or c n [])) (sym r) tt
+shown_are files (name ∷ names) [] r n = absurd r
+shown_are files (name ∷ names) (pieces ∷ calls) r zero = r.1
+shown_are files (name ∷ names) (pieces ∷ calls) r (suc n) = shown_are files names calls r.2 n
+
 files_are : (command : Option Command) (files : List ℕ → Option (List ℕ)) (before after : ShelfState) (calls : Calls) → before.files ≡ Some files → ReadsFor command before after calls →
     AreContents (contents_of command files) calls
-files_are None files before after calls e r = subst (λ (c : Calls). AreContents (contents_of None files) c) (sym r.1) (record { session_gives = tt; log_gives = tt })
-files_are (Some (Drive d)) files before after calls e r = record {
-  session_gives = subst (λ (f : Option (List ℕ → Option (List ℕ))). AllShown f d.session calls.session) e r.session_shown;
-  log_gives = log_gives files d.old calls.log r.log_read (subst (λ (f : Option (List ℕ → Option (List ℕ))). IsLogShown f d.old calls.log) e r.log_shown);
-}
-files_are (Some (Upgrade session)) files before after calls e r = record {
-  session_gives = subst (λ (f : Option (List ℕ → Option (List ℕ))). AllShown f session calls.session) e r.session_shown;
-  log_gives = subst (AllGive None) (sym r.none) tt;
-}
+files_are command files before after calls e r =
+    shown_are files (names_of command) calls (subst (λ (f : Option (List ℕ → Option (List ℕ))). AreReadings f (names_of command) calls) e r.reads.readings)
 
 pub ran_in_memory : (command : Option Command) (i i' : HeldSource) (a b : HeldSink) (h h' : HeldShelf) (s : Status) →
     Runs (record {

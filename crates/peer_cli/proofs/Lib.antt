@@ -5,4 +5,6 @@ pub mod Shelves
 pub mod Running
 pub mod Counts
 pub mod InMemory
+pub mod Alone
 pub mod Upgrades
+pub mod Judged

@@ -1,12 +1,13 @@
 -- Running: what the parts of a run make of its promises.
-use Rattle.std.proofs.Common.{◌≡◌, ◌⊎◌, false, true, inl, inr, List, [], ◌++◌, ℕ, Option, Some, None, refl, ap, sym, ◌∙◌, subst}
-use Rattle.std.specs.Prelude.{Result, Ok, Err}
+use Rattle.std.proofs.Common.{◌≡◌, ◌⊎◌, false, true, inl, inr, List, [], ◌∷◌, ◌++◌, append-nil, ℕ, zero, suc, Option, Some, None, refl, ap, sym, ◌∙◌, subst}
+use Rattle.std.specs.Prelude.{Result, Ok, Err, map}
 use Rattle.station.specs.Outside.{Rose, faults_behind}
-use Rattle.station.specs.Pieces.{Piece, AllGive}
+use Rattle.station.specs.Pieces.{AllGive}
 use Rattle.station.specs.Shelves.{ShelfState}
 use Rattle.station.specs.Since.{grows_none}
 use Rattle.station.specs.Sinks.{SinkState}
 use Rattle.station.specs.Sources.{SourceState}
+use Rattle.definitions.specs.Lists.{item_or}
 use Rattle.definitions.specs.Advance.{advance}
 use Rattle.definitions.specs.Findings.{is_clean}
 use Rattle.old_log.specs.declared.resuming.Resumed.{Resumed}
@@ -23,37 +24,34 @@ use Rattle.run_frame.proofs.Finish.{finished}
 use Rattle.drive_command.specs.Begin.{Beginning, NeedsNoInput, begun_answer}
 use Rattle.drive_command.specs.Words.{Driving}
 use Rattle.peer_cli.specs.Causes.{HasCause}
-use Rattle.peer_cli.specs.Commands.{ReadsFor, answer_of, begins_with}
-use Rattle.peer_cli.specs.Files.{AreContents, Calls, Contents, IsLogReading, OpensPeer}
+use Rattle.peer_cli.specs.Commands.{ReadsFor, answer_of, begins_with, names_of}
+use Rattle.peer_cli.specs.Files.{AreContents, AreReadings, Calls, Contents, OpensPeer, content, log_names}
 use Rattle.peer_cli.specs.Games.{IsStartFor}
 use Rattle.peer_cli.specs.Outside.{CountsFaults, Outside}
 use Rattle.peer_cli.specs.Runs.{MayBe, Run, Runs, Works, Writes, read_by}
-use Rattle.peer_cli.specs.Words.{Command, Drive, Upgrade}
+use Rattle.peer_cli.specs.Words.{Command, Drive}
 use Rattle.peer_cli.proofs.Begins.{begun_ran, memory_taken, unbegun_ran}
 use Rattle.peer_cli.proofs.Causes.{caused, completed, ends_at_end, finished_cause, good_done, meant}
 use Rattle.peer_cli.proofs.Counts.{ended_counts, refused_counts, unbegun_counts, unbegun_done, where_no_memory}
 
 -- some contents give what was answered
-log_fits : (old : Option (List ℕ)) (calls : List Piece) → IsLogReading old calls → AllGive (Some (bytes_read calls)) calls
-log_fits None calls r = subst (λ (ps : List Piece). AllGive (Some (bytes_read ps)) ps) (sym r) tt
-log_fits (Some name) calls r = reading_fits name calls r
+abbrev pub some_contents : Calls → Contents
+some_contents calls = map (λ pieces. Some (bytes_read pieces)) calls
 
-abbrev some_contents : Calls → Contents
-some_contents calls = record { session = Some (bytes_read calls.session); log = Some (bytes_read calls.log) }
+readings_fit : (files : Option (List ℕ → Option (List ℕ))) (names : List (List ℕ)) (calls : Calls) → AreReadings files names calls → AreContents (some_contents calls) calls
+readings_fit files [] calls r n = subst (λ (c : Calls). AllGive (content (some_contents c) n) (item_or c n [])) (sym r) tt
+readings_fit files (name ∷ names) [] r n = absurd r
+readings_fit files (name ∷ names) (pieces ∷ calls) r zero = reading_fits name pieces r.0
+readings_fit files (name ∷ names) (pieces ∷ calls) r (suc n) = readings_fit files names calls r.2 n
 
-contents_fit : (command : Option Command) (before after : ShelfState) (calls : Calls) → ReadsFor command before after calls → AreContents (some_contents calls) calls
-contents_fit None before after calls r = subst (λ (c : Calls). AreContents (some_contents c) c) (sym r.1) (record { session_gives = tt; log_gives = tt })
-contents_fit (Some (Upgrade session)) before after calls r = record {
-  session_gives = reading_fits session calls.session r.session_read;
-  log_gives = subst (λ (ps : List Piece). AllGive (Some (bytes_read ps)) ps) (sym r.none) tt;
-}
-contents_fit (Some (Drive d)) before after calls r = record { session_gives = reading_fits d.session calls.session r.session_read; log_gives = log_fits d.old calls.log r.log_read }
+pub contents_fit : (command : Option Command) (before after : ShelfState) (calls : Calls) → ReadsFor command before after calls → AreContents (some_contents calls) calls
+contents_fit command before after calls r = readings_fit before.files (names_of command) calls r.reads.readings
 
 -- words that are no command
 pub unasked : (outside : Outside) (alone : Type 0) → alone → Works (record { command = None; before = outside; after = outside }) alone Usage
 unasked outside alone left = record {
-  calls = record { session = []; log = [] };
-  files = (refl, refl);
+  calls = [];
+  files = record { reads = record { same = refl; answered = sym (append-nil outside.shelf.pieces); readings = refl }; due = refl };
   input = record { same = refl; grows = grows_none outside.input.seen };
   text = λ contents behind m. (sym (bytes_none outside.output), refl);
   usage = λ e. refl;
@@ -62,7 +60,7 @@ unasked outside alone left = record {
   over = tt;
 }
 
-no_command : (command : Command) (P : Type 0) → (let some : Option Command = Some command in some ≡ None) → P
+pub no_command : (command : Command) (P : Type 0) → (let some : Option Command = Some command in some ≡ None) → P
 no_command command P e = cc
 
 -- a peer that was begun with plays the input
@@ -85,7 +83,7 @@ module _ (i i' : SourceState) (a b : SinkState) (h h' : ShelfState) (alone : Typ
       Works (record { command = Some (Drive d); before = record { input = i; output = a; shelf = h }; after = record { input = i'; output = b; shelf = h' } }) alone s
   played o p left = record {
     calls = o.calls;
-    files = o.reads;
+    files = record { reads = o.reads; due = o.log_due };
     input = record { same = p.drew.same; grows = p.drew.grows };
     text = λ contents behind m. begun_ran _ _ a b s d.player _ r _ (o.due contents m.given) (p.ends behind m.follows) (source_failed p);
     usage = no_command _ _;
@@ -100,12 +98,12 @@ module _ (i i' : SourceState) (a b : SinkState) (h h' : ShelfState) (alone : Typ
 -- there is none to begin with
 module _ (i : SourceState) (a : SinkState) (h h' : ShelfState) (alone : Type 0) (left : alone) (d : Driving) (s : Status) (o : OpensPeer h h' d.session d.player d.old (Err s)) where
   start : (contents : Contents) × IsStartFor d.player (begins_with d contents) (Err s)
-  start = (some_contents o.calls, o.due (some_contents o.calls) (contents_fit (Some (Drive d)) h h' o.calls o.reads))
+  start = (some_contents o.calls, o.due (some_contents o.calls) (readings_fit h.files (d.session ∷ log_names d.old) o.calls o.reads.readings))
 
   pub unbegun : Works (record { command = Some (Drive d); before = record { input = i; output = a; shelf = h }; after = record { input = i; output = a; shelf = h' } }) alone s
   unbegun = record {
     calls = o.calls;
-    files = o.reads;
+    files = record { reads = o.reads; due = o.log_due };
     input = record { same = refl; grows = grows_none i.seen };
     text = λ contents behind m. unbegun_ran _ _ a d.player _ _ s (o.due contents m.given) (λ e. (o.counted ∙ ap (λ f. faults_behind f h.faults) (ap is_input_fault e), left));
     usage = no_command _ _;

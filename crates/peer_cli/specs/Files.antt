@@ -1,40 +1,59 @@
--- Files: what a run reads of them, the session's and the log's where one is named.
-use Rattle.std.specs.Prelude.{◌≡◌, ◌⊎◌, ℕ, ◌<◌, false, Ok, Result, Option, Some, None, List, [], ◌++◌, option_map}
+-- Files: what a run reads of those that its words name, in their order.
+use Rattle.std.specs.Prelude.{◌≡◌, ◌⊎◌, ℕ, ◌<◌, false, Ok, Result, Option, Some, None, List, [], ◌∷◌, ◌++◌, flat_map, option_map}
 use Rattle.station.specs.Outside.{faults_behind}
 use Rattle.station.specs.Pieces.{Piece, AllGive}
 use Rattle.station.specs.Shelves.{ShelfState}
 use Rattle.station.specs.Since.{since}
 use Rattle.line_io.specs.Fronts.{AllShown, Fetched, IsReading}
 use Rattle.run_frame.specs.declared.statuses.Status.{Status}
+use Rattle.definitions.specs.Lists.{item_or}
 use Rattle.definitions.specs.World.{Game, players_of}
 use Rattle.grid_world.specs.Reading.{game_at}
 use Rattle.old_log.specs.declared.resuming.Resumed.{Resumed}
+use Rattle.evidence.specs.declared.exhibit.Exhibit.{Exhibit}
+use Rattle.peer_cli.specs.Exhibits.{IsCaseDue, IsExhibitDue, case_for, exhibit_in}
 use Rattle.peer_cli.specs.Games.{IsDue, IsStartFor, beginning_for, front_of, is_shelf_fault, session_in, with_old, with_player}
 
--- the calls for each of the two files, as they were answered
-pub record Calls : Type 0 where
-  pub session : List Piece
-  pub log : List Piece
+-- the calls for each of the files that a command's words name, in their order, as they were answered
+abbrev pub Calls : Type 0
+Calls = List (List Piece)
 
--- what each of the two files holds when it is read, and none where it isn't there
-pub record Contents : Type 0 where
-  pub session : Option (List ℕ)
-  pub log : Option (List ℕ)
+-- what each of these files holds when it is read, in the same order, and none where it isn't there
+abbrev pub Contents : Type 0
+Contents = List (Option (List ℕ))
+
+-- what the file of this number holds, counted from 0; where no word names it, nothing
+abbrev pub content : Contents → ℕ → Option (List ℕ)
+content contents n = item_or contents n None
+
+-- all calls, one behind the other
+abbrev pub in_turn : Calls → List Piece
+in_turn calls = flat_map (λ pieces. pieces) calls
 
 -- Files with these contents give what was answered.
-pub record AreContents (contents : Contents) (calls : Calls) : Type 0 where
-  pub session_gives : AllGive contents.session calls.session
-  pub log_gives : AllGive contents.log calls.log
+abbrev pub AreContents : Contents → Calls → Type 0
+AreContents contents calls = (n : ℕ) → AllGive (content contents n) (item_or calls n [])
 
--- The calls read the log's file from its front on, if one is named.
-abbrev pub IsLogReading : (old : Option (List ℕ)) → List Piece → Type 0
-IsLogReading None calls = calls ≡ []
-IsLogReading (Some name) calls = IsReading name 0 calls
+-- Each file of these names was read by its calls, from its front on and no further behind its end or a fault; where the shelf shows its
+-- files, what they give was answered.
+abbrev pub AreReadings : (files : Option (List ℕ → Option (List ℕ))) → (names : List (List ℕ)) → Calls → Type 0
+AreReadings files [] calls = calls ≡ []
+AreReadings files (name ∷ names) [] = ⊥
+AreReadings files (name ∷ names) (pieces ∷ calls) = IsReading name 0 pieces × AllShown files name pieces × AreReadings files names calls
 
--- The log's file gives what they answered, where the shelf shows its files.
-abbrev pub IsLogShown : (files : Option (List ℕ → Option (List ℕ))) → (old : Option (List ℕ)) → List Piece → Type 0
-IsLogShown files None calls = Unit {0}
-IsLogShown files (Some name) calls = AllShown files name calls
+-- The files of these names were read by these calls and no others, one file behind the other.
+pub record ReadsFiles (names : List (List ℕ)) (before after : ShelfState) (calls : Calls) : Type 0 where
+  -- the shelf has the files that it had
+  pub same : after.files ≡ before.files
+  -- these calls were answered
+  pub answered : after.pieces ≡ before.pieces ++ in_turn calls
+  -- each file is read on
+  pub readings : AreReadings before.files names calls
+
+-- the log's name, if one is named
+abbrev pub log_names : (old : Option (List ℕ)) → List (List ℕ)
+log_names None = []
+log_names (Some name) = name ∷ []
 
 -- A file with this content has a session, and the player is one of it.
 pub record HasPlayer (player : ℕ) (content : Option (List ℕ)) : Type 0 where
@@ -42,32 +61,18 @@ pub record HasPlayer (player : ℕ) (content : Option (List ℕ)) : Type 0 where
   pub read : game_at (front_of content) ≡ Ok game
   pub player_is : player < players_of game
 
--- The files of a session and perhaps of a log were read by these calls and no others.
-pub record ReadsFiles (session : List ℕ) (player : ℕ) (old : Option (List ℕ)) (before after : ShelfState) (calls : Calls) : Type 0 where
-  -- the shelf has the files that it had
-  pub same : after.files ≡ before.files
-  -- the session's file is read first, and then the log's
-  pub answered : after.pieces ≡ before.pieces ++ (calls.session ++ calls.log)
-  -- each from its front on, and no further behind its end or a fault
-  pub session_read : IsReading session 0 calls.session
-  pub log_read : IsLogReading old calls.log
-  -- the log's only where there is a session and the player is one of it
-  pub log_due : (content : Option (List ℕ)) → AllGive content calls.session → (calls.log ≡ []) ⊎ HasPlayer player content
-  -- where the shelf shows its files, what they give was answered
-  pub session_shown : AllShown before.files session calls.session
-  pub log_shown : IsLogShown before.files old calls.log
+-- The log's file is read only where there is a session and the player is one of it.
+abbrev pub IsLogDue : (player : ℕ) → Calls → Type 0
+IsLogDue player calls = (session : Option (List ℕ)) → AllGive session (item_or calls 0 []) → (item_or calls 1 [] ≡ []) ⊎ HasPlayer player session
 
--- The file of a session was read by these calls and no others.
-pub record ReadsSession (session : List ℕ) (before after : ShelfState) (calls : Calls) : Type 0 where
-  -- the shelf has the files that it had
-  pub same : after.files ≡ before.files
-  -- no other file is read
-  pub answered : after.pieces ≡ before.pieces ++ calls.session
-  pub none : calls.log ≡ []
-  -- it is read from its front on, and no further behind its end or a fault
-  pub session_read : IsReading session 0 calls.session
-  -- where the shelf shows its files, what it gives was answered
-  pub session_shown : AllShown before.files session calls.session
+-- A file with this content has a session.
+pub record HasGame (content : Option (List ℕ)) : Type 0 where
+  pub game : Game
+  pub read : game_at (front_of content) ≡ Ok game
+
+-- The second file is read only where the first one has a session.
+abbrev pub IsSecondDue : Calls → Type 0
+IsSecondDue calls = (session : Option (List ℕ)) → AllGive session (item_or calls 0 []) → (item_or calls 1 [] ≡ []) ⊎ HasGame session
 
 -- The session of a file was read.
 pub record OpensSession (before after : ShelfState) (name : List ℕ) (session : Result Game Status) : Type 0 where
@@ -89,6 +94,20 @@ pub record BeginsPeer (before after : ShelfState) (game : Game) (player : ℕ) (
 -- A player of a file's session was begun with, from the log in the other file on, if one is named.
 pub record OpensPeer (before after : ShelfState) (session : List ℕ) (player : ℕ) (old : Option (List ℕ)) (start : Result Resumed Status) : Type 0 where
   pub calls : Calls
-  pub reads : ReadsFiles session player old before after calls
+  pub reads : ReadsFiles (session ∷ log_names old) before after calls
+  pub log_due : IsLogDue player calls
   pub counted : after.faults ≡ faults_behind (is_shelf_fault start) before.faults
-  pub due : (contents : Contents) → AreContents contents calls → IsStartFor player (beginning_for player contents.session (option_map (λ name. contents.log) old)) start
+  pub due : (contents : Contents) → AreContents contents calls → IsStartFor player (beginning_for player (content contents 0) (option_map (λ name. content contents 1) old)) start
+
+-- The exhibit of a file was read.
+pub record OpensExhibit (before after : ShelfState) (name : List ℕ) (exhibit : Result Exhibit Status) : Type 0 where
+  pub fetched : Fetched before after name (is_shelf_fault exhibit)
+  pub due : (content : Option (List ℕ)) → AllGive content (since before.pieces after.pieces) → IsExhibitDue (exhibit_in content) exhibit
+
+-- A session and an exhibit were read, each from its file.
+pub record OpensCase (before after : ShelfState) (session evidence : List ℕ) (case : Result (Game × Exhibit) Status) : Type 0 where
+  pub calls : Calls
+  pub reads : ReadsFiles (session ∷ evidence ∷ []) before after calls
+  pub second_due : IsSecondDue calls
+  pub counted : after.faults ≡ faults_behind (is_shelf_fault case) before.faults
+  pub due : (contents : Contents) → AreContents contents calls → IsCaseDue (case_for (content contents 0) (content contents 1)) case

@@ -1,5 +1,7 @@
 pub mod Words
 pub mod Games
+pub mod Exhibits
+pub mod Cases
 pub mod Files
 pub mod Commands
 pub mod Causes

@@ -4,6 +4,7 @@ use Rattle.std.specs.List.{list_all}
 use Rattle.std.specs.Str.{is_utf8}
 use Rattle.drive_command.specs.Words.{Driving, driving_in, driving_said}
 use Rattle.upgrade_command.specs.Words.{upgrading_in}
+use Rattle.judge_command.specs.Words.{Judging, judging_in, judging_said}
 use Rattle.peer_cli.specs.declared.words.Command.{Command as CommandWords}
 use Rattle.peer_cli.specs.declared.words.Command.TheVariants as said
 
@@ -13,11 +14,14 @@ pub data Command : Type 0 where
   Drive : Driving → Command
   -- the session of this file is printed in version 2
   Upgrade : (session : List ℕ) → Command
+  -- the exhibit of a file is judged in the session of another
+  Judge : Judging → Command
 
 -- the command that the words say
 abbrev pub command_said : CommandWords → Command
 command_said (said.Drive driving) = Drive (driving_said driving)
 command_said (said.Upgrade session) = Upgrade session.now
+command_said (said.Judge judging) = Judge (judging_said judging)
 
 -- the word begins with `-`
 abbrev pub begins_with_dash : List ℕ → Bool
@@ -33,6 +37,7 @@ abbrev pub command_named : (name : List ℕ) → (words : List (List ℕ)) → O
 command_named name words =
     if bytes_eq name (codes "drive") then option_map Drive (driving_in words)
     else if bytes_eq name (codes "upgrade") then option_map Upgrade (upgrading_in words)
+    else if bytes_eq name (codes "judge") then option_map Judge (judging_in words)
     else None
 
 -- the command of these words: its name, and then its own words

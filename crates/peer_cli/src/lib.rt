@@ -9,6 +9,8 @@
 #![tactic(auto)]
 
 mod driving;
+mod exhibits;
+mod judging;
 mod memory;
 mod old_logs;
 mod peers;

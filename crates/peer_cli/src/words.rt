@@ -6,6 +6,7 @@ ghost use Rattle.std.specs.Str.{is_utf8};
 ghost use Rattle.peer_cli.specs.Words as W;
 
 use drive_command::{DriveWords, read_drive_words};
+use judge_command::{JudgeWords, read_judge_words};
 use std::str::from_utf8;
 use upgrade_command::read_upgrade_words;
 
@@ -16,6 +17,8 @@ pub(crate) enum Command<'a> {
     Drive(DriveWords<'a>),
     /// The session of this file is printed in version 2.
     Upgrade(&'a [u8]),
+    /// The exhibit of a file is judged.
+    Judge(JudgeWords<'a>),
 }
 
 /// Whether the bytes are UTF-8.
@@ -64,6 +67,9 @@ fn read_named<'a>(name: &[u8], words: &'a [Vec<u8>]) -> Option<Command<'a>>
     } else if name == b"upgrade".as_slice() {
         let session = read_upgrade_words(words)?;
         Some(Command::Upgrade(session))
+    } else if name == b"judge".as_slice() {
+        let words = read_judge_words(words)?;
+        Some(Command::Judge(words))
     } else {
         None
     }

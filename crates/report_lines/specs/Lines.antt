@@ -11,9 +11,6 @@ use Rattle.definitions.specs.declared.frames.What.TheVariants.{Commit, Reveal}
 use Rattle.definitions.specs.declared.answers.Need.{Need}
 use Rattle.definitions.specs.declared.answers.OwnFault.{OwnFault}
 use Rattle.definitions.specs.declared.answers.OwnFault.TheVariants.{NotNow, Illegal}
-use Rattle.definitions.specs.declared.findings.Kind.{Kind}
-use Rattle.definitions.specs.declared.findings.Kind.TheVariants.{TwoCommits, BadOpening, Collision}
-use Rattle.definitions.specs.declared.findings.Kind.TheVariants as K
 use Rattle.definitions.specs.declared.findings.Finding.{Finding}
 use Rattle.definitions.specs.declared.answers.GotAnswer.{GotAnswer}
 use Rattle.definitions.specs.declared.answers.GotAnswer.TheVariants.{Taken, Stashed, Same, Far, Foreign, Closed}
@@ -21,6 +18,7 @@ use Rattle.definitions.specs.declared.answers.GotAnswer.TheVariants as G
 use Rattle.definitions.specs.declared.logs.Entry.{Entry}
 use Rattle.definitions.specs.declared.logs.Entry.TheVariants.{Chose, Made, Got}
 use Rattle.commitment.specs.Spelling.{frame_bytes}
+use Rattle.text_fields.specs.Kinds.{kind_name}
 
 -- the name of what is wrong with a move
 abbrev pub fault_name : MoveFault → List ℕ
@@ -36,13 +34,6 @@ unfoldable pub choice_text : (turn : ℕ) → Option OwnFault → List ℕ
 choice_text turn None = codes "chosen " ++ decimal turn ++ codes "\n"
 choice_text turn (Some NotNow) = codes "not now\n"
 choice_text turn (Some (Illegal fault)) = codes "illegal " ++ fault_name fault ++ codes "\n"
-
--- the name of a kind of finding
-abbrev pub kind_name : Kind → List ℕ
-kind_name TwoCommits = codes "two-commits"
-kind_name BadOpening = codes "bad-opening"
-kind_name Collision = codes "collision"
-kind_name K.Illegal = codes "illegal"
 
 -- what is written about a finding
 unfoldable pub caught_text : Finding → List ℕ

@@ -9,11 +9,11 @@ ghost use Rattle.report_lines.specs.Lines as L;
 use arrayvec::ArrayVec;
 use commitment::put_turn;
 use definitions::{
-    Entry, Finding, GotAnswer, Kind, MoveFault, Need, OwnFault, PlayerId, Track, Turn, TurnFrame,
-    What,
+    Entry, Finding, GotAnswer, MoveFault, Need, OwnFault, PlayerId, Track, Turn, TurnFrame, What,
 };
 use hex::encode_to_slice;
 use itoa::Buffer;
+use text_fields::name_of_kind;
 
 /// The most bytes of a word at the head of a line, its space with it.
 const WORD_ROOM: usize = 16;
@@ -41,18 +41,6 @@ fn name_of_fault(fault: MoveFault) -> &'static [u8]
         MoveFault::StrikeOutside => b"M4",
         MoveFault::StrikeFar => b"M5",
         MoveFault::NoCharge => b"M6",
-    }
-}
-
-/// The name of a kind of finding.
-fn name_of_kind(kind: Kind) -> &'static [u8]
-    ensures { result.now ≡ L.kind_name kind }
-{
-    match kind {
-        Kind::TwoCommits => b"two-commits",
-        Kind::BadOpening => b"bad-opening",
-        Kind::Collision => b"collision",
-        Kind::Illegal => b"illegal",
     }
 }
 

@@ -2,4 +2,5 @@ pub mod Numbers
 pub mod Cells
 pub mod Hexes
 pub mod Spelling
+pub mod Kinds
 pub mod Laws

@@ -1,0 +1,106 @@
+-- What is spelled is read: the text of an exhibit is read as that exhibit.
+use Rattle.std.proofs.Common.{◌≡◌, ℕ, suc, ◌+◌, ◌^◌, ◌≤◌, ◌<◌, true, false, List, [], ◌∷◌, ◌++◌, length, Ok, refl, ap, ◌∙◌, arith, inl, inr}
+use Rattle.std.specs.Prelude.{codes, ◌==◌, ◌&&◌, nat_le}
+use Rattle.std.specs.List.{list_all}
+use Rattle.std.specs.Char.{is_ascii_digit}
+use Rattle.std.proofs.lemmas.Bool.{and_parts, or_cases, leb-true, ne_eqb, lt-ltb}
+use Rattle.hex.specs.Hex.{encode_lower}
+use Rattle.definitions.specs.declared.frames.TurnFrame.{TurnFrame}
+use Rattle.definitions.specs.declared.findings.Kind.{Kind}
+use Rattle.definitions.specs.declared.findings.Kind.TheVariants.{TwoCommits, BadOpening, Collision, Illegal}
+use Rattle.definitions.specs.declared.limits.TheConstants.{GREATEST_PLAYER, MOST_EVIDENCE_FRAMES}
+use Rattle.definitions.specs.Lists.{EachIs}
+use Rattle.commitment.specs.Spelling.{frame_bytes}
+use Rattle.text_lines.specs.Lines.{line_of, ended_lines_of, joined}
+use Rattle.text_lines.proofs.Joined.{has_no_lf, ended_lines_of-line}
+use Rattle.text_fields.specs.Hexes.{is_lower_digit}
+use Rattle.text_fields.proofs.Digits.{digits_lower}
+use Rattle.evidence.specs.declared.exhibit.Exhibit.{Exhibit}
+use Rattle.evidence.specs.Text.{IsExhibit, FitsText, kind_line, frame_line, head_lines, frame_lines, exhibit_lines, exhibit_text}
+use Rattle.evidence.specs.Reading.{head_at, frame_at, frames_at, said_by}
+use Rattle.evidence.proofs.Steps.{number_said-spelled, kind_said-spelled, frame_said-spelled}
+
+pub head_again : (q t : ℕ) (kind : Kind) (rest : List (List ℕ)) → q ≤ GREATEST_PLAYER → t < 2 ^ 32 → head_at (head_lines q t kind ++ rest) ≡ Ok (record { player = q; turn = t; kind = kind }, rest)
+unfolding head_at
+head_again q t kind rest player turn =
+    rw (
+      number_said-spelled (codes "evidence") 1 1 1 (omega arith) (omega arith) (omega arith),
+      number_said-spelled (codes "player") 0 GREATEST_PLAYER q (omega arith) player (omega (arith, player)),
+      number_said-spelled (codes "turn") 0 4294967295 t (omega arith) (omega (arith, turn)) turn,
+      kind_said-spelled kind,
+    ) refl
+
+frame_again : (count : ℕ) (f : TurnFrame) → count < MOST_EVIDENCE_FRAMES → FitsText f → frame_at count (frame_line f) ≡ Ok f
+unfolding frame_at
+frame_again count f few fits = rw (lt-ltb count MOST_EVIDENCE_FRAMES few, frame_said-spelled f fits) refl
+
+pub frames_again : (count : ℕ) (fs : List TurnFrame) → 0 < count + length fs → count + length fs ≤ MOST_EVIDENCE_FRAMES → EachIs FitsText fs → frames_at count (frame_lines fs) ≡ Ok fs
+unfolding frames_at
+frames_again count [] some few fits =
+    let other : (count == 0) ≡ false = ne_eqb count 0 (λ e. absurd (omega arith)) in
+    rw other refl
+frames_again count (f ∷ fs) some few fits =
+    rw (frame_again count f (omega arith) fits.0, frames_again (suc count) fs (omega arith) (omega arith) fits.1) refl
+
+pub said_again : (x : Exhibit) → IsExhibit x → said_by (exhibit_lines x) ≡ Ok x
+unfolding said_by
+said_again x is =
+    let some = is.some in
+    let few = is.few in
+    rw (head_again x.player x.turn x.kind (frame_lines x.frames) is.player is.turn, frames_again 0 x.frames (omega arith) (omega arith) is.frames) refl
+
+-- ---- the lines of the text
+
+-- it is the first line of each text that it begins
+abbrev IsLine : List ℕ → Type 0
+IsLine line = (rest : List ℕ) → ended_lines_of (line ++ rest) ≡ line ∷ ended_lines_of rest
+
+ended_lines_of-joined : (lines : List (List ℕ)) → EachIs IsLine lines → ended_lines_of (joined lines) ≡ lines
+unfolding ended_lines_of
+ended_lines_of-joined [] each = refl
+ended_lines_of-joined (line ∷ lines) each = each.0 (joined lines) ∙ ap (λ (ls : List (List ℕ)). line ∷ ls) (ended_lines_of-joined lines each.1)
+
+number_line : (name : List ℕ) (n : ℕ) → has_no_lf name ≡ true → n < 2 ^ 32 → IsLine (line_of name (n ∷ []))
+number_line name n plain small rest = ended_lines_of-line name (n ∷ []) rest plain (small, tt)
+
+bare_line : (name : List ℕ) → has_no_lf name ≡ true → IsLine (line_of name [])
+bare_line name plain rest = ended_lines_of-line name [] rest plain tt
+
+kind_is_line : (kind : Kind) → IsLine (kind_line kind)
+kind_is_line TwoCommits = bare_line (codes "kind two-commits") refl
+kind_is_line BadOpening = bare_line (codes "kind bad-opening") refl
+kind_is_line Collision = bare_line (codes "kind collision") refl
+kind_is_line Illegal = bare_line (codes "kind illegal") refl
+
+-- no digit is an LF
+digit_plain : (b : ℕ) → is_lower_digit b ≡ true → (b == 10) ≡ false
+digit_plain b h =
+    elim (or_cases (is_ascii_digit b) (nat_le 97 b && nat_le b 102) h) [
+      | inl low ↦ let least : 48 ≤ b = leb-true 48 b (and_parts _ _ low).0 in ne_eqb b 10 (λ e. absurd (omega arith))
+      | inr high ↦ let least : 97 ≤ b = leb-true 97 b (and_parts (nat_le 97 b) (nat_le b 102) high).0 in ne_eqb b 10 (λ e. absurd (omega arith))
+    ]
+
+digits_plain : (ds : List ℕ) → list_all is_lower_digit ds ≡ true → has_no_lf ds ≡ true
+digits_plain [] all = refl
+digits_plain (d ∷ ds) all =
+    let both = and_parts (is_lower_digit d) (list_all is_lower_digit ds) all in
+    rw (digit_plain d both.0) (digits_plain ds both.1)
+
+frame_is_line : (f : TurnFrame) → FitsText f → IsLine (frame_line f)
+frame_is_line f fits = bare_line (codes "frame " ++ encode_lower (frame_bytes f)) (digits_plain (encode_lower (frame_bytes f)) (digits_lower (frame_bytes f) fits.1))
+
+frames_are_lines : (fs : List TurnFrame) → EachIs FitsText fs → EachIs IsLine (frame_lines fs)
+frames_are_lines [] fits = (bare_line (codes "end") refl, tt)
+frames_are_lines (f ∷ fs) fits = (frame_is_line f fits.0, frames_are_lines fs fits.1)
+
+pub ended_lines_of-exhibit_text : (x : Exhibit) → IsExhibit x → ended_lines_of (exhibit_text x) ≡ exhibit_lines x
+unfolding exhibit_text
+ended_lines_of-exhibit_text x is =
+    let player = is.player in
+    ended_lines_of-joined (exhibit_lines x) (
+      number_line (codes "evidence") 1 refl (omega arith),
+      (
+        number_line (codes "player") x.player refl (omega arith),
+        (number_line (codes "turn") x.turn refl is.turn, (kind_is_line x.kind, frames_are_lines x.frames is.frames)),
+      ),
+    )

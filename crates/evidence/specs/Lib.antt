@@ -1,0 +1,6 @@
+pub mod Judging
+pub mod Text
+pub mod Reading
+pub mod Answers
+pub mod Showing
+pub mod Laws

@@ -1,0 +1,33 @@
+//! Laws of evidence: functions that do nothing, whose clauses are proved.
+
+ghost use Rattle.evidence.specs.Laws.{FindingsAreShown, FramesOfFindingsStand, ShownFramesConvict, IllegalMovesConvict, ShownFramesAreCounted, ExhibitsAreRead, ExhibitsAreSpelled, ExhibitsFitTheFront};
+
+/// What is found in logs of the session is shown by frames that these logs got: by the two at the finding's spots, and of an
+/// illegal move by those with which the turns before it were resolved, too.
+pub fn findings_are_shown()
+    ensures shown { FindingsAreShown }
+    ensures stand { FramesOfFindingsStand }
+{}
+
+/// Frames that show two commitments, a bad opening or a collision convict their player in all logs in which they stand.
+pub fn shown_frames_convict()
+    ensures { ShownFramesConvict }
+{}
+
+/// Frames that show an illegal move convict their player where all of them stand in one log.
+pub fn illegal_moves_convict()
+    ensures { IllegalMovesConvict }
+{}
+
+/// Two frames show something, or two for each turn up to that of an illegal move: no more than a text may have.
+pub fn shown_frames_are_counted()
+    ensures { ShownFramesAreCounted }
+{}
+
+/// The text of an exhibit is read as that exhibit, a text that is read as one is its text, and each has room in the first
+/// `EVIDENCE_FRONT` bytes of a file.
+pub fn exhibits_are_told()
+    ensures read { ExhibitsAreRead }
+    ensures spelled { ExhibitsAreSpelled }
+    ensures short { ExhibitsFitTheFront }
+{}

@@ -1,0 +1,202 @@
+//! An exhibit is read from its text.
+
+ghost use Rattle.std.specs.Prelude.{◌≡◌, ◌<◌, ◌≤◌, length, option_map, IfOk, IfSome};
+ghost use Rattle.text_lines.specs.Lines.{ended_lines_of};
+ghost use Rattle.text_fields.specs.declared.fault.TextFault.TheVariants.{At};
+ghost use Rattle.evidence.specs.declared.exhibit.Exhibit.{Exhibit};
+ghost use Rattle.evidence.specs.Reading as spec;
+ghost use Rattle.evidence.specs.Reading.{Gives, Says, digits_said, exhibit_at, exhibit_fault, frame_at, frame_said, frames_at, head_at, kind_said, line_at, line_behind, number_said};
+ghost use Rattle.evidence.specs.Answers.{IsReadFrom, IsRead, Faults};
+
+use crate::exhibit::{Exhibit, FrameList};
+use definitions::limits::{GREATEST_PLAYER, LONGEST_LINE, MOST_EVIDENCE_FRAMES};
+use definitions::{Kind, PlayerId, Turn, TurnFrame};
+use std::alloc::Global;
+use text_fields::{TextFault, read_frame};
+use text_lines::{is_last_line, one_of, take_line};
+
+/// What the lines before those of the frames say.
+#[derive(Clone, Copy)]
+struct Head {
+    player: PlayerId,
+    turn: Turn,
+    kind: Kind,
+}
+
+/// The number of a line of this name that has one, from `low` to `high`.
+fn number_of(name: &[u8], low: u32, high: u32, line: &[u8]) -> Option<u32>
+    ensures said { result ≡ number_said name.now low high line.now }
+    ensures within { IfSome result (λ n. n ≤ high) }
+{
+    let number = one_of(name, line)?;
+    if low <= number && number <= high {
+        Some(number)
+    } else {
+        None
+    }
+}
+
+/// The number of line `n`, which has this name and one number from `low` to `high`, and the text behind the line.
+fn number_at<'a>(
+    n: u32,
+    name: &[u8],
+    low: u32,
+    high: u32,
+    text: &'a [u8],
+) -> Result<(u32, &'a [u8]), TextFault>
+    requires { 0 < length name.now }
+    ensures said { Says (λ x. (x.0, ended_lines_of x.1.now)) result (line_at n (number_said name.now low high) (ended_lines_of text.now)) }
+    ensures within { IfOk result (λ x. x.0 ≤ high) }
+{
+    let (line, rest) = take_line(text);
+    match number_of(name, low, high, line) {
+        None => Err(TextFault::At(n)),
+        Some(number) => Ok((number, rest)),
+    }
+}
+
+/// The kind that a line says.
+fn kind_of(line: &[u8]) -> Option<Kind>
+    ensures { result ≡ kind_said line.now }
+{
+    if line == b"kind two-commits\n".as_slice() {
+        Some(Kind::TwoCommits)
+    } else if line == b"kind bad-opening\n".as_slice() {
+        Some(Kind::BadOpening)
+    } else if line == b"kind collision\n".as_slice() {
+        Some(Kind::Collision)
+    } else if line == b"kind illegal\n".as_slice() {
+        Some(Kind::Illegal)
+    } else {
+        None
+    }
+}
+
+/// The kind that line 4 says, and the text behind the line.
+fn kind_at(text: &[u8]) -> Result<(Kind, &[u8]), TextFault>
+    ensures { Says (λ x. (x.0, ended_lines_of x.1.now)) result (line_at 4 kind_said (ended_lines_of text.now)) }
+{
+    let (line, rest) = take_line(text);
+    match kind_of(line) {
+        None => Err(TextFault::At(4)),
+        Some(kind) => Ok((kind, rest)),
+    }
+}
+
+/// What lines 1 to 4 say, and the text behind them.
+#[tactic(auto, unfolding(crate::specs::Reading::head_at))]
+fn read_head(text: &[u8]) -> Result<(Head, &[u8]), TextFault>
+    ensures { Says (λ x. (record { player = x.0.player; turn = x.0.turn; kind = x.0.kind }, ended_lines_of x.1.now)) result (head_at (ended_lines_of text.now)) }
+{
+    let (_version, rest) = number_at(1, b"evidence", 1, 1, text)?;
+    let (player, rest) = number_at(2, b"player", 0, GREATEST_PLAYER.into(), rest)?;
+    let (turn, rest) = number_at(3, b"turn", 0, u32::MAX, rest)?;
+    let (kind, rest) = kind_at(rest)?;
+    let head = Head {
+        player: player as u8,
+        turn,
+        kind,
+    };
+    Ok((head, rest))
+}
+
+/// The digits of a frame's line.
+fn digits_of(line: &[u8]) -> Option<&[u8]>
+    ensures { option_map (λ d. d.now) result ≡ digits_said line.now }
+{
+    line.strip_prefix(b"frame ")?.strip_suffix(b"\n")
+}
+
+/// The frame that a line says.
+#[tactic(auto, unfolding(crate::specs::Reading::frame_said))]
+fn frame_of(line: &[u8]) -> Option<TurnFrame>
+    ensures { result ≡ frame_said line.now }
+{
+    let digits = digits_of(line)?;
+    if digits.len() > LONGEST_LINE {
+        return None;
+    }
+    read_frame(digits)
+}
+
+/// The number of the line behind so many frames.
+fn number_behind(count: usize) -> u32
+    requires { count ≤ MOST_EVIDENCE_FRAMES }
+    ensures { result ≡ line_behind count }
+{
+    count as u32 + 5
+}
+
+/// The frame of a line behind so many frames.
+#[tactic(auto, unfolding(crate::specs::Reading::frame_at))]
+fn frame_behind(count: usize, line: &[u8]) -> Result<TurnFrame, TextFault>
+    requires { count ≤ MOST_EVIDENCE_FRAMES }
+    ensures said { Says (λ x. x) result (frame_at count line.now) }
+    ensures few { IfOk result (λ _. count < MOST_EVIDENCE_FRAMES) }
+{
+    match frame_of(line) {
+        Some(frame) if count < MOST_EVIDENCE_FRAMES => Ok(frame),
+        _ => Err(TextFault::At(number_behind(count))),
+    }
+}
+
+/// Whether the line behind so many frames is `end`. Before any frame none is.
+fn is_end(count: usize, line: &[u8]) -> bool
+    ensures { result ≡ spec.is_end count line.now }
+{
+    is_last_line(line) && count != 0
+}
+
+/// The frames that lines 5 and on say, up to `end`, the last line.
+fn frames_of(alloc: Global, text: &[u8]) -> Result<Vec<TurnFrame>, TextFault>
+    ensures { Gives (λ v. v.items) result (frames_at 0 (ended_lines_of text.now)) }
+{
+    let mut frames = Vec::new(alloc);
+    let mut rest = text;
+    while !rest.is_empty() {
+        let (line, after) = take_line(rest);
+        if is_end(frames.len(), line) {
+            if after.is_empty() {
+                return Ok(frames);
+            }
+            return Err(TextFault::At(number_behind(frames.len()) + 1));
+        }
+        let frame = frame_behind(frames.len(), line)?;
+        frames.push(frame)?;
+        rest = after;
+    }
+    Err(TextFault::At(number_behind(frames.len())))
+}
+
+/// The exhibit of a text, or the first line at fault.
+#[tactic(auto, unfolding(crate::specs::Reading::exhibit_at, crate::specs::Reading::said_by))]
+fn exhibit_of(alloc: Global, text: &[u8]) -> Result<Exhibit, TextFault>
+    ensures { Gives (λ x. x) result (exhibit_at text.now) }
+{
+    let (head, rest) = read_head(text)?;
+    let frames = frames_of(alloc, rest)?;
+    Ok(Exhibit {
+        player: head.player,
+        turn: head.turn,
+        kind: head.kind,
+        frames: FrameList::new(frames),
+    })
+}
+
+/// Reads an exhibit from its text: `evidence 1`, the player's number, the turn's, the kind, a line for each frame, and `end`.
+///
+/// `At` names the first line that is not in this grammar: one of another form, a player above `GREATEST_PLAYER`, `end` before any
+/// frame, the frame behind `MOST_EVIDENCE_FRAMES`, a line that is missing or stands behind `end`. `Memory` comes only where memory
+/// runs out. Whether the frames show anything is not asked here, but by `judge`.
+pub fn read_exhibit(alloc: Global, text: &[u8]) -> Result<Exhibit, TextFault>
+    // What is read has this text and no other.
+    ensures found { IfOk result (λ x. IsReadFrom x text.now) }
+    // Each text of an exhibit is read as that exhibit, unless memory runs out.
+    ensures only { (x : Exhibit) → IsReadFrom x text.now → IsRead x result }
+    // Which line is at fault.
+    ensures exact { Faults result (exhibit_fault text.now) }
+    // All of it once more, as the text is read line by line.
+    ensures said { Gives (λ x. x) result (exhibit_at text.now) }
+{
+    exhibit_of(alloc, text)
+}

@@ -1,0 +1,102 @@
+-- Alone: a run of a command that leaves its input alone.
+use Rattle.std.proofs.Common.{◌≡◌, inl, inr, [], Some, refl, ap, sym, ◌∙◌, subst}
+use Rattle.station.specs.Outside.{Rose, faults_behind}
+use Rattle.station.specs.Shelves.{ShelfState}
+use Rattle.station.specs.Since.{grows_none}
+use Rattle.station.specs.Sinks.{SinkState, after_bytes}
+use Rattle.station.specs.Sources.{SourceState}
+use Rattle.line_io.specs.Inputs.{AtEnd, Input, input_of}
+use Rattle.line_io.proofs.Writing.{bytes_none}
+use Rattle.run_frame.specs.Frame.{Answer, OnDone, Ran, bare_answer, is_input_fault}
+use Rattle.run_frame.specs.declared.statuses.Status.{Status}
+use Rattle.run_frame.specs.declared.statuses.Status.TheVariants.{BadLine, BadSession, Done, InputFault, NoMemory, OutputFault}
+use Rattle.peer_cli.specs.Commands.{ReadsFor, ReadsThrough, answer_of}
+use Rattle.peer_cli.specs.Files.{AreContents, Calls, Contents}
+use Rattle.peer_cli.specs.Outside.{CountsFaults}
+use Rattle.peer_cli.specs.Runs.{Works}
+use Rattle.peer_cli.specs.Words.{Command}
+use Rattle.peer_cli.proofs.Counts.{where_no_memory}
+use Rattle.peer_cli.proofs.Running.{contents_fit, no_command, some_contents}
+
+-- what is asked of the input at the end is nothing
+pub on_done : (s : Status) → OnDone s (Unit {0})
+on_done Done = tt
+on_done s = tt
+
+-- where neither the source nor the shelf can have failed, it is as if they could
+ran_weaker : (a b : SinkState) (due : Answer) (source shelf : Type 0) (s : Status) → Ran a b due ⊥ ⊥ s → Ran a b due source shelf s
+ran_weaker a b due source shelf NoMemory r = r
+ran_weaker a b due source shelf InputFault (inl r) = absurd r.0
+ran_weaker a b due source shelf InputFault (inr r) = absurd r.0
+ran_weaker a b due source shelf OutputFault r = r
+ran_weaker a b due source shelf s r = r
+
+-- The answer is this refusal, which is told before anything is written; of want of memory and of a fault of the shelf nothing is said.
+abbrev pub IsRefused : Answer → Status → Type 0
+IsRefused due NoMemory = Unit {0}
+IsRefused due InputFault = Unit {0}
+IsRefused due (BadSession line what) = due ≡ bare_answer (BadSession line what)
+IsRefused due (BadLine text line) = due ≡ bare_answer (BadLine text line)
+IsRefused due status = ⊥
+
+module _ (i : SourceState) (a b : SinkState) (h h' : ShelfState) where
+  ran_counts : (due : Answer) (s : Status) → h'.faults ≡ h.faults → Ran a b due ⊥ ⊥ s →
+      CountsFaults (record { input = i; output = a; shelf = h }) (record { input = i; output = b; shelf = h' }) s
+  ran_counts due NoMemory f r = (record { source = refl; files = f }, ap (λ (s : SinkState). s.faults) r)
+  ran_counts due InputFault f (inl r) = absurd r.0
+  ran_counts due InputFault f (inr r) = absurd r.0
+  ran_counts due OutputFault f r = (inl (record { source = refl; files = f }), r.rose)
+  ran_counts due s f r = (record { source = refl; files = f }, ap (λ (s : SinkState). s.faults) r.0)
+
+  refused_ran : (due : Answer) (source shelf : Type 0) (s : Status) → IsRefused due s → (s ≡ InputFault → shelf) → Ran a a due source shelf s
+  refused_ran due source shelf NoMemory d c = refl
+  refused_ran due source shelf InputFault d c = inl (c refl, refl)
+  refused_ran due source shelf (BadSession line what) d c = (sym (bytes_none a) ∙ ap (λ (x : Answer). after_bytes a x.body) (sym d), ap (λ (x : Answer). x.status) (sym d))
+  refused_ran due source shelf (BadLine text line) d c = (sym (bytes_none a) ∙ ap (λ (x : Answer). after_bytes a x.body) (sym d), ap (λ (x : Answer). x.status) (sym d))
+  refused_ran due source shelf s d c = absurd d
+
+  refused_counts : (due : Answer) (s : Status) → IsRefused due s → h'.faults ≡ faults_behind (is_input_fault s) h.faults →
+      CountsFaults (record { input = i; output = a; shelf = h }) (record { input = i; output = a; shelf = h' }) s
+  refused_counts due NoMemory d e = (record { source = refl; files = e }, refl)
+  refused_counts due InputFault d e = (inr (refl, e), refl)
+  refused_counts due (BadSession line what) d e = (record { source = refl; files = e }, refl)
+  refused_counts due (BadLine text line) d e = (record { source = refl; files = e }, refl)
+  refused_counts due s d e = absurd d
+
+refused_done : (due : Answer) (s : Status) (P : Type 0) → IsRefused due s → OnDone s P
+refused_done due Done P d = absurd d
+refused_done due s P d = tt
+
+module _ (command : Command) (i : SourceState) (a : SinkState) (h h' : ShelfState) (alone : Type 0) (left : alone) (calls : Calls) (files : ReadsFor (Some command) h h' calls) where
+  -- the answer is told
+  pub told_works : (b : SinkState) (due : Answer) (s : Status) → ((contents : Contents) (input : Input) → AreContents contents calls → answer_of (Some command) contents input ≡ due) →
+      h'.faults ≡ h.faults → Ran a b due ⊥ ⊥ s → OnDone s (ReadsThrough (Some command) i.ended) →
+      Works (record { command = Some command; before = record { input = i; output = a; shelf = h }; after = record { input = i; output = b; shelf = h' } }) alone s
+  told_works b due s is f r over = record {
+    calls = calls;
+    files = files;
+    input = record { same = refl; grows = grows_none i.seen };
+    text = λ contents behind m.
+        subst (λ (d : Answer). Ran a b d (Rose i.faults i.faults) (Rose h.faults h'.faults × alone) s) (sym (is contents _ m.given)) (ran_weaker a b due (Rose i.faults i.faults) (Rose h.faults h'.faults × alone) s r);
+    usage = no_command command _;
+    faults = ran_counts i a b h h' due s f r;
+    untouched = record { over = λ contents behind m over. left; no_memory = where_no_memory s alone left };
+    over = over;
+  }
+
+  -- the run is refused
+  pub refused_works : (s : Status) → ((contents : Contents) (input : Input) → AreContents contents calls → IsRefused (answer_of (Some command) contents input) s) →
+      h'.faults ≡ faults_behind (is_input_fault s) h.faults →
+      Works (record { command = Some command; before = record { input = i; output = a; shelf = h }; after = record { input = i; output = a; shelf = h' } }) alone s
+  refused_works s is f =
+      let some : IsRefused (answer_of (Some command) (some_contents calls) (input_of AtEnd [])) s = is (some_contents calls) (input_of AtEnd []) (contents_fit (Some command) h h' calls files) in
+      record {
+        calls = calls;
+        files = files;
+        input = record { same = refl; grows = grows_none i.seen };
+        text = λ contents behind m. refused_ran i a a h h' _ _ _ s (is contents _ m.given) (λ e. (f ∙ ap (λ x. faults_behind x h.faults) (ap is_input_fault e), left));
+        usage = no_command command _;
+        faults = refused_counts i a a h h' _ s some f;
+        untouched = record { over = λ contents behind m over. left; no_memory = where_no_memory s alone left };
+        over = refused_done _ s (ReadsThrough (Some command) i.ended) some;
+      }
