@@ -4,7 +4,7 @@ use Rattle.std.specs.Prelude.{Option, Some, None, not, bytes_eq, IsTrue}
 use Rattle.std.specs.Cmp.Lexicographic.{same_text}
 use Rattle.std.proofs.Math.Seq.{take-add}
 use Rattle.std.proofs.lemmas.Bool.{and_from, eq-eqb, le-ltb, ltb-false, not-false}
-use Rattle.std.proofs.lemmas.List.{take_at, drop_at}
+use Rattle.std.proofs.lemmas.List.{take_at, drop_at, take-append-le, drop-append-le, length-drop}
 use Rattle.sha2.specs.Sha256.{sha256, digest_bytes}
 use Rattle.definitions.specs.declared.logs.Entry.{Entry}
 use Rattle.definitions.specs.Entries.{is_well_formed}
@@ -15,7 +15,7 @@ use Rattle.session_log.specs.Spelling.{body_of, entry_text, chained, entry_bytes
 use Rattle.session_log.specs.Entries.{told_len, entry_of}
 use Rattle.session_log.specs.Finding.{text_at, digest_at, is_torn, is_unchained, owned_by, entry_at}
 use Rattle.session_log.specs.Laws.{AreBytes}
-use Rattle.session_log.proofs.Texts.{entry_read, entry_spelled, told_len-text, length-entry_text}
+use Rattle.session_log.proofs.Texts.{entry_read, entry_spelled, told_len-text, told_more, length-entry_text}
 use Rattle.plain_lemmas.proofs.Lists.{take_bytes}
 
 pub length-sha256 : (m : List ℕ) → length (sha256 m) ≡ 32
@@ -103,3 +103,61 @@ found_stands game me chain bytes e count digest b q =
       fits = let c = o.counted in omega arith;
       some = omega arith;
     }
+
+-- the number of an entry's bytes, and its digest
+pub found_count : (game : Game) (me : ℕ) (chain bytes : List ℕ) (e : Entry) (count : ℕ) (digest : List ℕ) → entry_at game me chain bytes ≡ Whole e count digest →
+    (count ≡ told_len bytes + 35) × (digest ≡ digest_at bytes)
+unfolding entry_at
+found_count game me chain bytes e count digest q =
+    let whole = tried_not (is_torn bytes) Torn _ e count digest (λ t. cc) q in
+    let linked = tried_not (is_unchained chain bytes) BadChain _ e count digest (λ b. cc) whole.1 in
+    let o = owned_so game me (entry_of (text_at bytes)) (told_len bytes + 35) (digest_at bytes) e count digest linked.1 in
+    (sym o.counted, sym o.same)
+
+-- ---- what stands there, where more bytes follow
+
+owned_not_torn : (game : Game) (me : ℕ) (o : Option Entry) (n : ℕ) (d : List ℕ) → owned_by game me o n d ≡ Torn → ⊥
+owned_not_torn game me None n d q = absurd cc
+owned_not_torn game me (Some f) n d q = go (is_well_formed game me f) q
+  where
+    go : (b : Bool) → cond b (Whole f n d) BadEntry ≡ Torn → ⊥
+    go true h = absurd cc
+    go false h = absurd cc
+
+untorn : (b c : Bool) (x : Found) → (x ≡ Torn → ⊥) → cond b Torn (cond c BadChain x) ≡ Torn → b ≡ true
+untorn true c x other q = refl
+untorn false true x other q = absurd cc
+untorn false false x other q = absurd (other q)
+
+-- less than an entry stands there exactly where the bytes end before it does
+pub torn_found : (game : Game) (me : ℕ) (chain bytes : List ℕ) → entry_at game me chain bytes ≡ Torn → is_torn bytes ≡ true
+unfolding entry_at
+torn_found game me chain bytes q = untorn (is_torn bytes) (is_unchained chain bytes) _ (owned_not_torn game me (entry_of (text_at bytes)) (told_len bytes + 35) (digest_at bytes)) q
+
+pub found_torn : (game : Game) (me : ℕ) (chain bytes : List ℕ) → is_torn bytes ≡ true → entry_at game me chain bytes ≡ Torn
+unfolding entry_at
+found_torn game me chain bytes t = rw t refl
+
+-- where an entry's bytes are there, it doesn't matter what follows
+pub digest_more : (bytes rest : List ℕ) → is_torn bytes ≡ false → digest_at (bytes ++ rest) ≡ digest_at bytes
+digest_more bytes rest whole =
+    let long : told_len bytes + 35 ≤ length bytes = ltb-false (length bytes) (told_len bytes + 35) whole in
+    let told : told_len (bytes ++ rest) ≡ told_len bytes = told_more bytes rest (omega arith) in
+    let left = length-drop (told_len bytes + 3) bytes in
+    ap (λ n. take 32 (drop (n + 3) (bytes ++ rest))) told ∙ ap (take 32) (drop-append-le (told_len bytes + 3) bytes rest (omega arith)) ∙ take-append-le 32 (drop (told_len bytes + 3) bytes) rest (omega arith)
+
+pub found_more : (game : Game) (me : ℕ) (chain bytes rest : List ℕ) → is_torn bytes ≡ false → entry_at game me chain (bytes ++ rest) ≡ entry_at game me chain bytes
+unfolding entry_at
+found_more game me chain bytes rest whole =
+    let long : told_len bytes + 35 ≤ length bytes = ltb-false (length bytes) (told_len bytes + 35) whole in
+    let both = length-append bytes rest in
+    let told : told_len (bytes ++ rest) ≡ told_len bytes = told_more bytes rest (omega arith) in
+    let still : is_torn (bytes ++ rest) ≡ false = le-ltb (length (bytes ++ rest)) (told_len (bytes ++ rest) + 35) (omega arith) in
+    let text : text_at (bytes ++ rest) ≡ text_at bytes = ap (λ n. take (n + 3) (bytes ++ rest)) told ∙ take-append-le (told_len bytes + 3) bytes rest (omega arith) in
+    let digest : digest_at (bytes ++ rest) ≡ digest_at bytes = digest_more bytes rest whole in
+    let linked : is_unchained chain (bytes ++ rest) ≡ is_unchained chain bytes
+    = ap (λ xs. not (bytes_eq xs (chained chain (text_at (bytes ++ rest))))) digest ∙ ap (λ xs. not (bytes_eq (digest_at bytes) (chained chain xs))) text in
+    rw (still, whole) (ap (λ b. cond b BadChain (owned_by game me (entry_of (text_at (bytes ++ rest))) (told_len (bytes ++ rest) + 35) (digest_at (bytes ++ rest)))) linked
+    ∙ ap (λ xs. cond (is_unchained chain bytes) BadChain (owned_by game me (entry_of xs) (told_len (bytes ++ rest) + 35) (digest_at (bytes ++ rest)))) text
+    ∙ ap (λ n. cond (is_unchained chain bytes) BadChain (owned_by game me (entry_of (text_at bytes)) (n + 35) (digest_at (bytes ++ rest)))) told
+    ∙ ap (λ xs. cond (is_unchained chain bytes) BadChain (owned_by game me (entry_of (text_at bytes)) (told_len bytes + 35) xs)) digest)

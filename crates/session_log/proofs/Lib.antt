@@ -2,3 +2,8 @@ pub mod Putting
 pub mod Texts
 pub mod Found
 pub mod Logs
+pub mod Keeping
+pub mod Parts
+pub mod Feeds
+pub mod Unread
+pub mod Pieces

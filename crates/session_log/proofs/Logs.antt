@@ -34,7 +34,7 @@ log_written id owner (e ∷ entries) =
 
 -- ---- a log is read
 
-abbrev reading : ℕ → ℕ → List ℕ → LogReading
+abbrev pub reading : ℕ → ℕ → List ℕ → LogReading
 reading me at chain = record { owner = Some me; at = at; chain = chain; said = None }
 
 -- how reading ends
@@ -51,14 +51,14 @@ read_step game bytes most r s e entries step behind =
     let on : Step → ReadLog = λ t. read_on t.answer t.reader (read_by game bytes most t.reader) in
     subst (λ (l : ReadLog). Ends l (e ∷ entries)) (sym (ap on step)) (ap (λ xs. e ∷ xs) behind.0, behind.1)
 
-further_is : (game : Game) (bytes : List ℕ) (me at : ℕ) (chain : List ℕ) (f : Found) → at < length bytes → entry_at game me chain (drop at bytes) ≡ f →
+pub further_is : (game : Game) (bytes : List ℕ) (me at : ℕ) (chain : List ℕ) (f : Found) → at < length bytes → entry_at game me chain (drop at bytes) ≡ f →
     next_step game bytes (reading me at chain) ≡ step_on (reading me at chain) me at f
 unfolding next_step
 further_is game bytes me at chain f lt e =
     let t : nat_le (length bytes) at ≡ false = lt-leb (length bytes) at lt in
     rw t (ap (step_on (reading me at chain) me at) e)
 
-end_is : (game : Game) (bytes : List ℕ) (me at : ℕ) (chain : List ℕ) → length bytes ≤ at → next_step game bytes (reading me at chain) ≡ ended (reading me at chain) next.End
+pub end_is : (game : Game) (bytes : List ℕ) (me at : ℕ) (chain : List ℕ) → length bytes ≤ at → next_step game bytes (reading me at chain) ≡ ended (reading me at chain) next.End
 unfolding next_step
 end_is game bytes me at chain le = let t : nat_le (length bytes) at ≡ true = le-leb (length bytes) at le in rw t refl
 

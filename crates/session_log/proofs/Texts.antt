@@ -1,8 +1,9 @@
 -- Texts: an entry's text is read as the entry, and what is read has the text.
-use Rattle.std.proofs.Common.{◌≡◌, ◌≤◌, inl, inr, ℕ, zero, suc, ◌+◌, ◌<◌, ◌^◌, true, false, List, [], ◌∷◌, ◌++◌, length, refl, sym, ◌∙◌, ap, arith, get_or, subst, Fits, w8}
+use Rattle.std.proofs.Common.{◌≡◌, ◌≤◌, inl, inr, ℕ, zero, suc, ◌+◌, ◌<◌, ◌^◌, true, false, List, [], ◌∷◌, ◌++◌, length, take, drop, refl, sym, ◌∙◌, ap, arith, get_or, subst, Fits, w8}
 use Rattle.std.specs.Prelude.{Option, Some, None, slice_index, ◌==◌, ◌&&◌, option_map, IfSome, IfNone}
 use Rattle.std.specs.Int.{w16, w32, to_be_bytes, from_be_bytes}
-use Rattle.std.proofs.lemmas.Bool.{eqb-true, eq-eqb, ne_eqb, and_parts}
+use Rattle.std.proofs.lemmas.Bool.{eqb-true, eq-eqb, ne_eqb, and_parts, cases_lt}
+use Rattle.std.proofs.lemmas.List.{length-drop}
 use Rattle.std.proofs.lemmas.Nat.{from_be_bytes-to_be_bytes_2, be_bytes_2}
 use Rattle.definitions.specs.declared.world.Cell.{Cell}
 use Rattle.definitions.specs.declared.world.Move.{Move}
@@ -230,3 +231,58 @@ found_of text (Some x) b e = entry_spelled text x (λ i. omega (arith, b i)) (sy
 pub none_of : (text : List ℕ) (r : Option Entry) → r ≡ entry_of text → IfNone r ((e : Entry) → FitsEntry e → text ≡ entry_text e → ⊥)
 none_of text None q = λ e fits same. none_some e (q ∙ ap entry_of same ∙ entry_read e fits)
 none_of text (Some x) q = tt
+
+-- ---- a text that is longer than those of entries
+
+none_by : {X : Type 0} (o : Option X) → ((x : X) → o ≡ Some x → ⊥) → o ≡ None
+none_by None other = refl
+none_by (Some x) other = absurd (other x refl)
+
+some_short : (k : ℕ) (body : List ℕ) (e : Entry) → entry_by k body ≡ Some e → length body ≤ 60
+some_short k body e h = elim (chosen (k == 1) _ _ _ h) [
+  | inl a ↦ elim (cases_lt 60 (length body)) [
+    | inl long ↦ absurd (none_some e (chose_of-long body long ∙ a.1))
+    | inr le ↦ le
+  ]
+  | inr n ↦ elim (chosen (k == 2) _ _ _ n.1) [
+    | inl a ↦
+        let read = map_some (λ (f : TurnFrame). Made f) (turn_frame_of body) e a.1 in
+        let few = read_short body read.0 read.1 in
+        omega arith
+    | inr m ↦ elim (chosen (k == 3) _ _ _ m.1) [
+      | inl a ↦ got_short body e a.1
+      | inr o ↦ absurd (none_some e o.1)
+    ]
+  ]
+]
+  where
+    got_short : (body : List ℕ) (e : Entry) → got_of body ≡ Some e → length body ≤ 60
+    got_short [] e h = omega arith
+    got_short (q ∷ frame) e h =
+        let read = map_some (λ (f : TurnFrame). Got q f) (turn_frame_of frame) e h in
+        let few = read_short frame read.0 read.1 in
+        omega arith
+
+pub entry_of-long : (text : List ℕ) → 64 < length text → entry_of text ≡ None
+unfolding entry_of
+entry_of-long text long = none_by (entry_of text) (λ e h. elim (chosen (length text == told_len text + 3) _ _ _ h) [
+  | inl a ↦
+      let few = some_short (slice_index text 2) (drop 3 text) e a.1 in
+      let l = length-drop 3 text in
+      omega arith
+  | inr n ↦ none_some e n.1
+])
+
+-- ---- how long the body is, the first two bytes tell
+
+pub told_cut : (n : ℕ) (xs : List ℕ) → 2 ≤ n → told_len (take n xs) ≡ told_len xs
+told_cut zero xs le = absurd (omega arith)
+told_cut (suc zero) xs le = absurd (omega arith)
+told_cut (suc (suc n)) [] le = refl
+told_cut (suc (suc n)) (x ∷ []) le = refl
+told_cut (suc (suc n)) (x ∷ y ∷ xs) le = refl
+
+pub told_more : (xs ys : List ℕ) → 2 ≤ length xs → told_len (xs ++ ys) ≡ told_len xs
+told_more [] ys le = absurd (omega arith)
+told_more (x ∷ []) ys le = absurd (omega arith)
+told_more (x ∷ y ∷ xs) ys le = refl

@@ -1,5 +1,5 @@
 -- Laws of logs: what is written is read again, and what is read was written so.
-use Rattle.std.specs.Prelude.{ℕ, ◌≡◌, ◌≤◌, ◌<◌, ◌+◌, ◌⊎◌, List, [], ◌∷◌, ◌++◌, length, Some, slice_index}
+use Rattle.std.specs.Prelude.{ℕ, ◌≡◌, ◌≤◌, ◌<◌, ◌+◌, ◌⊎◌, List, [], ◌∷◌, ◌++◌, length, flat_map, nat_lt, Option, Some, None, if◌then◌else◌, slice_index}
 use Rattle.definitions.specs.declared.logs.Entry.{Entry}
 use Rattle.definitions.specs.Lists.{EachIs}
 use Rattle.definitions.specs.Entries.{AreWellFormed}
@@ -13,6 +13,7 @@ use Rattle.session_log.specs.Finding.{entry_at}
 use Rattle.session_log.specs.Entries.{entry_of}
 use Rattle.session_log.specs.Reading.{read_log}
 use Rattle.session_log.specs.Writing.{fresh, all_written}
+use Rattle.session_log.specs.Feeding.{LogGiven, feed_at_start, finished, given_over}
 
 -- all items are bytes
 abbrev pub AreBytes : List ℕ → Type 0
@@ -77,3 +78,18 @@ EndsSo game bytes entries (next.BadEntry place) = StandsThere game bytes entries
 abbrev pub LogsEndSo : Type 0
 LogsEndSo = (game : Game) (bytes : List ℕ) → AreBytes bytes →
     (last : Next) × ((read_log game bytes).reader.said ≡ Some last) × EndsSo game bytes (read_log game bytes).entries last
+
+-- the owner of a log, where its byte is there and a player's
+abbrev pub owner_in : Game → List ℕ → Option ℕ
+owner_in game [] = None
+owner_in game (me ∷ bytes) = if nat_lt me (players_of game) then Some me else None
+
+-- what was given of a log, and how it ends if no more comes, is what a reader reads of these bytes, whole
+pub record IsReadOf (game : Game) (bytes : List ℕ) (g : LogGiven) : Type 0 where
+  pub entries : g.entries ≡ (read_log game bytes).entries
+  pub last : (read_log game bytes).reader.said ≡ Some (finished g.feeding)
+  pub owner : g.feeding.owner ≡ owner_in game bytes
+
+-- in whatever pieces a log comes, it is read as it is whole
+abbrev pub LogPiecesDoNotMatter : Type 0
+LogPiecesDoNotMatter = (game : Game) (pieces : List (List ℕ)) → IsReadOf game (flat_map (λ piece. piece) pieces) (given_over game (feed_at_start game.id) pieces)

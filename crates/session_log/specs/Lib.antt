@@ -3,4 +3,7 @@ pub mod Entries
 pub mod Finding
 pub mod Reading
 pub mod Writing
+pub mod Parts
+pub mod Feeding
+pub mod Fed
 pub mod Laws

@@ -43,7 +43,7 @@ pub(crate) fn chained(chain: &[u8], text: &[u8]) -> [u8; 32]
 }
 
 /// Whether two digests are the same.
-fn same_digest(a: &[u8; 32], b: &[u8; 32]) -> bool
+pub(crate) fn same_digest(a: &[u8; 32], b: &[u8; 32]) -> bool
     ensures { result ≡ bytes_eq a.now b.now }
 {
     a == b
@@ -84,7 +84,7 @@ fn is_well_formed(session: &Session, owner: PlayerId, entry: &Entry) -> bool
 }
 
 /// The entry that a text spells, where the owner's log may have it.
-fn owned_by(
+pub(crate) fn owned_by(
     session: &Session,
     owner: PlayerId,
     text: &[u8],

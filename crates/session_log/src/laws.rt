@@ -1,6 +1,6 @@
 //! Laws of logs: functions that do nothing, whose clauses are proved.
 
-ghost use Rattle.session_log.specs.Laws.{EntriesAreRead, EntriesAreSpelled, WritersWriteLogs, LogsAreRead, LogsEndSo};
+ghost use Rattle.session_log.specs.Laws.{EntriesAreRead, EntriesAreSpelled, WritersWriteLogs, LogsAreRead, LogsEndSo, LogPiecesDoNotMatter};
 
 /// An entry is read from its text, and an entry that is read has the text.
 pub fn entries_are_read()
@@ -20,4 +20,10 @@ pub fn writers_write_logs()
 pub fn logs_are_read()
     ensures read { LogsAreRead }
     ensures ends { LogsEndSo }
+{}
+
+/// In whatever pieces a log comes, the entries that are fed and the end are those that a reader gives for the joined bytes, and
+/// the owner is their first byte where that is a player's.
+pub fn log_pieces_do_not_matter()
+    ensures { LogPiecesDoNotMatter }
 {}

@@ -1,0 +1,9 @@
+pub mod Appended
+pub mod Clashes
+pub mod Frames
+pub mod Heads
+pub mod InLog
+pub mod Judged
+pub mod Keeps
+pub mod Pairs
+pub mod Wants

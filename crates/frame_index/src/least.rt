@@ -1,0 +1,102 @@
+//! The least spot of the frames that are looked for.
+
+ghost use Rattle.std.specs.Prelude.{◌≡◌, None};
+ghost use Rattle.definitions.specs.Findings as D;
+ghost use Rattle.frame_index.specs.Pairs as P;
+ghost use Rattle.frame_index.specs.Wants as W;
+
+use crate::seen::{Seen, Wanted};
+use definitions::{Spot, TurnFrame};
+
+/// Whether the frame is a commitment.
+pub(crate) fn is_commit(frame: &TurnFrame) -> bool
+    ensures { result ≡ D.is_commit frame.now }
+{
+    match *frame {
+        TurnFrame::Commit { .. } => true,
+        TurnFrame::Reveal { .. } => false,
+    }
+}
+
+/// Whether the frame is looked for.
+fn is_wanted(wanted: &Wanted, one: &Seen) -> bool
+    ensures { result ≡ W.wants wanted.now one.now }
+{
+    match *wanted {
+        Wanted::Any => true,
+        Wanted::Commit => is_commit(&one.frame),
+        Wanted::Reveal => !is_commit(&one.frame),
+        Wanted::Unlike(digest) => one.digest != digest,
+        Wanted::CommitUnlike(digest) => is_commit(&one.frame) && one.digest != digest,
+        Wanted::RevealUnlike(digest) => !is_commit(&one.frame) && one.digest != digest,
+        Wanted::Rival(digest, frame) => {
+            !is_commit(&one.frame) && one.digest == digest && one.frame != frame
+        }
+    }
+}
+
+/// Whether the first spot is lower.
+fn is_before(one: &Spot, other: &Spot) -> bool
+    ensures { result ≡ W.is_before one.now other.now }
+{
+    one.log < other.log || one.log == other.log && one.entry < other.entry
+}
+
+/// The spots of the two, the lower first.
+pub(crate) fn in_order(one: &Seen, other: &Seen) -> (Spot, Spot)
+    ensures { result ≡ P.in_order one.now other.now }
+{
+    if is_before(&one.spot, &other.spot) {
+        (one.spot, other.spot)
+    } else {
+        (other.spot, one.spot)
+    }
+}
+
+/// The lower of the one that is there and one more, if that is looked for.
+pub(crate) fn lower(found: bool, best: Option<Seen>, one: &Seen) -> Option<Seen>
+    ensures { result ≡ W.lower found best one.now }
+{
+    if !found {
+        return best;
+    }
+    match best {
+        None => Some(*one),
+        Some(other) => {
+            if is_before(&one.spot, &other.spot) {
+                Some(*one)
+            } else {
+                best
+            }
+        }
+    }
+}
+
+/// The one with the least spot of those that are looked for.
+pub(crate) fn least(seen: &[Seen], wanted: &Wanted) -> Option<Seen>
+    ensures { result ≡ W.least_from (W.wants wanted.now) None seen.now }
+{
+    let mut best: Option<Seen> = None;
+    for one in seen {
+        best = lower(is_wanted(wanted, one), best, one);
+    }
+    best
+}
+
+/// Whether another reveal has the same digest.
+fn has_rival(seen: &[Seen], one: &Seen) -> bool
+    ensures { result ≡ W.has_rival seen.now one.now }
+{
+    !is_commit(&one.frame) && least(seen, &Wanted::Rival(one.digest, one.frame)).is_some()
+}
+
+/// The one with the least spot of those of which another reveal has the same digest.
+pub(crate) fn least_rivalled(seen: &[Seen]) -> Option<Seen>
+    ensures { result ≡ W.least_from (W.has_rival seen.now) None seen.now }
+{
+    let mut best: Option<Seen> = None;
+    for one in seen {
+        best = lower(has_rival(seen, one), best, one);
+    }
+    best
+}

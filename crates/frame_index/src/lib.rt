@@ -1,0 +1,32 @@
+//! The auditor's index: each different received frame once, with its first spot in each log, and what all logs show together.
+//!
+//! Frames are taken in any interleaving of the logs, those of one log in the order of its entries. The crate promises that what
+//! is kept stands for the logs so far: of each player's turn, each different frame with the first spot that it has in each log
+//! that got it. From this alone [`findings`] lists every finding of the logs with its least pair of spots, in the words of the
+//! definitions, whatever the number of turns that players commit ahead. What a log shows of a player's stream is read place by
+//! place, all logs at once, and never kept.
+//!
+//! A frame is taken in time that doesn't grow with what is kept. An index keeps the allocator that it was made with, and takes
+//! from it the memory for what it keeps; all other calls say in their parameters where memory comes from. A want of memory
+//! changes nothing that the index promises. Nothing outside is touched.
+#![tactic(auto)]
+
+mod clashes;
+mod frames;
+mod heads;
+mod illegal;
+mod in_log;
+mod judged;
+mod least;
+mod limits;
+mod listing;
+mod pairs;
+mod seen;
+#[cfg(test)]
+mod tests;
+
+pub use definitions::{Digest, Finding, Kind, Spot, TurnFrame};
+pub use frames::{FrameIndex, own_entries_change_nothing};
+pub use limits::MOST_LOGS;
+pub use listing::findings;
+pub use seen::Seen;

@@ -1,0 +1,5 @@
+pub mod Items
+pub mod Counting
+pub mod Legal
+pub mod Standings
+mod Table

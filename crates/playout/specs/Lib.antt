@@ -1,0 +1,5 @@
+pub mod Hits
+pub mod Lockstep
+pub mod Playing
+pub mod Bounds
+pub mod Laws
