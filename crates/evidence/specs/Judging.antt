@@ -9,7 +9,7 @@ use Rattle.definitions.specs.World.{Game}
 use Rattle.definitions.specs.Findings.{are_two_commits, are_bad_opening, are_collision}
 use Rattle.definitions.specs.Exhibits.{is_of_turn, is_opened_by}
 
--- the two frames show this kind, where two frames of one turn can show it
+-- the two frames show this kind, where it is one that two frames of a turn show; an illegal move is shown turn by turn
 abbrev pub pair_shows : Game → Kind → TurnFrame → TurnFrame → Bool
 pair_shows game TwoCommits f g = are_two_commits game f g
 pair_shows game BadOpening f g = are_bad_opening game f g

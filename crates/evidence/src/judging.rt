@@ -26,7 +26,8 @@ fn is_reveal(frame: &TurnFrame) -> bool
     matches!(frame, TurnFrame::Reveal { .. })
 }
 
-/// Whether the two frames show this kind. Of an illegal move two frames alone show nothing.
+/// Whether the two frames show this kind, where it is one that two frames of a turn show. An illegal move is shown turn by turn,
+/// also where its turn is the first and has these two frames alone.
 fn pair_shows(session: &Session, kind: Kind, first: &TurnFrame, second: &TurnFrame) -> bool
     ensures { result ≡ J.pair_shows session.now kind first.now second.now }
 {

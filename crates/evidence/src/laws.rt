@@ -14,12 +14,13 @@ pub fn shown_frames_convict()
     ensures { ShownFramesConvict }
 {}
 
-/// Frames that show an illegal move convict their player where all of them stand in one log.
+/// Frames that show an illegal move convict their player, of that turn or of one before it, where one log got all of them and,
+/// where players commit more than two turns ahead, the commitments before the reveal of the turn before.
 pub fn illegal_moves_convict()
     ensures { IllegalMovesConvict }
 {}
 
-/// Two frames show something, or two for each turn up to that of an illegal move: no more than a text may have.
+/// Two frames show something, or two for each turn up to that of an illegal move.
 pub fn shown_frames_are_counted()
     ensures { ShownFramesAreCounted }
 {}

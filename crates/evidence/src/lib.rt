@@ -4,9 +4,9 @@
 //! where they do, as the crate `definitions` has it, so whoever has the session can judge again. An exhibit has one text, which
 //! [`print_exhibit`] writes; [`read_exhibit`] reads each such text as that exhibit unless memory runs out, and refuses any other
 //! with its first line at fault. The laws of `laws` tie exhibits to logs: each finding in logs of a session is shown by frames
-//! that these logs got, and frames that show something convict their player where logs got them. Nothing here tells whether a
-//! frame is of the player that it names: that is for those who took it from that player. The crate takes memory from the
-//! allocator that it is given, `judge` takes none, and it touches nothing else.
+//! that these logs got, and frames that show something convict their player where logs got them, for an illegal move with what
+//! comes before them. Nothing here tells whether a frame is of the player that it names: that is for those who took it from that
+//! player. The crate takes memory from the allocator that it is given, `judge` takes none, and it touches nothing else.
 #![tactic(auto)]
 
 mod exhibit;

@@ -185,8 +185,8 @@ fn exhibit_of(alloc: Global, text: &[u8]) -> Result<Exhibit, TextFault>
 
 /// Reads an exhibit from its text: `evidence 1`, the player's number, the turn's, the kind, a line for each frame, and `end`.
 ///
-/// `At` names the first line that is not in this grammar: one of another form, a player above `GREATEST_PLAYER`, `end` before any
-/// frame, the frame behind `MOST_EVIDENCE_FRAMES`, a line that is missing or stands behind `end`. `Memory` comes only where memory
+/// `At` names the first line that is not in this grammar: one of another form, a player above `GREATEST_PLAYER`, a turn of 2^32 or
+/// more, `end` before any frame, the frame behind `MOST_EVIDENCE_FRAMES`, a line that is missing or stands behind `end`. `Memory` comes only where memory
 /// runs out. Whether the frames show anything is not asked here, but by `judge`.
 pub fn read_exhibit(alloc: Global, text: &[u8]) -> Result<Exhibit, TextFault>
     // What is read has this text and no other.

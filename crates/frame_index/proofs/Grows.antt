@@ -59,7 +59,7 @@ log_after (x ∷ xs) zero (suc l) e g at = (g, at, inl refl)
 log_after (x ∷ xs) (suc i) zero e g at = (g, at, inl refl)
 log_after (x ∷ xs) (suc i) (suc l) e g at = log_after xs i l e g at
 
-own_after : (logs : List (List Entry)) (i : ℕ) (e : Entry) (h : List Entry) → slice_get logs i ≡ Some h → slice_get (with_entry logs i e) i ≡ Some (h ++ e ∷ [])
+pub own_after : (logs : List (List Entry)) (i : ℕ) (e : Entry) (h : List Entry) → slice_get logs i ≡ Some h → slice_get (with_entry logs i e) i ≡ Some (h ++ e ∷ [])
 own_after [] i e h at = absurd (let none : None ≡ Some h = at in cc)
 own_after (x ∷ xs) zero e h at = let a : x ≡ h = cc in ap (λ (y : List Entry). Some (y ++ e ∷ [])) a
 own_after (x ∷ xs) (suc i) e h at = own_after xs i e h at

@@ -120,7 +120,8 @@ fn put_player(
 /// spots, for each player, turn and kind that the logs show.
 ///
 /// The list and what is kept of one turn at a time take memory from `alloc`, and an error comes where there is none. The time
-/// is linear in what the index keeps, for each log that it stands for; a frame is never looked for among all frames.
+/// is linear in what the index keeps and in the turns of all players, each for `MOST_LOGS` logs. Frames of one turn are compared
+/// two by two where few are kept of it or two different reveals have one digest; a frame is never looked for among all frames.
 pub fn findings(
     alloc: Global,
     session: &Session,
