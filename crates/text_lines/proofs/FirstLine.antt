@@ -1,7 +1,8 @@
 -- The first line of a text.
-use Rattle.std.proofs.Common.{◌≡◌, ℕ, ◌<◌, Bool, true, false, eqb, List, [], ◌∷◌, length, take, drop, Option, None, refl, sym, ◌∙◌, arith, inl, inr}
+use Rattle.std.proofs.Common.{◌≡◌, ℕ, ◌<◌, Bool, true, false, eqb, List, [], ◌∷◌, length, take, drop, Option, Some, None, Ok, Err, refl, sym, ap, ◌∙◌, arith, inl, inr}
 use Rattle.std.proofs.lemmas.Bool.{cases_Bool, eqb-true}
-use Rattle.text_lines.specs.Lines.{ended_lines_of, line_len, one_of, two_of, three_of, three_or_five_of}
+use Rattle.text_lines.specs.Lines.{ended_lines_of, kept_within, line_len, one_of, one_within, two_of, three_of, three_or_five_of}
+use Rattle.text_lines.specs.Reading.{formed, line_at}
 
 pub ended_lines_of-cons : (b : ℕ) (text : List ℕ) → ended_lines_of (b ∷ text) ≡ take (line_len (b ∷ text)) (b ∷ text) ∷ ended_lines_of (drop (line_len (b ∷ text)) (b ∷ text))
 unfolding ended_lines_of
@@ -45,3 +46,24 @@ pub none_left : (text : List ℕ) (is_empty : Bool) → is_empty ≡ eqb (length
 unfolding ended_lines_of
 none_left [] is_empty e h = refl
 none_left (b ∷ text) is_empty e h = absurd (omega (arith, eqb-true (length (b ∷ text)) 0 (sym e ∙ h)))
+
+pub one_within-empty : (name : List ℕ) (low high : ℕ) → 0 < length name → one_within name low high [] ≡ None
+one_within-empty name low high some = ap (kept_within low high) (one_of-empty name some)
+
+-- ---- a line of a text that is read by its form
+
+line_at-first : {E A : Type 0} (e : E) (read : List ℕ → Option A) (text : List ℕ) → read [] ≡ None
+    → line_at e read (ended_lines_of text) ≡ formed e (read (take (line_len text) text)) (ended_lines_of (drop (line_len text) text))
+unfolding ended_lines_of
+line_at-first e read [] none = rw none refl
+line_at-first e read (b ∷ text) none = rw (ended_lines_of-cons b text) refl
+
+-- a line that does not have its form, or is missing
+pub line_at-none : {E A : Type 0} (e : E) (read : List ℕ → Option A) (text line : List ℕ) → read [] ≡ None → line ≡ take (line_len text) text
+    → read line ≡ None → line_at e read (ended_lines_of text) ≡ Err e
+line_at-none e read text line none is h = line_at-first e read text none ∙ rw (← is, h) refl
+
+-- a line that has its form
+pub line_at-some : {E A : Type 0} (e : E) (read : List ℕ → Option A) (text line rest : List ℕ) (x : A) → read [] ≡ None → line ≡ take (line_len text) text
+    → rest ≡ drop (line_len text) text → read line ≡ Some x → line_at e read (ended_lines_of text) ≡ Ok (x, ended_lines_of rest)
+line_at-some e read text line rest x none is d h = line_at-first e read text none ∙ rw (← is, ← d, h) refl

@@ -1,16 +1,16 @@
 -- A line that has a form is spelled so, and what is spelled so has the form.
-use Rattle.std.proofs.Common.{◌≡◌, ℕ, ◌^◌, ◌<◌, true, eqb, List, [], ◌∷◌, ◌++◌, length, take, drop, Option, Some, None, refl, sym, ap, subst, ◌∙◌, inl, inr}
-use Rattle.std.specs.Prelude.{bytes_eq, codes}
+use Rattle.std.proofs.Common.{◌≡◌, ℕ, ◌^◌, ◌≤◌, ◌<◌, true, eqb, List, [], ◌∷◌, ◌++◌, length, take, drop, Option, Some, None, refl, sym, ap, subst, ◌∙◌, inl, inr}
+use Rattle.std.specs.Prelude.{bytes_eq, codes, nat_le}
 use Rattle.std.specs.Fmt.{decimal}
 use Rattle.std.specs.Cmp.Lexicographic.{same_text}
-use Rattle.std.proofs.lemmas.Bool.{eqb-true, eq-eqb, and_from}
+use Rattle.std.proofs.lemmas.Bool.{eqb-true, eq-eqb, and_from, and_parts, leb-true, le-leb}
 use Rattle.std.proofs.lemmas.List.{take_at, drop_at, take-append-drop}
-use Rattle.byte_fields.specs.Fronts.{◌>>=◌, behind}
+use Rattle.byte_fields.specs.Fronts.{behind}
 use Rattle.byte_fields.proofs.Reading.{bind_some}
 use Rattle.byte_fields.specs.Numbers.{digits_len, number_of}
 use Rattle.byte_fields.proofs.Decimals.{number_of-some, number_of-decimal, decimal_digits}
 use Rattle.byte_fields.proofs.Placed.{digits_len-digits}
-use Rattle.text_lines.specs.Lines.{fields_of, line_of, number_at, field_at, is_ended, one_of, two_of, three_of, three_or_five_of}
+use Rattle.text_lines.specs.Lines.{fields_of, line_of, number_at, field_at, is_ended, is_within, kept_within, one_of, one_within, two_of, three_of, three_or_five_of}
 use Rattle.text_lines.specs.Laws.{two_more}
 use Rattle.plain_lemmas.proofs.Options.{map_some, when_some, some_when}
 use Rattle.plain_lemmas.proofs.Lists.{front_stands}
@@ -81,6 +81,29 @@ one_of-some name line n e =
     subst (λ (m : ℕ). line ≡ line_of name (m ∷ [])) {x = a.0.0} kept.1
     (line_join name line front.0 (a.0.0 ∷ []) (front_stands name line front.0 front.1) (fields_join front.0 a.0 [] (field_at-some front.0 a.0 a.1) (ended a.0.1 kept.0)))
 
+-- ---- numbers within limits
+
+pub within_of : (low high n : ℕ) → is_within low high n ≡ true → (low ≤ n) × (n ≤ high)
+within_of low high n h =
+    let both = and_parts (nat_le low n) (nat_le n high) h in
+    (leb-true low n both.0, leb-true n high both.1)
+
+pub is_within-from : (low high n : ℕ) → (low ≤ n) × (n ≤ high) → is_within low high n ≡ true
+is_within-from low high n h = and_from (nat_le low n) (nat_le n high) (le-leb low n h.0) (le-leb n high h.1)
+
+kept_within-some : (low high : ℕ) (o : Option ℕ) (n : ℕ) → kept_within low high o ≡ Some n → (o ≡ Some n) × (low ≤ n) × (n ≤ high)
+kept_within-some low high None n e = absurd cc
+kept_within-some low high (Some m) n e =
+    let kept = some_when (is_within low high m) m n e in
+    let both = within_of low high m kept.0 in
+    let same = kept.1 in
+    (ap (λ (k : ℕ). Some k) same, subst (λ (k : ℕ). low ≤ k) same both.0, subst (λ (k : ℕ). k ≤ high) same both.1)
+
+pub one_within-some : (name : List ℕ) (low high : ℕ) (line : List ℕ) (n : ℕ) → one_within name low high line ≡ Some n → (line ≡ line_of name (n ∷ [])) × (low ≤ n) × (n ≤ high)
+one_within-some name low high line n e =
+    let kept = kept_within-some low high (one_of name line) n e in
+    (one_of-some name line n kept.0, kept.1, kept.2)
+
 pub two_of-some : (name line : List ℕ) (x : ℕ × ℕ) → two_of name line ≡ Some x → line ≡ line_of name (x.0 ∷ x.1 ∷ [])
 unfolding two_of
 two_of-some name line x e =
@@ -135,6 +158,9 @@ three_or_five_of-some name line x e =
 pub one_of-spelled : (name : List ℕ) (n : ℕ) → n < 2 ^ 32 → one_of name (line_of name (n ∷ [])) ≡ Some n
 unfolding one_of
 one_of-spelled name n small = rw (behind-front name (fields_of (n ∷ [])), field_at-spelled n (fields_of []) small refl) refl
+
+pub one_within-spelled : (name : List ℕ) (low high n : ℕ) → low ≤ n → n ≤ high → n < 2 ^ 32 → one_within name low high (line_of name (n ∷ [])) ≡ Some n
+one_within-spelled name low high n from to small = rw (one_of-spelled name n small, is_within-from low high n (from, to)) refl
 
 pub two_of-spelled : (name : List ℕ) (m n : ℕ) → m < 2 ^ 32 → n < 2 ^ 32 → two_of name (line_of name (m ∷ n ∷ [])) ≡ Some (m, n)
 unfolding two_of

@@ -73,3 +73,39 @@ ended_lines_of-line name ns rest plain small =
     let len : line_len (line ++ rest) ≡ length line = line_len-line name ns rest plain small in
     let some : 0 < length (line ++ rest) = omega (arith, some_fields ns, length-append name (fields_of ns), length-append line rest) in
     ended_lines_of-first (line ++ rest) line rest some (rw len (sym (take_at line rest (length line) refl))) (rw len (sym (drop_at line rest (length line) refl)))
+
+-- ---- lines that a text may have
+
+-- it is the first line of each text that it begins
+abbrev pub IsLine : List ℕ → Type 0
+IsLine line = (rest : List ℕ) → ended_lines_of (line ++ rest) ≡ line ∷ ended_lines_of rest
+
+-- each of these is
+abbrev pub AreLines : List (List ℕ) → Type 0
+AreLines [] = Unit {0}
+AreLines (line ∷ lines) = IsLine line × AreLines lines
+
+-- they are the lines of their text
+pub ended_lines_of-joined : (lines : List (List ℕ)) → AreLines lines → ended_lines_of (joined lines) ≡ lines
+unfolding ended_lines_of
+ended_lines_of-joined [] each = refl
+ended_lines_of-joined (line ∷ lines) each = each.0 (joined lines) ∙ ap (λ (ls : List (List ℕ)). line ∷ ls) (ended_lines_of-joined lines each.1)
+
+pub are_lines-append : (xs ys : List (List ℕ)) → AreLines xs → AreLines ys → AreLines (xs ++ ys)
+are_lines-append [] ys first second = second
+are_lines-append (x ∷ xs) ys first second = (first.0, are_lines-append xs ys first.1 second)
+
+pub line_of-line : (name ns : List ℕ) → has_no_lf name ≡ true → AreSmall ns → IsLine (line_of name ns)
+line_of-line name ns plain small rest = ended_lines_of-line name ns rest plain small
+
+pub bare_line : (name : List ℕ) → has_no_lf name ≡ true → IsLine (line_of name [])
+bare_line name plain = line_of-line name [] plain tt
+
+pub one_line : (name : List ℕ) (k : ℕ) → has_no_lf name ≡ true → k < 2 ^ 32 → IsLine (line_of name (k ∷ []))
+one_line name k plain k_small = line_of-line name (k ∷ []) plain (k_small, tt)
+
+pub two_line : (name : List ℕ) (k m : ℕ) → has_no_lf name ≡ true → k < 2 ^ 32 → m < 2 ^ 32 → IsLine (line_of name (k ∷ m ∷ []))
+two_line name k m plain k_small m_small = line_of-line name (k ∷ m ∷ []) plain (k_small, (m_small, tt))
+
+pub three_line : (name : List ℕ) (k m n : ℕ) → has_no_lf name ≡ true → k < 2 ^ 32 → m < 2 ^ 32 → n < 2 ^ 32 → IsLine (line_of name (k ∷ m ∷ n ∷ []))
+three_line name k m n plain k_small m_small n_small = line_of-line name (k ∷ m ∷ n ∷ []) plain (k_small, (m_small, (n_small, tt)))

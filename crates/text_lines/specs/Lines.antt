@@ -1,5 +1,5 @@
 -- Lines of a text: how one is spelled, and what one says.
-use Rattle.std.specs.Prelude.{ℕ, suc, Bool, List, [], ◌∷◌, ◌++◌, length, take, drop, Option, Some, None, ◌==◌, if◌then◌else◌, bytes_eq, codes, option_map}
+use Rattle.std.specs.Prelude.{ℕ, suc, Bool, List, [], ◌∷◌, ◌++◌, take, drop, Option, Some, None, ◌==◌, if◌then◌else◌, bytes_eq, codes, option_map, nat_le, ◌&&◌}
 use Rattle.std.specs.Fmt.{decimal}
 use Rattle.byte_fields.specs.Fronts.{◌>>=◌, behind}
 use Rattle.byte_fields.specs.Numbers.{digits_len, number_of}
@@ -56,6 +56,19 @@ one_of name line = do
   rest ← behind name line
   a ← field_at rest
   if is_ended a.1 then Some a.0 else None
+
+-- the number is one of these
+abbrev pub is_within : (low high : ℕ) → ℕ → Bool
+is_within low high n = nat_le low n && nat_le n high
+
+-- the number, if it is one of these
+abbrev pub kept_within : (low high : ℕ) → Option ℕ → Option ℕ
+kept_within low high None = None
+kept_within low high (Some n) = if is_within low high n then Some n else None
+
+-- the number of a line of this name that has one, from low to high
+abbrev pub one_within : List ℕ → (low high : ℕ) → List ℕ → Option ℕ
+one_within name low high line = kept_within low high (one_of name line)
 
 -- the numbers of a line of this name that has two
 unfoldable pub two_of : List ℕ → List ℕ → Option (ℕ × ℕ)

@@ -1,6 +1,6 @@
 //! The lines of a text, and the numbers that they say.
 
-ghost use Rattle.std.specs.Prelude.{◌≡◌, ◌<◌, ◌≤◌, length, take, drop, option_map, codes};
+ghost use Rattle.std.specs.Prelude.{◌≡◌, ◌<◌, ◌≤◌, length, take, drop, option_map, codes, IfSome};
 ghost use Rattle.text_lines.specs.Lines as lines;
 ghost use Rattle.text_lines.specs.Lines.{line_len, is_ended, is_bare};
 
@@ -73,6 +73,26 @@ pub fn one_of(name: &[u8], line: &[u8]) -> Option<u32>
     let rest = line.strip_prefix(name)?;
     let (a, rest) = field_at(rest)?;
     if is_at_end(rest) { Some(a) } else { None }
+}
+
+/// Whether the number is one of those from `low` to `high`.
+pub fn is_within(low: u32, high: u32, n: u32) -> bool
+    ensures { result ≡ lines.is_within low high n }
+{
+    low <= n && n <= high
+}
+
+/// The number of a line of this name that has one, from `low` to `high`.
+pub fn one_within(name: &[u8], low: u32, high: u32, line: &[u8]) -> Option<u32>
+    ensures said { result ≡ lines.one_within name.now low high line.now }
+    ensures within { IfSome result (λ n. n ≤ high) }
+{
+    let number = one_of(name, line)?;
+    if is_within(low, high, number) {
+        Some(number)
+    } else {
+        None
+    }
 }
 
 /// The numbers of a line of this name that has two.
