@@ -8,17 +8,14 @@ use Rattle.definitions.specs.declared.limits.TheConstants.{FARTHEST_REACH, FEWES
 use Rattle.definitions.specs.Lists.{EachIs}
 use Rattle.definitions.specs.World as world
 use Rattle.definitions.specs.World.{Ground, Game, has_cell, is_inside, is_wall, is_open, is_before_first, in_row_order, players_of}
-use Rattle.text_lines.specs.Lines.{line_of, ended_lines_of, joined}
+use Rattle.text_lines.specs.Lines.{line_of, ended_lines_of, is_within}
 use Rattle.grid_world.specs.Text.{own_numbers, player_line, player_lines, wall_line, end_line, session_lines, session_text}
 use Rattle.grid_world.specs.Sessions.{IsSession, IsSeat, GoesByTheRules, most_players, most_turns, starts_of, widest_side}
-use Rattle.grid_world.specs.Reading.{version_at, sides_at, steps_at, charges_at, turns_at, ahead_at, first_player_line, players_at, Head, head_at, seat_at, seats_at, is_after, is_within, wall_at, walls_at, Said, said_by}
-use Rattle.text_lines.proofs.Forms.{one_of-spelled, two_of-spelled, three_of-spelled, three_or_five_of-three, three_or_five_of-five}
-use Rattle.text_lines.proofs.Joined.{has_no_lf, AreSmall, ended_lines_of-line}
+use Rattle.grid_world.specs.Reading.{version_at, sides_at, steps_at, charges_at, turns_at, ahead_at, first_player_line, players_at, Head, head_at, seat_at, seats_at, is_after, wall_at, walls_at, Said, said_by}
+use Rattle.text_lines.proofs.Forms.{is_within-from, one_of-spelled, two_of-spelled, three_of-spelled, three_or_five_of-three, three_or_five_of-five}
+use Rattle.text_lines.proofs.Joined.{AreLines, AreSmall, are_lines-append, bare_line, ended_lines_of-joined, line_of-line, one_line, two_line, three_line}
 use Rattle.grid_world.proofs.Taken.{are_sides, are_steps, are_charges, ahead_pieces, head_pieces, follow, follow-Some}
 use Rattle.grid_world.proofs.Kept.{apart_turned, limit_by}
-
-from_within : (low high n : ℕ) → (low ≤ n) × (n ≤ high) → is_within low high n ≡ true
-from_within low high n h = and_from (nat_le low n) (nat_le n high) (le-leb low n h.0) (le-leb n high h.1)
 
 -- ---- the lines before those of the players
 
@@ -64,24 +61,24 @@ unfolding head_at
 head_again game rest facts =
     let v : ℕ = game.version in
     let g = facts.grid in
-    let width = from_within 1 (widest_side v) game.grid.width (g.width.0, limit_by v WIDEST_SIDE_AT_FIRST WIDEST_SIDE game.grid.width (λ is. (facts.of_version_1 is).width) g.width.1) in
-    let height = from_within 1 (widest_side v) game.grid.height (g.height.0, limit_by v WIDEST_SIDE_AT_FIRST WIDEST_SIDE game.grid.height (λ is. (facts.of_version_1 is).height) g.height.1) in
+    let width = is_within-from 1 (widest_side v) game.grid.width (g.width.0, limit_by v WIDEST_SIDE_AT_FIRST WIDEST_SIDE game.grid.width (λ is. (facts.of_version_1 is).width) g.width.1) in
+    let height = is_within-from 1 (widest_side v) game.grid.height (g.height.0, limit_by v WIDEST_SIDE_AT_FIRST WIDEST_SIDE game.grid.height (λ is. (facts.of_version_1 is).height) g.height.1) in
     let sides : are_sides v (game.grid.width, game.grid.height) ≡ true = and_from _ _ width height in
     let r = game.rules in
-    let steps : are_steps (r.speed, r.reach, r.blast) ≡ true = and_from _ _ (from_within 1 MOST_SPEED r.speed facts.speed) (and_from _ _ (le-leb r.reach FARTHEST_REACH facts.reach) (le-leb r.blast WIDEST_BLAST facts.blast)) in
+    let steps : are_steps (r.speed, r.reach, r.blast) ≡ true = and_from _ _ (is_within-from 1 MOST_SPEED r.speed facts.speed) (and_from _ _ (le-leb r.reach FARTHEST_REACH facts.reach) (le-leb r.blast WIDEST_BLAST facts.blast)) in
     let start : r.start_charge ≤ MOST_CHARGE = omega (arith, facts.start_charge, facts.cap) in
     let charges : are_charges (r.start_charge, r.cap, r.cost) ≡ true =
     and_from _ _ (le-leb r.start_charge MOST_CHARGE start) (and_from _ _ (le-leb r.cap MOST_CHARGE facts.cap) (and_from _ _ (le-leb r.cost MOST_CHARGE facts.cost) (le-leb r.start_charge r.cap facts.start_charge))) in
-    let turns = from_within 1 (most_turns v) game.turns (facts.turns.0, limit_by v MOST_TURNS_AT_FIRST MOST_TURNS game.turns (λ is. (facts.of_version_1 is).turns) facts.turns.1) in
-    let players = from_within FEWEST_PLAYERS (most_players v) (players_of game) (facts.players.0, limit_by v MOST_PLAYERS_AT_FIRST MOST_PLAYERS (players_of game) (λ is. (facts.of_version_1 is).players) facts.players.1) in
+    let turns = is_within-from 1 (most_turns v) game.turns (facts.turns.0, limit_by v MOST_TURNS_AT_FIRST MOST_TURNS game.turns (λ is. (facts.of_version_1 is).turns) facts.turns.1) in
+    let players = is_within-from FEWEST_PLAYERS (most_players v) (players_of game) (facts.players.0, limit_by v MOST_PLAYERS_AT_FIRST MOST_PLAYERS (players_of game) (λ is. (facts.of_version_1 is).players) facts.players.1) in
     rw (
-      version_again v _ (omega (arith, facts.version.1)) (from_within 1 LAST_VERSION v facts.version),
+      version_again v _ (omega (arith, facts.version.1)) (is_within-from 1 LAST_VERSION v facts.version),
       sides_again v game.grid.width game.grid.height _ (omega (arith, g.width.1)) (omega (arith, g.height.1)) sides,
       steps_again r.speed r.reach r.blast _ (omega (arith, facts.speed.1)) (omega (arith, facts.reach)) (omega (arith, facts.blast)) steps,
       charges_again r.start_charge r.cap r.cost _ (omega (arith, start)) (omega (arith, facts.cap)) (omega (arith, facts.cost)) charges,
       turns_again v game.turns _ (omega (arith, facts.turns.1)) turns,
       append_assoc (ahead_pieces v game.ahead) (line_of (codes "players") (players_of game ∷ []) ∷ []) rest,
-      ahead_again v game.ahead _ (omega (arith, facts.ahead.1)) (from_within 1 MOST_AHEAD game.ahead facts.ahead) (λ is. (facts.of_version_1 is).ahead),
+      ahead_again v game.ahead _ (omega (arith, facts.ahead.1)) (is_within-from 1 MOST_AHEAD game.ahead facts.ahead) (λ is. (facts.of_version_1 is).ahead),
       players_again v game.turns (players_of game) rest (omega (arith, facts.players.1)) players (le-leb _ _ facts.turns_of_all),
     ) refl
 
@@ -138,7 +135,7 @@ seat_again head s q rest room small may =
           (ap (λ (t : Seat). Ok (t, rest)) (seat_alike head.rules s alike))
       | inr own ↦
           let by_version = not_at_first head.version head.rules s may.first own in
-          let speed = from_within 1 MOST_SPEED s.speed may.within.speed in
+          let speed = is_within-from 1 MOST_SPEED s.speed may.within.speed in
           let reach = le-leb s.reach FARTHEST_REACH may.within.reach in
           rw (
             own,
@@ -219,40 +216,18 @@ said_again game facts =
 
 -- ---- the lines of the text
 
--- it is the first line of each text that it begins
-abbrev IsLine : List ℕ → Type 0
-IsLine line = (rest : List ℕ) → ended_lines_of (line ++ rest) ≡ line ∷ ended_lines_of rest
-
-ended_lines_of-joined : (lines : List (List ℕ)) → EachIs IsLine lines → ended_lines_of (joined lines) ≡ lines
-unfolding ended_lines_of
-ended_lines_of-joined [] each = refl
-ended_lines_of-joined (line ∷ lines) each = each.0 (joined lines) ∙ ap (λ (ls : List (List ℕ)). line ∷ ls) (ended_lines_of-joined lines each.1)
-
-each_append : (xs ys : List (List ℕ)) → EachIs IsLine xs → EachIs IsLine ys → EachIs IsLine (xs ++ ys)
-each_append [] ys first second = second
-each_append (x ∷ xs) ys first second = (first.0, each_append xs ys first.1 second)
-
-one_line : (name : List ℕ) (k : ℕ) → has_no_lf name ≡ true → k < 2 ^ 32 → IsLine (line_of name (k ∷ []))
-one_line name k plain k_small rest = ended_lines_of-line name (k ∷ []) rest plain (k_small, tt)
-
-two_line : (name : List ℕ) (k m : ℕ) → has_no_lf name ≡ true → k < 2 ^ 32 → m < 2 ^ 32 → IsLine (line_of name (k ∷ m ∷ []))
-two_line name k m plain k_small m_small rest = ended_lines_of-line name (k ∷ m ∷ []) rest plain (k_small, (m_small, tt))
-
-three_line : (name : List ℕ) (k m n : ℕ) → has_no_lf name ≡ true → k < 2 ^ 32 → m < 2 ^ 32 → n < 2 ^ 32 → IsLine (line_of name (k ∷ m ∷ n ∷ []))
-three_line name k m n plain k_small m_small n_small rest = ended_lines_of-line name (k ∷ m ∷ n ∷ []) rest plain (k_small, (m_small, (n_small, tt)))
-
-ahead_are : (game : Game) → IsSession game → EachIs IsLine (ahead_pieces game.version game.ahead)
+ahead_are : (game : Game) → IsSession game → AreLines (ahead_pieces game.version game.ahead)
 ahead_are game facts =
     elim (cases_Bool (game.version == 1)) [
       | inl is ↦ rw is tt
       | inr other ↦ rw other (one_line (codes "ahead") game.ahead refl (omega (arith, facts.ahead.1)), tt)
     ]
 
-head_are : (game : Game) → IsSession game → EachIs IsLine (head_pieces (head_of game))
+head_are : (game : Game) → IsSession game → AreLines (head_pieces (head_of game))
 head_are game facts =
     let r = game.rules in
     let g = facts.grid in
-    let players : EachIs IsLine (line_of (codes "players") (players_of game ∷ []) ∷ []) = (one_line (codes "players") (players_of game) refl (omega (arith, facts.players.1)), tt) in (
+    let players : AreLines (line_of (codes "players") (players_of game ∷ []) ∷ []) = (one_line (codes "players") (players_of game) refl (omega (arith, facts.players.1)), tt) in (
       one_line (codes "playout") game.version refl (omega (arith, facts.version.1)),
       (
         two_line (codes "grid") game.grid.width game.grid.height refl (omega (arith, g.width.1)) (omega (arith, g.height.1)),
@@ -260,7 +235,7 @@ head_are game facts =
           three_line (codes "rules") r.speed r.reach r.blast refl (omega (arith, facts.speed.1)) (omega (arith, facts.reach)) (omega (arith, facts.blast)),
           (
             three_line (codes "charge") r.start_charge r.cap r.cost refl (omega (arith, facts.start_charge, facts.cap)) (omega (arith, facts.cap)) (omega (arith, facts.cost)),
-            (one_line (codes "turns") game.turns refl (omega (arith, facts.turns.1)), each_append (ahead_pieces game.version game.ahead) _ (ahead_are game facts) players),
+            (one_line (codes "turns") game.turns refl (omega (arith, facts.turns.1)), are_lines-append (ahead_pieces game.version game.ahead) _ (ahead_are game facts) players),
           ),
         ),
       ),
@@ -271,14 +246,14 @@ own_small : (rules : world.Rules) (s : Seat) → IsSeat s → AreSmall (own_numb
 own_small rules s within =
     elim (cases_Bool (goes_by rules s)) [ inl alike ↦ rw alike tt | inr own ↦ rw own (omega (arith, within.speed.1), (omega (arith, within.reach), tt)) ]
 
-players_are : (head : Head) (seats : List Seat) (q : ℕ) → IsRoom head → q + length seats ≤ MOST_PLAYERS → EachIs (MaySit head) seats → EachIs IsLine (player_lines head.rules seats q)
+players_are : (head : Head) (seats : List Seat) (q : ℕ) → IsRoom head → q + length seats ≤ MOST_PLAYERS → EachIs (MaySit head) seats → AreLines (player_lines head.rules seats q)
 players_are head [] q room few may = tt
 players_are head (s ∷ seats) q room few may =
     let cell = small_cell head.grid s.start room.wide room.high may.0.inside in
     let small : AreSmall (q ∷ s.start.x ∷ s.start.y ∷ own_numbers head.rules s) = (omega (arith, few), (cell.0, (cell.1, own_small head.rules s may.0.within))) in
-    ((λ rest. ended_lines_of-line (codes "player") (q ∷ s.start.x ∷ s.start.y ∷ own_numbers head.rules s) rest refl small), players_are head seats (suc q) room (omega (arith, few)) may.1)
+    (line_of-line (codes "player") (q ∷ s.start.x ∷ s.start.y ∷ own_numbers head.rules s) refl small, players_are head seats (suc q) room (omega (arith, few)) may.1)
 
-walls_are : (grid : Ground) (walls : List Cell) → grid.width ≤ WIDEST_SIDE → grid.height ≤ WIDEST_SIDE → EachIs (λ c. IsTrue (is_inside grid c)) walls → EachIs IsLine (map wall_line walls)
+walls_are : (grid : Ground) (walls : List Cell) → grid.width ≤ WIDEST_SIDE → grid.height ≤ WIDEST_SIDE → EachIs (λ c. IsTrue (is_inside grid c)) walls → AreLines (map wall_line walls)
 walls_are grid [] wide high inside = tt
 walls_are grid (c ∷ walls) wide high inside =
     let cell = small_cell grid c wide high inside.0 in
@@ -287,7 +262,7 @@ walls_are grid (c ∷ walls) wide high inside =
 pub ended_lines_of-session_text : (game : Game) → IsSession game → ended_lines_of (session_text game) ≡ session_lines game
 unfolding session_text
 ended_lines_of-session_text game facts =
-    let last : EachIs IsLine (end_line ∷ []) = ((λ rest. ended_lines_of-line (codes "end") [] rest refl tt), tt) in
-    let behind = each_append (map wall_line game.grid.walls) (end_line ∷ []) (walls_are game.grid game.grid.walls facts.grid.width.1 facts.grid.height.1 facts.grid.inside) last in
-    let more = each_append (player_lines game.rules game.seats 0) (map wall_line game.grid.walls ++ (end_line ∷ [])) (players_are (head_of game) game.seats 0 (game_room game facts) (omega (arith, facts.players.1)) (game_may game facts)) behind in
-    ended_lines_of-joined _ (each_append (head_pieces (head_of game)) (player_lines game.rules game.seats 0 ++ (map wall_line game.grid.walls ++ (end_line ∷ []))) (head_are game facts) more)
+    let last : AreLines (end_line ∷ []) = (bare_line (codes "end") refl, tt) in
+    let behind = are_lines-append (map wall_line game.grid.walls) (end_line ∷ []) (walls_are game.grid game.grid.walls facts.grid.width.1 facts.grid.height.1 facts.grid.inside) last in
+    let more = are_lines-append (player_lines game.rules game.seats 0) (map wall_line game.grid.walls ++ (end_line ∷ [])) (players_are (head_of game) game.seats 0 (game_room game facts) (omega (arith, facts.players.1)) (game_may game facts)) behind in
+    ended_lines_of-joined _ (are_lines-append (head_pieces (head_of game)) (player_lines game.rules game.seats 0 ++ (map wall_line game.grid.walls ++ (end_line ∷ []))) (head_are game facts) more)

@@ -1,5 +1,6 @@
 -- What reading a text answers, from what the text says.
-use Rattle.std.proofs.Common.{◌≡◌, ℕ, List, Result, Ok, Err, refl, sym, ap, subst, ◌∙◌}
+use Rattle.std.proofs.Common.{◌≡◌, ℕ, true, List, Result, Ok, Err, refl, sym, ap, subst, ◌∙◌}
+use Rattle.std.proofs.lemmas.Bool.{false≢true}
 use Rattle.std.specs.Prelude.{IfOk}
 use Rattle.sha2.specs.Sha256.{sha256}
 use Rattle.definitions.specs.declared.world.Cell.{Cell}
@@ -10,9 +11,12 @@ use Rattle.grid_world.specs.declared.fault.SessionFault.TheVariants.{At, Memory}
 use Rattle.text_lines.specs.Lines.{ended_lines_of, joined}
 use Rattle.grid_world.specs.Text.{session_text}
 use Rattle.grid_world.specs.Sessions.{game_of, starts_of}
-use Rattle.grid_world.specs.Reading.{◌>>=◌, Head, head_at, seats_at, walls_at, Said, said_by, fault_of, session_fault, game_at, Gives}
-use Rattle.grid_world.specs.Answers.{IsReadFrom, IsRead, Faults}
-use Rattle.grid_world.proofs.Steps.{bind_ok, ok_is}
+use Rattle.text_lines.specs.Reading.{◌>>=◌, fault_of}
+use Rattle.text_lines.specs.Answers.{Faults, Gives, IsRead}
+use Rattle.text_lines.proofs.Answers.{faults, is_found, is_read}
+use Rattle.text_lines.proofs.Steps.{bind_ok, ok_is}
+use Rattle.grid_world.specs.Reading.{Head, head_at, seats_at, walls_at, Said, said_by, session_fault, game_at}
+use Rattle.grid_world.specs.Answers.{IsReadFrom, is_memory}
 use Rattle.text_lines.proofs.Joined.{joined-ended_lines_of}
 use Rattle.grid_world.proofs.Kept.{ReadsParts, walled, session_kept, lines_kept, length-sha256}
 use Rattle.grid_world.proofs.Again.{said_of, said_again, ended_lines_of-session_text}
@@ -27,7 +31,7 @@ said_parts lines said e =
     let a = bind_ok (head_at lines) _ said e in
     let b = bind_ok (seats_at a.0.0 a.0.0.players 0 a.0.1) _ said a.2 in
     let c = bind_ok (walls_at a.0.0.grid (starts_of b.0.0) b.0.1 _ _) _ said b.2 in
-    (a.0.0, b.0.0, c.0, record { seats_from = a.0.1; walls_from = b.0.1; head_is = a.1; seats_are = b.1; walls_are = c.1 }, ok_is (made a.0.0 b.0.0 c.0) said c.2)
+    (a.0.0, b.0.0, c.0, record { seats_from = a.0.1; walls_from = b.0.1; head_is = a.1; seats_are = b.1; walls_are = c.1 }, ok_is {E = SessionFault} (made a.0.0 b.0.0 c.0) said c.2)
 
 -- the session that something said makes
 abbrev played : List ℕ → Said → Game
@@ -49,7 +53,7 @@ pub game_found : (text : List ℕ) (game : Game) → game_at text ≡ Ok game �
 unfolding game_at
 game_found text game e =
     let a = bind_ok (said_by (ended_lines_of text)) _ game e in
-    subst (λ (g : Game). IsReadFrom g text) (ok_is (played (sha256 text) a.0) game a.2) (said_found text a.0 a.1)
+    subst (λ (g : Game). IsReadFrom g text) (ok_is {E = SessionFault} (played (sha256 text) a.0) game a.2) (said_found text a.0 a.1)
 
 -- a session's text says the session
 pub game_again : (text : List ℕ) (game : Game) → IsReadFrom game text → game_at text ≡ Ok game
@@ -68,19 +72,15 @@ fault_at text = fault_game (sha256 text) (said_by (ended_lines_of text))
 
 -- ---- what the reader answers
 
-pub is_found : (text : List ℕ) (r : Result Game SessionFault) → Gives (λ s. s) r (game_at text) → IfOk r (λ s. IsReadFrom s text)
-is_found text (Ok s) given = game_found text s given
-is_found text (Err e) given = tt
+pub found_in : (text : List ℕ) (r : Result Game SessionFault) → Gives is_memory (λ s. s) r (game_at text) → IfOk r (λ s. IsReadFrom s text)
+found_in text r given = is_found is_memory (λ s. IsReadFrom s text) r (game_at text) (game_found text) given
 
-pub is_read : (text : List ℕ) (r : Result Game SessionFault) (game : Game) → Gives (λ s. s) r (game_at text) → IsReadFrom game text → IsRead game r
-is_read text (Ok s) game given from = ok_is s game (sym given ∙ game_again text game from)
-is_read text (Err Memory) game given from = refl
-is_read text (Err (At line what)) game given from = absurd (apart (sym given ∙ game_again text game from))
-  where
-    apart : Err (At line what) ≡ Ok game → ⊥
-    apart e = absurd cc
+only_memory : (e : SessionFault) → is_memory e ≡ true → e ≡ Memory
+only_memory Memory h = refl
+only_memory (At line what) h = absurd (false≢true h)
 
-pub faults : (text : List ℕ) (r : Result Game SessionFault) → Gives (λ s. s) r (game_at text) → Faults r (session_fault text)
-faults text (Ok s) given = sym (fault_at text) ∙ ap fault_of given
-faults text (Err Memory) given = tt
-faults text (Err (At line what)) given = sym (fault_at text) ∙ ap fault_of given
+pub read_of : (text : List ℕ) (r : Result Game SessionFault) (game : Game) → Gives is_memory (λ s. s) r (game_at text) → IsReadFrom game text → IsRead Memory game r
+read_of text r game given from = is_read is_memory Memory r (game_at text) game only_memory given (game_again text game from)
+
+pub faults_of : (text : List ℕ) (r : Result Game SessionFault) → Gives is_memory (λ s. s) r (game_at text) → Faults is_memory r (session_fault text)
+faults_of text r given = subst (Faults is_memory r) (fault_at text) (faults is_memory r (game_at text) given)

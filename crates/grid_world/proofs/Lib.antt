@@ -1,5 +1,4 @@
 pub mod Facts
-pub mod FirstLine
 pub mod Taken
 pub mod Kept
 pub mod Again

@@ -11,13 +11,12 @@ use Rattle.definitions.specs.World.{Ground}
 use Rattle.grid_world.specs.declared.fault.SessionFault.{SessionFault}
 use Rattle.grid_world.specs.declared.fault.SessionFault.TheVariants.{At, Memory}
 use Rattle.text_lines.specs.Lines.{is_bare}
-use Rattle.grid_world.specs.Reading.{◌>>=◌, Fails, Head, seat_at, seats_at, is_after, wall_at, walls_at}
+use Rattle.text_lines.specs.Reading.{◌>>=◌}
+use Rattle.text_lines.specs.Answers.{Fails}
+use Rattle.text_lines.proofs.Steps.{with_front, with_front-more}
+use Rattle.grid_world.specs.Answers.{is_memory}
+use Rattle.grid_world.specs.Reading.{Head, seat_at, seats_at, is_after, wall_at, walls_at}
 use Rattle.grid_world.proofs.Steps.{wall_at_ok}
-
--- a fault that is said is answered
-pub said_fails : {Y : Type 0} (e : SessionFault) (read : Result Y SessionFault) → read ≡ Err e → Fails e read
-said_fails Memory read h = tt
-said_fails (At n rule) read h = h
 
 -- the seats that were read before, and those that are still read
 abbrev pub with_seats : List Seat → Result (List Seat × List (List ℕ)) SessionFault → Result (List Seat × List (List ℕ)) SessionFault
@@ -37,7 +36,7 @@ seats_more head front k q lines s after total lt h so_far =
     subst (λ (r : ℕ). with_seats (front ++ s ∷ []) (seats_at head (k - (q + 1)) r after) ≡ total) (sym (add-one q)) (sym one ∙ so_far)
 
 pub seats_fail : (head : Head) (e : SessionFault) (front : List Seat) (k q : ℕ) (lines : List (List ℕ)) (total : Result (List Seat × List (List ℕ)) SessionFault)
-    → q < k → Fails e (seat_at head q lines) → with_seats front (seats_at head (k - q) q lines) ≡ total → Fails e total
+    → q < k → Fails is_memory e (seat_at head q lines) → with_seats front (seats_at head (k - q) q lines) ≡ total → Fails is_memory e total
 unfolding seats_at
 seats_fail head Memory front k q lines total lt h so_far = tt
 seats_fail head (At n rule) front k q lines total lt h so_far =
@@ -52,14 +51,6 @@ seats_all head front k q lines total le so_far =
     let m : k - q ≡ 0 = omega arith in
     let one : with_seats front (seats_at head (k - q) q lines) ≡ Ok (front, lines) = rw m (ap (λ (seats : List Seat). Ok (seats, lines)) (append-nil front)) in
     sym so_far ∙ one
-
--- the walls that were read before, and those that are still read
-abbrev pub with_walls : List Cell → Result (List Cell) SessionFault → Result (List Cell) SessionFault
-with_walls front read = read >>= λ x. Ok (front ++ x)
-
-regroup_walls : (front : List Cell) (c : Cell) (read : Result (List Cell) SessionFault) → with_walls front (read >>= λ x. Ok (c ∷ x)) ≡ with_walls (front ++ c ∷ []) read
-regroup_walls front c (Ok x) = ap (λ (cells : List Cell). Ok cells) (simp append_assoc)
-regroup_walls front c (Err f) = refl
 
 -- how many cells stand in rows of the widest grid up to this one
 abbrev pub cells_up_to : Option Cell → ℕ
@@ -85,7 +76,7 @@ next_line (Some d) c first n small x y after few =
 
 -- what holds in front of each line that may say a wall
 pub record AtWall (grid : Ground) (starts : List Cell) (front : List Cell) (before : Option Cell) (first n : ℕ) (lines : List (List ℕ)) (total : Result (List Cell) SessionFault) : Type 0 where
-  pub read : with_walls front (walls_at grid starts lines before n) ≡ total
+  pub read : with_front front (walls_at grid starts lines before n) ≡ total
   pub small : IsSmall before
   -- lines are as few as cells
   pub few : n ≤ first + cells_up_to before
@@ -96,43 +87,43 @@ pub walls_more : (grid : Ground) (starts front : List Cell) (before : Option Cel
 unfolding walls_at
 walls_more grid starts front before first n line lines after c total wide high split bare read at =
     let wall = wall_at_ok grid starts before n line c read in
-    let one : with_walls front (walls_at grid starts lines before n) ≡ with_walls (front ++ c ∷ []) (walls_at grid starts after (Some c) (suc n)) =
-    rw (split, bare, read) (regroup_walls front c (walls_at grid starts after (Some c) (suc n))) in
+    let one : with_front front (walls_at grid starts lines before n) ≡ with_front (front ++ c ∷ []) (walls_at grid starts after (Some c) (suc n)) =
+    rw (split, bare, read) (with_front-more front c (walls_at grid starts after (Some c) (suc n))) in
     let within = and_parts (nat_lt c.x grid.width) (nat_lt c.y grid.height) wall.inside in
     let left : c.x < grid.width = ltb-true c.x grid.width within.0 in
     let above : c.y < grid.height = ltb-true c.y grid.height within.1 in
     record {
-      read = subst (λ (m : ℕ). with_walls (front ++ c ∷ []) (walls_at grid starts after (Some c) m) ≡ total) (sym (add-one n)) (sym one ∙ at.read);
+      read = subst (λ (m : ℕ). with_front (front ++ c ∷ []) (walls_at grid starts after (Some c) m) ≡ total) (sym (add-one n)) (sym one ∙ at.read);
       small = (omega arith, omega arith);
       few = next_line before c first n at.small (omega arith) (omega arith) wall.after at.few;
     }
 
 pub walls_fail : (grid : Ground) (e : SessionFault) (starts front : List Cell) (before : Option Cell) (first n : ℕ) (line : List ℕ) (lines after : List (List ℕ)) (total : Result (List Cell) SessionFault)
-    → lines ≡ line ∷ after → is_bare (codes "end") line ≡ false → Fails e (wall_at grid starts before n line)
-    → AtWall grid starts front before first n lines total → Fails e total
+    → lines ≡ line ∷ after → is_bare (codes "end") line ≡ false → Fails is_memory e (wall_at grid starts before n line)
+    → AtWall grid starts front before first n lines total → Fails is_memory e total
 unfolding walls_at
 walls_fail grid Memory starts front before first n line lines after total split bare h at = tt
 walls_fail grid (At m rule) starts front before first n line lines after total split bare h at =
-    let one : with_walls front (walls_at grid starts lines before n) ≡ Err (At m rule) = rw (split, bare, h) refl in
+    let one : with_front front (walls_at grid starts lines before n) ≡ Err (At m rule) = rw (split, bare, h) refl in
     sym at.read ∙ one
 
 pub walls_end : (grid : Ground) (starts front : List Cell) (before : Option Cell) (first n : ℕ) (line : List ℕ) (lines : List (List ℕ)) (total : Result (List Cell) SessionFault)
     → lines ≡ line ∷ [] → is_bare (codes "end") line ≡ true → AtWall grid starts front before first n lines total → total ≡ Ok front
 unfolding walls_at
 walls_end grid starts front before first n line lines total split bare at =
-    let one : with_walls front (walls_at grid starts lines before n) ≡ Ok front = rw (split, bare) (ap (λ (cells : List Cell). Ok cells) (append-nil front)) in
+    let one : with_front front (walls_at grid starts lines before n) ≡ Ok front = rw (split, bare) (ap (λ (cells : List Cell). Ok cells) (append-nil front)) in
     sym at.read ∙ one
 
 pub walls_past : (grid : Ground) (starts front : List Cell) (before : Option Cell) (first n : ℕ) (line next : List ℕ) (lines after : List (List ℕ)) (total : Result (List Cell) SessionFault)
     → lines ≡ line ∷ next ∷ after → is_bare (codes "end") line ≡ true → AtWall grid starts front before first n lines total → total ≡ Err (At (n + 1) S1)
 unfolding walls_at
 walls_past grid starts front before first n line next lines after total split bare at =
-    let one : with_walls front (walls_at grid starts lines before n) ≡ Err (At (suc n) S1) = rw (split, bare) refl in
+    let one : with_front front (walls_at grid starts lines before n) ≡ Err (At (suc n) S1) = rw (split, bare) refl in
     rw add-one (sym at.read ∙ one)
 
 pub walls_missing : (grid : Ground) (starts front : List Cell) (before : Option Cell) (first n : ℕ) (lines : List (List ℕ)) (total : Result (List Cell) SessionFault)
     → lines ≡ [] → AtWall grid starts front before first n lines total → total ≡ Err (At n S1)
 unfolding walls_at
 walls_missing grid starts front before first n lines total none at =
-    let one : with_walls front (walls_at grid starts lines before n) ≡ Err (At n S1) = rw none refl in
+    let one : with_front front (walls_at grid starts lines before n) ≡ Err (At n S1) = rw none refl in
     sym at.read ∙ one

@@ -10,58 +10,30 @@ use Rattle.definitions.specs.declared.sessions.SessionRule.TheVariants.{S1, S2, 
 use Rattle.definitions.specs.Lists.{EachIs}
 use Rattle.definitions.specs.World as world
 use Rattle.definitions.specs.World.{Ground, has_cell, is_inside, is_before_first, in_row_order}
-use Rattle.text_lines.specs.Lines.{line_of, is_bare, one_of, two_of, three_of, three_or_five_of}
+use Rattle.text_lines.specs.Lines.{line_of, is_bare, is_within, one_of, two_of, three_of, three_or_five_of}
 use Rattle.grid_world.specs.Sessions.{IsSeat, GoesByTheRules, most_players, most_turns, widest_side}
 use Rattle.grid_world.specs.Text.{player_line, player_lines, wall_line, end_line}
-use Rattle.grid_world.specs.Reading.{◌>>=◌, keeps, line_at, is_within, version_at, sides_at, steps_at, charges_at, turns_at, ahead_at, players_line, first_player_line, players_at, Head, head_at, cell_at, may_be_own, seat_by, seat_at, seats_at, is_after, wall_at, walls_at, ends_at}
-use Rattle.grid_world.proofs.Steps.{bind_ok, keeps_ok, kept_ok, ok_is, line_at_ok, wall_at_ok}
+use Rattle.text_lines.specs.Reading.{ends_at, line_at}
+use Rattle.text_lines.proofs.Steps.{behind_line, bind_ok, keeps_ok, kept_ok, line_at_ok, line_at_spelled, none_behind, ok_is, takes_line}
+use Rattle.grid_world.specs.declared.fault.SessionFault.{SessionFault}
+use Rattle.grid_world.specs.declared.fault.SessionFault.TheVariants.{At}
+use Rattle.grid_world.specs.Reading.{version_at, sides_at, steps_at, charges_at, turns_at, ahead_at, players_line, first_player_line, players_at, Head, head_at, cell_at, may_be_own, seat_by, seat_at, seats_at, is_after, wall_at, walls_at}
+use Rattle.grid_world.proofs.Steps.{wall_at_ok}
 use Rattle.text_lines.specs.Laws.{two_more}
-use Rattle.text_lines.proofs.Forms.{one_of-some, two_of-some, three_of-some, three_or_five_of-some}
+use Rattle.text_lines.proofs.Forms.{within_of, one_of-some, two_of-some, three_of-some, three_or_five_of-some}
 use Rattle.plain_lemmas.proofs.Tests.{chosen}
-
-within : (low high n : ℕ) → is_within low high n ≡ true → (low ≤ n) × (n ≤ high)
-within low high n h =
-    let both = and_parts (nat_le low n) (nat_le n high) h in
-    (leb-true low n both.0, leb-true n high both.1)
 
 -- ---- the lines before those of the players
 
--- a line that was read: how it is spelled, and the rule that it keeps
-record TakesOne (name : List ℕ) (test : ℕ → Bool) (lines : List (List ℕ)) (x : ℕ × List (List ℕ)) : Type 0 where
-  spelled : lines ≡ line_of name (x.0 ∷ []) ∷ x.1
-  kept : test x.0 ≡ true
+-- lines of one number, of two and of three
+abbrev of_one : List ℕ → ℕ → List ℕ
+of_one name n = line_of name (n ∷ [])
 
-takes_one : (n : ℕ) (name : List ℕ) (test : ℕ → Bool) (rule : _) (lines : List (List ℕ)) (x : ℕ × List (List ℕ))
-    → (line_at n (one_of name) lines >>= λ line. keeps n rule (test line.0) line) ≡ Ok x → TakesOne name test lines x
-takes_one n name test rule lines x e =
-    let a = bind_ok (line_at n (one_of name) lines) _ x e in
-    let kept = keeps_ok n rule (test a.0.0) a.0 x a.2 in
-    let line = line_at_ok n (one_of name) lines a.0.0 a.0.1 a.1 in
-    subst (λ (y : ℕ × List (List ℕ)). TakesOne name test lines y) {x = a.0} kept.1 (record { spelled = line.1 ∙ ap (λ (l : List ℕ). l ∷ a.0.1) (one_of-some name line.0 a.0.0 line.2); kept = kept.0 })
+abbrev of_two : List ℕ → ℕ × ℕ → List ℕ
+of_two name x = line_of name (x.0 ∷ x.1 ∷ [])
 
-record TakesTwo (name : List ℕ) (test : ℕ × ℕ → Bool) (lines : List (List ℕ)) (x : (ℕ × ℕ) × List (List ℕ)) : Type 0 where
-  spelled : lines ≡ line_of name (x.0.0 ∷ x.0.1 ∷ []) ∷ x.1
-  kept : test x.0 ≡ true
-
-takes_two : (n : ℕ) (name : List ℕ) (test : ℕ × ℕ → Bool) (rule : _) (lines : List (List ℕ)) (x : (ℕ × ℕ) × List (List ℕ))
-    → (line_at n (two_of name) lines >>= λ line. keeps n rule (test line.0) line) ≡ Ok x → TakesTwo name test lines x
-takes_two n name test rule lines x e =
-    let a = bind_ok (line_at n (two_of name) lines) _ x e in
-    let kept = keeps_ok n rule (test a.0.0) a.0 x a.2 in
-    let line = line_at_ok n (two_of name) lines a.0.0 a.0.1 a.1 in
-    subst (λ (y : (ℕ × ℕ) × List (List ℕ)). TakesTwo name test lines y) {x = a.0} kept.1 (record { spelled = line.1 ∙ ap (λ (l : List ℕ). l ∷ a.0.1) (two_of-some name line.0 a.0.0 line.2); kept = kept.0 })
-
-record TakesThree (name : List ℕ) (test : ℕ × ℕ × ℕ → Bool) (lines : List (List ℕ)) (x : (ℕ × ℕ × ℕ) × List (List ℕ)) : Type 0 where
-  spelled : lines ≡ line_of name (x.0.0 ∷ x.0.1 ∷ x.0.2 ∷ []) ∷ x.1
-  kept : test x.0 ≡ true
-
-takes_three : (n : ℕ) (name : List ℕ) (test : ℕ × ℕ × ℕ → Bool) (rule : _) (lines : List (List ℕ)) (x : (ℕ × ℕ × ℕ) × List (List ℕ))
-    → (line_at n (three_of name) lines >>= λ line. keeps n rule (test line.0) line) ≡ Ok x → TakesThree name test lines x
-takes_three n name test rule lines x e =
-    let a = bind_ok (line_at n (three_of name) lines) _ x e in
-    let kept = keeps_ok n rule (test a.0.0) a.0 x a.2 in
-    let line = line_at_ok n (three_of name) lines a.0.0 a.0.1 a.1 in
-    subst (λ (y : (ℕ × ℕ × ℕ) × List (List ℕ)). TakesThree name test lines y) {x = a.0} kept.1 (record { spelled = line.1 ∙ ap (λ (l : List ℕ). l ∷ a.0.1) (three_of-some name line.0 a.0.0 line.2); kept = kept.0 })
+abbrev of_three : List ℕ → ℕ × ℕ × ℕ → List ℕ
+of_three name x = line_of name (x.0 ∷ x.1 ∷ x.2 ∷ [])
 
 -- the line that says how many turns ahead players commit, if the version has one
 abbrev pub ahead_pieces : (version ahead : ℕ) → List (List ℕ)
@@ -76,9 +48,9 @@ ahead_takes : (version : ℕ) (lines : List (List ℕ)) (x : ℕ × List (List �
 unfolding ahead_at
 ahead_takes version lines x e =
     elim (chosen (version == 1) _ _ _ e) [
-      | inl one ↦ subst (λ (y : ℕ × List (List ℕ)). TakesAhead version lines y) {x = (1, lines)} (ok_is _ _ one.1) (record { spelled = rw one.0 refl; kept = refl; first = λ is. refl })
+      | inl one ↦ subst (λ (y : ℕ × List (List ℕ)). TakesAhead version lines y) {x = (1, lines)} (ok_is {E = SessionFault} _ _ one.1) (record { spelled = rw one.0 refl; kept = refl; first = λ is. refl })
       | inr other ↦
-          let line = takes_one 6 (codes "ahead") (is_within 1 MOST_AHEAD) S10 lines x other.1 in
+          let line = takes_line (At 6 S1) (At 6 S10) (one_of (codes "ahead")) (of_one (codes "ahead")) (is_within 1 MOST_AHEAD) lines x (one_of-some (codes "ahead")) other.1 in
           record { spelled = rw other.0 line.spelled; kept = line.kept; first = λ is. absurd (false≢true (sym other.0 ∙ eq-eqb version 1 is)) }
     ]
 
@@ -91,12 +63,12 @@ players_takes : (version turns : ℕ) (lines : List (List ℕ)) (x : ℕ × List
 unfolding players_at
 players_takes version turns lines x e =
     let n : ℕ = players_line version in
-    let a = bind_ok (line_at n (one_of (codes "players")) lines) _ x e in
-    let kept = kept_ok n S7 (is_within FEWEST_PLAYERS (most_players version) a.0.0) a.0 _ x a.2 in
-    let few = keeps_ok n S12 (nat_le (a.0.0 * turns) MOST_TURNS_OF_ALL) a.0 x kept.1 in
-    let line = line_at_ok n (one_of (codes "players")) lines a.0.0 a.0.1 a.1 in
+    let a = bind_ok (line_at (At n S1) (one_of (codes "players")) lines) _ x e in
+    let kept = kept_ok (At n S7) (is_within FEWEST_PLAYERS (most_players version) a.0.0) a.0 _ x a.2 in
+    let few = keeps_ok (At n S12) (nat_le (a.0.0 * turns) MOST_TURNS_OF_ALL) a.0 x kept.1 in
+    let line = line_at_spelled (At n S1) (one_of (codes "players")) (of_one (codes "players")) lines a.0 (one_of-some (codes "players")) a.1 in
     subst (λ (y : ℕ × List (List ℕ)). TakesPlayers version turns lines y) {x = a.0} few.1
-    (record { spelled = line.1 ∙ ap (λ (l : List ℕ). l ∷ a.0.1) (one_of-some (codes "players") line.0 a.0.0 line.2); kept = kept.0; few = few.0 })
+    (record { spelled = line; kept = kept.0; few = few.0 })
 
 -- the tests of these lines
 abbrev pub are_sides : (version : ℕ) → ℕ × ℕ → Bool
@@ -163,26 +135,22 @@ head_kept version sides steps charges turns ahead players version_is sides_are s
     let cap = and_parts (nat_le charges.1 MOST_CHARGE) (nat_le charges.2 MOST_CHARGE && nat_le charges.0 charges.1) start.1 in
     let cost = and_parts (nat_le charges.2 MOST_CHARGE) (nat_le charges.0 charges.1) cap.1 in
     record {
-      version = within 1 LAST_VERSION version version_is;
-      width = within 1 (widest_side version) sides.0 two.0;
-      height = within 1 (widest_side version) sides.1 two.1;
+      version = within_of 1 LAST_VERSION version version_is;
+      width = within_of 1 (widest_side version) sides.0 two.0;
+      height = within_of 1 (widest_side version) sides.1 two.1;
       bare = refl;
-      speed = within 1 MOST_SPEED steps.0 speed.0;
+      speed = within_of 1 MOST_SPEED steps.0 speed.0;
       reach = leb-true steps.1 FARTHEST_REACH far.0;
       blast = leb-true steps.2 WIDEST_BLAST far.1;
       start_charge = leb-true charges.0 charges.1 cost.1;
       cap = leb-true charges.1 MOST_CHARGE cap.0;
       cost = leb-true charges.2 MOST_CHARGE cost.0;
-      turns = within 1 (most_turns version) turns turns_are;
-      ahead = within 1 MOST_AHEAD ahead ahead_is;
+      turns = within_of 1 (most_turns version) turns turns_are;
+      ahead = within_of 1 MOST_AHEAD ahead ahead_is;
       ahead_first = ahead_first;
-      players = within FEWEST_PLAYERS (most_players version) players players_are;
+      players = within_of FEWEST_PLAYERS (most_players version) players players_are;
       turns_of_all = leb-true (players * turns) MOST_TURNS_OF_ALL few;
     }
-
--- a line, and the lines behind it
-behind_line : (lines rest more : List (List ℕ)) (line : List ℕ) → lines ≡ line ∷ rest → rest ≡ more → lines ≡ line ∷ more
-behind_line lines rest more line first others = first ∙ ap (λ (ls : List (List ℕ)). line ∷ ls) others
 
 -- the line of the turns ahead, if there is one, that of the players, and the lines behind them
 last_behind : (ahead l5 l6 l7 : List (List ℕ)) (players : List ℕ) → l5 ≡ ahead ++ l6 → l6 ≡ players ∷ l7 → l5 ≡ (ahead ++ players ∷ []) ++ l7
@@ -206,15 +174,15 @@ head_takes lines x e =
     let f = bind_ok (turns_at a.0.0 d.0.1) _ x d.2 in
     let g = bind_ok (ahead_at a.0.0 f.0.1) _ x f.2 in
     let h = bind_ok (players_at a.0.0 f.0.0 g.0.1) _ x g.2 in
-    let one = takes_one 1 (codes "playout") (is_within 1 LAST_VERSION) S2 lines a.0 a.1 in
-    let two = takes_two 2 (codes "grid") (are_sides a.0.0) S3 a.0.1 b.0 b.1 in
-    let three = takes_three 3 (codes "rules") are_steps S4 b.0.1 c.0 c.1 in
-    let four = takes_three 4 (codes "charge") are_charges S5 c.0.1 d.0 d.1 in
-    let five = takes_one 5 (codes "turns") (is_within 1 (most_turns a.0.0)) S6 d.0.1 f.0 f.1 in
+    let one = takes_line (At 1 S1) (At 1 S2) (one_of (codes "playout")) (of_one (codes "playout")) (is_within 1 LAST_VERSION) lines a.0 (one_of-some (codes "playout")) a.1 in
+    let two = takes_line (At 2 S1) (At 2 S3) (two_of (codes "grid")) (of_two (codes "grid")) (are_sides a.0.0) a.0.1 b.0 (two_of-some (codes "grid")) b.1 in
+    let three = takes_line (At 3 S1) (At 3 S4) (three_of (codes "rules")) (of_three (codes "rules")) are_steps b.0.1 c.0 (three_of-some (codes "rules")) c.1 in
+    let four = takes_line (At 4 S1) (At 4 S5) (three_of (codes "charge")) (of_three (codes "charge")) are_charges c.0.1 d.0 (three_of-some (codes "charge")) d.1 in
+    let five = takes_line (At 5 S1) (At 5 S6) (one_of (codes "turns")) (of_one (codes "turns")) (is_within 1 (most_turns a.0.0)) d.0.1 f.0 (one_of-some (codes "turns")) f.1 in
     let six = ahead_takes a.0.0 f.0.1 g.0 g.1 in
     let seven = players_takes a.0.0 f.0.0 g.0.1 h.0 h.1 in
     let head : Head = head_from a.0.0 b.0.0 c.0.0 d.0.0 f.0.0 g.0.0 h.0.0 in
-    subst (λ (y : Head × List (List ℕ)). TakesHead lines y) {x = (head, h.0.1)} (ok_is (head, h.0.1) x h.2)
+    subst (λ (y : Head × List (List ℕ)). TakesHead lines y) {x = (head, h.0.1)} (ok_is {E = SessionFault} (head, h.0.1) x h.2)
     (record {
       spelled = all_behind lines a.0.1 b.0.1 c.0.1 d.0.1 f.0.1 g.0.1 h.0.1 head one.spelled two.spelled three.spelled four.spelled five.spelled six.spelled seven.spelled;
       kept = head_kept a.0.0 b.0.0 c.0.0 d.0.0 f.0.0 g.0.0 h.0.0 one.kept two.kept three.kept four.kept five.kept six.kept six.first seven.kept seven.few;
@@ -244,7 +212,7 @@ seat_said rules q x y (Some own) speed reach kept =
     record {
       spelled = rw (not-true ((own.0 == rules.speed) && (own.1 == rules.reach)) b.1) refl;
       start = refl;
-      within = record { speed = within 1 MOST_SPEED own.0 a.0; reach = leb-true own.1 FARTHEST_REACH b.0 };
+      within = record { speed = within_of 1 MOST_SPEED own.0 a.0; reach = leb-true own.1 FARTHEST_REACH b.0 };
       alike = λ none. absurd (false≢true none);
     }
 
@@ -266,15 +234,15 @@ seat_takes : (head : Head) (q : ℕ) (lines : List (List ℕ)) (x : Seat × List
 unfolding seat_at
 seat_takes head q lines x facts e =
     let n : ℕ = first_player_line head.version + q in
-    let a = bind_ok (line_at n (three_or_five_of (codes "player")) lines) _ x e in
+    let a = bind_ok (line_at (At n S1) (three_or_five_of (codes "player")) lines) _ x e in
     let number : ℕ = a.0.0.0.0 in
     let cell : Cell = cell_at a.0.0.0.1 a.0.0.0.2 in
     let own : Option (ℕ × ℕ) = a.0.0.1 in
-    let formed = kept_ok n S1 (is_none own || not (head.version == 1)) a.0 _ x a.2 in
-    let placed = kept_ok n S8 ((number == q) && is_inside head.grid cell) a.0 _ x formed.1 in
-    let kept = keeps_ok n S11 (may_be_own head.rules own) (seat_by head.rules cell own, a.0.1) x placed.1 in
+    let formed = kept_ok (At n S1) (is_none own || not (head.version == 1)) a.0 _ x a.2 in
+    let placed = kept_ok (At n S8) ((number == q) && is_inside head.grid cell) a.0 _ x formed.1 in
+    let kept = keeps_ok (At n S11) (may_be_own head.rules own) (seat_by head.rules cell own, a.0.1) x placed.1 in
     let both = and_parts (number == q) (is_inside head.grid cell) placed.0 in
-    let line = line_at_ok n (three_or_five_of (codes "player")) lines a.0.0 a.0.1 a.1 in
+    let line = line_at_ok (At n S1) (three_or_five_of (codes "player")) lines a.0.0 a.0.1 a.1 in
     let spelled = three_or_five_of-some (codes "player") line.0 a.0.0 line.2 in
     let said = seat_said head.rules q cell.x cell.y own facts.speed facts.reach kept.0 in
     let numbered = ap (λ (m : ℕ). line_of (codes "player") (m ∷ cell.x ∷ cell.y ∷ two_more own)) (eqb-true number q both.0) in
@@ -296,13 +264,13 @@ pub record TakesSeats (head : Head) (k q : ℕ) (lines : List (List ℕ)) (x : L
 pub seats_takes : (head : Head) (k q : ℕ) (lines : List (List ℕ)) (x : List Seat × List (List ℕ)) → IsHead head → seats_at head k q lines ≡ Ok x → TakesSeats head k q lines x
 unfolding seats_at
 seats_takes head zero q lines x facts e =
-    subst (λ (y : List Seat × List (List ℕ)). TakesSeats head 0 q lines y) (ok_is ([], lines) x e) (record { spelled = refl; count = refl; inside = tt; within = tt; first = λ is. tt })
+    subst (λ (y : List Seat × List (List ℕ)). TakesSeats head 0 q lines y) (ok_is {E = SessionFault} ([], lines) x e) (record { spelled = refl; count = refl; inside = tt; within = tt; first = λ is. tt })
 seats_takes head (suc k) q lines x facts e =
     let a = bind_ok (seat_at head q lines) _ x e in
     let b = bind_ok (seats_at head k (suc q) a.0.1) _ x a.2 in
     let first = seat_takes head q lines a.0 facts a.1 in
     let others = seats_takes head k (suc q) a.0.1 b.0 facts b.1 in
-    subst (λ (y : List Seat × List (List ℕ)). TakesSeats head (suc k) q lines y) {x = (a.0.0 ∷ b.0.0, b.0.1)} (ok_is (a.0.0 ∷ b.0.0, b.0.1) x b.2)
+    subst (λ (y : List Seat × List (List ℕ)). TakesSeats head (suc k) q lines y) {x = (a.0.0 ∷ b.0.0, b.0.1)} (ok_is {E = SessionFault} (a.0.0 ∷ b.0.0, b.0.1) x b.2)
     (record {
       spelled = behind_line lines a.0.1 _ _ first.spelled others.spelled;
       count = ap suc others.count;
@@ -329,14 +297,10 @@ pub record TakesWalls (grid : Ground) (starts : List Cell) (lines : List (List �
   pub inside : EachIs (λ c. IsTrue (is_inside grid c)) walls
   pub apart : EachIs (λ c. has_cell starts c ≡ false) walls
 
-none_behind : (n : ℕ) (lines : List (List ℕ)) (walls : List Cell) → ends_at n lines ≡ Ok walls → (lines ≡ []) × ([] ≡ walls)
-none_behind n [] walls e = (refl, ok_is [] walls e)
-none_behind n (line ∷ lines) walls e = absurd cc
-
 walls_end : (grid : Ground) (starts : List Cell) (line : List ℕ) (lines : List (List ℕ)) (before : Option Cell) (n : ℕ) (walls : List Cell)
-    → is_bare (codes "end") line ≡ true → ends_at n lines ≡ Ok walls → TakesWalls grid starts (line ∷ lines) before walls
+    → is_bare (codes "end") line ≡ true → ends_at (At n S1) lines ≡ Ok walls → TakesWalls grid starts (line ∷ lines) before walls
 walls_end grid starts line lines before n walls bare e =
-    let none = none_behind n lines walls e in
+    let none = none_behind (At n S1) lines walls e in
     let last : line ≡ end_line = same_text line (end_line) (sym bare) in
     subst (λ (cells : List Cell). TakesWalls grid starts (line ∷ lines) before cells) none.1
     (record { spelled = ap (λ (l : List ℕ). l ∷ lines) last ∙ ap (λ (ls : List (List ℕ)). end_line ∷ ls) none.0; order = refl; after = refl; inside = tt; apart = tt })
@@ -354,7 +318,7 @@ walls_takes grid starts (line ∷ lines) before n walls e =
           let first = wall_at_ok grid starts before n line a.0 a.1 in
           let spelled = two_of-some (codes "wall") line (a.0.x, a.0.y) first.said_is in
           let others = walls_takes grid starts lines (Some a.0) (suc n) b.0 b.1 in
-          subst (λ (cells : List Cell). TakesWalls grid starts (line ∷ lines) before cells) {x = a.0 ∷ b.0} (ok_is (a.0 ∷ b.0) walls b.2)
+          subst (λ (cells : List Cell). TakesWalls grid starts (line ∷ lines) before cells) {x = a.0 ∷ b.0} (ok_is {E = SessionFault} (a.0 ∷ b.0) walls b.2)
           (record {
             spelled = behind_line (line ∷ lines) lines _ _ (ap (λ (l : List ℕ). l ∷ lines) spelled) others.spelled;
             order = and_from (is_before_first a.0 b.0) (in_row_order b.0) (sym (follow-Some a.0 b.0) ∙ others.after) others.order;

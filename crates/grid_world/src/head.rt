@@ -1,10 +1,10 @@
 //! The lines of a session text before those of the players: six in version 1, and seven in version 2.
 
-ghost use Rattle.std.specs.Prelude.{◌≡◌, ◌<◌, ◌≤◌, length};
-ghost use Rattle.text_lines.specs.Lines as words;
+ghost use Rattle.std.specs.Prelude.{◌≡◌};
 ghost use Rattle.text_lines.specs.Lines.{ended_lines_of};
 ghost use Rattle.grid_world.specs.Reading as spec;
-ghost use Rattle.grid_world.specs.Reading.{Says, line_at, version_at, sides_at, steps_at, charges_at, turns_at, ahead_at, players_at, head_at};
+ghost use Rattle.text_lines.specs.Answers.{Says};
+ghost use Rattle.grid_world.specs.Reading.{version_at, sides_at, steps_at, charges_at, turns_at, ahead_at, players_at, head_at};
 ghost use Rattle.grid_world.specs.Parts.{head_of};
 ghost use Rattle.grid_world.specs.Sessions as sessions;
 ghost use Rattle.grid_world.specs.declared.fault.SessionFault.TheVariants.{At};
@@ -18,76 +18,13 @@ use definitions::limits::{
     MOST_PLAYERS_AT_FIRST, MOST_SPEED, MOST_TURNS, MOST_TURNS_AT_FIRST, MOST_TURNS_OF_ALL,
     WIDEST_BLAST, WIDEST_SIDE, WIDEST_SIDE_AT_FIRST,
 };
-use text_lines::{Numbers, one_of, take_line, three_of, three_or_five_of, two_of};
+use text_lines::{is_within, one_at, three_at, two_at};
 
 /// The fault of a line that breaks the rule.
 pub(crate) fn fault(line: u32, what: SessionRule) -> SessionFault
     ensures { result ≡ At line what }
 {
     SessionFault::At { line, what }
-}
-
-/// The number of line `n`, which has this name and one number, and the text behind the line.
-fn one_at<'a>(n: u32, name: &[u8], text: &'a [u8]) -> Result<(u32, &'a [u8]), SessionFault>
-    requires { 0 < length name.now }
-    ensures { Says (λ x. (x.0, ended_lines_of x.1.now)) result (line_at n (words.one_of name.now) (ended_lines_of text.now)) }
-{
-    let (line, rest) = take_line(text);
-    match one_of(name, line) {
-        None => Err(fault(n, SessionRule::S1)),
-        Some(number) => Ok((number, rest)),
-    }
-}
-
-/// The numbers of line `n`, which has this name and two numbers, and the text behind the line.
-fn two_at<'a>(n: u32, name: &[u8], text: &'a [u8]) -> Result<((u32, u32), &'a [u8]), SessionFault>
-    requires { 0 < length name.now }
-    ensures { Says (λ x. (x.0, ended_lines_of x.1.now)) result (line_at n (words.two_of name.now) (ended_lines_of text.now)) }
-{
-    let (line, rest) = take_line(text);
-    match two_of(name, line) {
-        None => Err(fault(n, SessionRule::S1)),
-        Some(numbers) => Ok((numbers, rest)),
-    }
-}
-
-/// The numbers of line `n`, which has this name and three numbers, and the text behind the line.
-fn three_at<'a>(
-    n: u32,
-    name: &[u8],
-    text: &'a [u8],
-) -> Result<((u32, u32, u32), &'a [u8]), SessionFault>
-    requires { 0 < length name.now }
-    ensures { Says (λ x. (x.0, ended_lines_of x.1.now)) result (line_at n (words.three_of name.now) (ended_lines_of text.now)) }
-{
-    let (line, rest) = take_line(text);
-    match three_of(name, line) {
-        None => Err(fault(n, SessionRule::S1)),
-        Some(numbers) => Ok((numbers, rest)),
-    }
-}
-
-/// The numbers of line `n`, which has this name and three or five numbers, and the text behind the line.
-pub(crate) fn three_or_five_at<'a>(
-    n: u32,
-    name: &[u8],
-    text: &'a [u8],
-) -> Result<(Numbers, &'a [u8]), SessionFault>
-    requires { 0 < length name.now }
-    ensures { Says (λ x. (x.0, ended_lines_of x.1.now)) result (line_at n (words.three_or_five_of name.now) (ended_lines_of text.now)) }
-{
-    let (line, rest) = take_line(text);
-    match three_or_five_of(name, line) {
-        None => Err(fault(n, SessionRule::S1)),
-        Some(numbers) => Ok((numbers, rest)),
-    }
-}
-
-/// Whether the number is one of those from `low` to `high`.
-pub(crate) fn is_within(low: u32, high: u32, n: u32) -> bool
-    ensures { result ≡ spec.is_within low high n }
-{
-    low <= n && n <= high
 }
 
 /// The most cells of a side of the grid, by the version.
@@ -128,7 +65,7 @@ fn most_players(version: u8) -> u8
 fn version(text: &[u8]) -> Result<(u8, &[u8]), SessionFault>
     ensures { Says (λ x. (x.0, ended_lines_of x.1.now)) result (version_at (ended_lines_of text.now)) }
 {
-    let (version, rest) = one_at(1, b"playout", text)?;
+    let (version, rest) = one_at(fault(1, SessionRule::S1), b"playout", text)?;
     if !is_within(1, LAST_VERSION.into(), version) {
         return Err(fault(1, SessionRule::S2));
     }
@@ -140,7 +77,7 @@ fn version(text: &[u8]) -> Result<(u8, &[u8]), SessionFault>
 fn sides(version: u8, text: &[u8]) -> Result<(Sides, &[u8]), SessionFault>
     ensures { Says (λ x. ((x.0.width, x.0.height), ended_lines_of x.1.now)) result (sides_at version (ended_lines_of text.now)) }
 {
-    let ((width, height), rest) = two_at(2, b"grid", text)?;
+    let ((width, height), rest) = two_at(fault(2, SessionRule::S1), b"grid", text)?;
     let widest = u32::from(widest_side(version));
     if !(is_within(1, widest, width) && is_within(1, widest, height)) {
         return Err(fault(2, SessionRule::S3));
@@ -157,7 +94,7 @@ fn sides(version: u8, text: &[u8]) -> Result<(Sides, &[u8]), SessionFault>
 fn steps(text: &[u8]) -> Result<((u8, u8, u8), &[u8]), SessionFault>
     ensures { Says (λ x. (x.0, ended_lines_of x.1.now)) result (steps_at (ended_lines_of text.now)) }
 {
-    let ((speed, reach, blast), rest) = three_at(3, b"rules", text)?;
+    let ((speed, reach, blast), rest) = three_at(fault(3, SessionRule::S1), b"rules", text)?;
     if !(is_within(1, MOST_SPEED.into(), speed)
         && (reach <= FARTHEST_REACH.into() && blast <= WIDEST_BLAST.into()))
     {
@@ -171,7 +108,7 @@ fn steps(text: &[u8]) -> Result<((u8, u8, u8), &[u8]), SessionFault>
 fn charges(text: &[u8]) -> Result<((u8, u8, u8), &[u8]), SessionFault>
     ensures { Says (λ x. (x.0, ended_lines_of x.1.now)) result (charges_at (ended_lines_of text.now)) }
 {
-    let ((start, cap, cost), rest) = three_at(4, b"charge", text)?;
+    let ((start, cap, cost), rest) = three_at(fault(4, SessionRule::S1), b"charge", text)?;
     let most = u32::from(MOST_CHARGE);
     if !(start <= most && (cap <= most && (cost <= most && start <= cap))) {
         return Err(fault(4, SessionRule::S5));
@@ -184,7 +121,7 @@ fn charges(text: &[u8]) -> Result<((u8, u8, u8), &[u8]), SessionFault>
 fn turns(version: u8, text: &[u8]) -> Result<(u32, &[u8]), SessionFault>
     ensures { Says (λ x. (x.0, ended_lines_of x.1.now)) result (turns_at version (ended_lines_of text.now)) }
 {
-    let (turns, rest) = one_at(5, b"turns", text)?;
+    let (turns, rest) = one_at(fault(5, SessionRule::S1), b"turns", text)?;
     if !is_within(1, most_turns(version), turns) {
         return Err(fault(5, SessionRule::S6));
     }
@@ -199,7 +136,7 @@ fn ahead(version: u8, text: &[u8]) -> Result<(u32, &[u8]), SessionFault>
     if version == 1 {
         return Ok((1, text));
     }
-    let (ahead, rest) = one_at(6, b"ahead", text)?;
+    let (ahead, rest) = one_at(fault(6, SessionRule::S1), b"ahead", text)?;
     if !is_within(1, MOST_AHEAD, ahead) {
         return Err(fault(6, SessionRule::S10));
     }
@@ -226,7 +163,7 @@ fn players(version: u8, turns: u32, text: &[u8]) -> Result<(u8, &[u8]), SessionF
     ensures { Says (λ x. (x.0, ended_lines_of x.1.now)) result (players_at version turns (ended_lines_of text.now)) }
 {
     let line = players_line(version);
-    let (players, rest) = one_at(line, b"players", text)?;
+    let (players, rest) = one_at(fault(line, SessionRule::S1), b"players", text)?;
     if !is_within(FEWEST_PLAYERS.into(), most_players(version).into(), players) {
         return Err(fault(line, SessionRule::S7));
     }

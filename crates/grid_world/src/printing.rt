@@ -10,24 +10,7 @@ use crate::rules::Rules;
 use crate::session::Session;
 use definitions::{PlayerId, Seat};
 use std::alloc::{AllocError, Global};
-
-/// Writes the line of this name and these numbers.
-fn put_line(
-    alloc: Global,
-    out: &mut Vec<u8>,
-    name: &[u8],
-    numbers: &[u32],
-) -> Result<(), AllocError>
-    ensures { OnOk result (out.new.items ≡ out.old.items ++ line_of name.now numbers.now) }
-{
-    out.extend_from_slice(name)?;
-    for number in numbers {
-        let field = format!(in alloc; " {number}")?;
-        out.extend_from_slice(field.as_bytes())?;
-    }
-    out.push(b'\n')?;
-    Ok(())
-}
+use text_lines::put_line;
 
 /// Writes the line that says how many turns ahead players commit, which no text of version 1 has.
 fn put_ahead(alloc: Global, out: &mut Vec<u8>, session: &Session) -> Result<(), AllocError>

@@ -3,16 +3,18 @@
 ghost use Rattle.std.specs.Prelude.{◌≡◌, ◌≤◌, Some, None, if◌then◌else◌, IfOk};
 ghost use Rattle.definitions.specs.World.{has_cell, is_inside};
 ghost use Rattle.text_lines.specs.Lines.{ended_lines_of};
+ghost use Rattle.text_lines.specs.Answers.{Faults, Gives, IsRead, Says};
 ghost use Rattle.grid_world.specs.Reading as spec;
-ghost use Rattle.grid_world.specs.Reading.{Gives, Says, head_at, seat_at, seats_at, wall_at, walls_at, cell_at, game_at, session_fault};
+ghost use Rattle.grid_world.specs.Reading.{head_at, seat_at, seats_at, wall_at, walls_at, cell_at, game_at, session_fault};
 ghost use Rattle.definitions.specs.World.{Game};
-ghost use Rattle.grid_world.specs.Answers.{IsReadFrom, IsRead, Faults};
+ghost use Rattle.grid_world.specs.declared.fault.SessionFault.TheVariants.{Memory};
+ghost use Rattle.grid_world.specs.Answers.{IsReadFrom, is_memory};
 ghost use Rattle.grid_world.specs.Parts.{bare, head_of};
 ghost use Rattle.grid_world.specs.Sessions.{rules_of, starts_of};
 
 use crate::fault::SessionFault;
 use crate::grid::Grid;
-use crate::head::{fault, first_player_line, head, is_within, three_or_five_at};
+use crate::head::{fault, first_player_line, head};
 use crate::parts::{Head, Sides};
 use crate::rules::Rules;
 use crate::session::Session;
@@ -20,7 +22,7 @@ use definitions::limits::{FARTHEST_REACH, MOST_SPEED, WIDEST_SIDE};
 use definitions::{Cell, PlayerId, Seat, SessionRule};
 use sha2::{Digest, Sha256};
 use std::alloc::Global;
-use text_lines::{is_last_line, take_line, two_of};
+use text_lines::{is_last_line, is_within, take_line, three_or_five_at, two_of};
 
 /// The cell of this column and this row, if it is inside.
 fn cell_of(sides: Sides, x: u32, y: u32) -> Option<Cell>
@@ -72,7 +74,11 @@ fn seat_of<'a>(
     ensures { Says (λ x. (x.0, ended_lines_of x.1.now)) result (seat_at (head_of head.now) player (ended_lines_of text.now)) }
 {
     let line = first_player_line(head.version) + u32::from(player);
-    let (((number, x, y), own), rest) = three_or_five_at(line, b"player", text)?;
+    let (((number, x, y), own), rest) = three_or_five_at(
+        fault(line, SessionRule::S1),
+        b"player",
+        text,
+    )?;
     if !(own.is_none() || head.version != 1) {
         return Err(fault(line, SessionRule::S1));
     }
@@ -92,7 +98,7 @@ fn seats_of<'a>(
     head: &Head,
     text: &'a [u8],
 ) -> Result<(Vec<Seat>, &'a [u8]), SessionFault>
-    ensures { Gives (λ x. (x.0.items, ended_lines_of x.1.now)) result (seats_at (head_of head.now) head.now.players 0 (ended_lines_of text.now)) }
+    ensures { Gives is_memory (λ x. (x.0.items, ended_lines_of x.1.now)) result (seats_at (head_of head.now) head.now.players 0 (ended_lines_of text.now)) }
 {
     let mut seats = Vec::new(alloc);
     let mut rest = text;
@@ -158,7 +164,7 @@ fn walls_of(
     requires wide { sides.width ≤ WIDEST_SIDE }
     requires high { sides.height ≤ WIDEST_SIDE }
     requires early { first ≤ 72 }
-    ensures { Gives (λ v. v.items) result (walls_at (bare sides) (starts_of seats.now) (ended_lines_of text.now) None first) }
+    ensures { Gives is_memory (λ v. v.items) result (walls_at (bare sides) (starts_of seats.now) (ended_lines_of text.now) None first) }
 {
     let mut walls = Vec::new(alloc);
     let mut before = None;
@@ -184,7 +190,7 @@ fn walls_of(
 /// The session of a text, or the first rule that the text breaks.
 #[tactic(auto, unfolding(crate::specs::Reading::game_at, crate::specs::Reading::said_by))]
 fn session_of(alloc: Global, text: &[u8]) -> Result<Session, SessionFault>
-    ensures said { Gives (λ s. s) result (game_at text.now) }
+    ensures said { Gives is_memory (λ s. s) result (game_at text.now) }
     ensures early { (e : SessionFault) → head_at (ended_lines_of text.now) ≡ Err e → result ≡ Err e }
 {
     let (head, rest) = head(text)?;
@@ -212,13 +218,13 @@ pub fn read_session(alloc: Global, text: &[u8]) -> Result<Session, SessionFault>
     // What is read has this text and no other.
     ensures found { IfOk result (λ s. IsReadFrom s text.now) }
     // Each text of a session is read as that session, unless memory runs out.
-    ensures only { (game : Game) → IsReadFrom game text.now → IsRead game result }
+    ensures only { (game : Game) → IsReadFrom game text.now → IsRead Memory game result }
     // Which line is at fault, and which rule it breaks.
-    ensures exact { Faults result (session_fault text.now) }
+    ensures exact { Faults is_memory result (session_fault text.now) }
     // A fault in the lines before those of the players is answered before any memory is taken.
     ensures early { (e : SessionFault) → head_at (ended_lines_of text.now) ≡ Err e → result ≡ Err e }
     // All of it once more, as the text is read line by line.
-    ensures said { Gives (λ s. s) result (game_at text.now) }
+    ensures said { Gives is_memory (λ s. s) result (game_at text.now) }
 {
     session_of(alloc, text)
 }

@@ -1,3 +1,4 @@
 pub mod Digits
 pub mod HexFields
 pub mod Fields
+pub mod Faults

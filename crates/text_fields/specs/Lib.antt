@@ -3,4 +3,5 @@ pub mod Cells
 pub mod Hexes
 pub mod Spelling
 pub mod Kinds
+pub mod Faults
 pub mod Laws

@@ -1,11 +1,13 @@
 use Rattle.std.proofs.Common.{List, ℕ, ◌∷◌, None, refl, sym, ap, ◌∙◌, take, drop}
 use Rattle.std.proofs.lemmas.Result.{err_from_is_err_and}
 use Rattle.text_lines.specs.Lines.{ended_lines_of, line_len}
+use Rattle.text_lines.proofs.Answers.{said_fails}
+use Rattle.grid_world.specs.Answers.{is_memory}
 use Rattle.grid_world.specs.Reading.{walls_at}
 use Rattle.grid_world.specs.Parts.{bare}
 use Rattle.grid_world.specs.Sessions.{starts_of}
 use Rattle.text_lines.proofs.FirstLine.{ended_lines_of-first, some_left, none_left}
-use Rattle.grid_world.proofs.Loops.{said_fails, walls_more, walls_fail, walls_end, walls_past, walls_missing}
+use Rattle.grid_world.proofs.Loops.{walls_more, walls_fail, walls_end, walls_past, walls_missing}
 use Rattle.grid_world.proofs.reading.walls_of.Goals as goal
 
 pub returns-then-is_empty : goal.returns-then-is_empty
@@ -36,7 +38,7 @@ returns-in_err-wall c =
     let split = ended_lines_of-first r.rest.now line after (some_left r.rest.now c.is_empty.result c.is_empty.ensures c.loop-rest-test.true) c.take_line.ensures.line c.take_line.ensures.rest in
     let p = err_from_is_err_and c.from_residual.result c.from_residual.ensures.1 in
     rw (p.1, p.2) (walls_fail (bare c.args.sides) c.in_err-wall.field-0.0 (starts_of c.args.seats.now) r.walls.items r.before c.args.first r.n line (ended_lines_of r.rest.now) (ended_lines_of after) (walls_at (bare c.args.sides) (starts_of c.args.seats.now) (ended_lines_of c.args.text.now) None c.args.first)
-    split (sym c.is_last_line.ensures ∙ c.if-is_last_line.false) (said_fails _ _ c.in_err-wall.ensures) r.invariant)
+    split (sym c.is_last_line.ensures ∙ c.if-is_last_line.false) (said_fails is_memory _ _ c.in_err-wall.ensures) r.invariant)
 
 pub loop-rest-preserved : goal.loop-rest-preserved
 loop-rest-preserved c =
