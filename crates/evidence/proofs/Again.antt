@@ -1,5 +1,5 @@
 -- What is spelled is read: the text of an exhibit is read as that exhibit.
-use Rattle.std.proofs.Common.{◌≡◌, ℕ, suc, ◌+◌, ◌^◌, ◌≤◌, ◌<◌, true, false, List, [], ◌∷◌, ◌++◌, length, Ok, refl, ap, ◌∙◌, arith, inl, inr}
+use Rattle.std.proofs.Common.{◌≡◌, ℕ, suc, ◌+◌, ◌^◌, ◌≤◌, ◌<◌, true, false, List, [], ◌∷◌, ◌++◌, length, Ok, refl, arith, inl, inr}
 use Rattle.std.specs.Prelude.{codes, ◌==◌, ◌&&◌, nat_le}
 use Rattle.std.specs.List.{list_all}
 use Rattle.std.specs.Char.{is_ascii_digit}
@@ -11,22 +11,23 @@ use Rattle.definitions.specs.declared.findings.Kind.TheVariants.{TwoCommits, Bad
 use Rattle.definitions.specs.declared.limits.TheConstants.{GREATEST_PLAYER, MOST_EVIDENCE_FRAMES}
 use Rattle.definitions.specs.Lists.{EachIs}
 use Rattle.commitment.specs.Spelling.{frame_bytes}
-use Rattle.text_lines.specs.Lines.{line_of, ended_lines_of, joined}
-use Rattle.text_lines.proofs.Joined.{has_no_lf, ended_lines_of-line}
+use Rattle.text_lines.specs.Lines.{ended_lines_of}
+use Rattle.text_lines.proofs.Forms.{one_within-spelled}
+use Rattle.text_lines.proofs.Joined.{AreLines, IsLine, bare_line, ended_lines_of-joined, has_no_lf, one_line}
 use Rattle.text_fields.specs.Hexes.{is_lower_digit}
 use Rattle.text_fields.proofs.Digits.{digits_lower}
 use Rattle.evidence.specs.declared.exhibit.Exhibit.{Exhibit}
 use Rattle.evidence.specs.Text.{IsExhibit, FitsText, kind_line, frame_line, head_lines, frame_lines, exhibit_lines, exhibit_text}
 use Rattle.evidence.specs.Reading.{head_at, frame_at, frames_at, said_by}
-use Rattle.evidence.proofs.Steps.{number_said-spelled, kind_said-spelled, frame_said-spelled}
+use Rattle.evidence.proofs.Steps.{kind_said-spelled, frame_said-spelled}
 
 pub head_again : (q t : ℕ) (kind : Kind) (rest : List (List ℕ)) → q ≤ GREATEST_PLAYER → t < 2 ^ 32 → head_at (head_lines q t kind ++ rest) ≡ Ok (record { player = q; turn = t; kind = kind }, rest)
 unfolding head_at
 head_again q t kind rest player turn =
     rw (
-      number_said-spelled (codes "evidence") 1 1 1 (omega arith) (omega arith) (omega arith),
-      number_said-spelled (codes "player") 0 GREATEST_PLAYER q (omega arith) player (omega (arith, player)),
-      number_said-spelled (codes "turn") 0 4294967295 t (omega arith) (omega (arith, turn)) turn,
+      one_within-spelled (codes "evidence") 1 1 1 (omega arith) (omega arith) (omega arith),
+      one_within-spelled (codes "player") 0 GREATEST_PLAYER q (omega arith) player (omega (arith, player)),
+      one_within-spelled (codes "turn") 0 4294967295 t (omega arith) (omega (arith, turn)) turn,
       kind_said-spelled kind,
     ) refl
 
@@ -51,21 +52,6 @@ said_again x is =
 
 -- ---- the lines of the text
 
--- it is the first line of each text that it begins
-abbrev IsLine : List ℕ → Type 0
-IsLine line = (rest : List ℕ) → ended_lines_of (line ++ rest) ≡ line ∷ ended_lines_of rest
-
-ended_lines_of-joined : (lines : List (List ℕ)) → EachIs IsLine lines → ended_lines_of (joined lines) ≡ lines
-unfolding ended_lines_of
-ended_lines_of-joined [] each = refl
-ended_lines_of-joined (line ∷ lines) each = each.0 (joined lines) ∙ ap (λ (ls : List (List ℕ)). line ∷ ls) (ended_lines_of-joined lines each.1)
-
-number_line : (name : List ℕ) (n : ℕ) → has_no_lf name ≡ true → n < 2 ^ 32 → IsLine (line_of name (n ∷ []))
-number_line name n plain small rest = ended_lines_of-line name (n ∷ []) rest plain (small, tt)
-
-bare_line : (name : List ℕ) → has_no_lf name ≡ true → IsLine (line_of name [])
-bare_line name plain rest = ended_lines_of-line name [] rest plain tt
-
 kind_is_line : (kind : Kind) → IsLine (kind_line kind)
 kind_is_line TwoCommits = bare_line (codes "kind two-commits") refl
 kind_is_line BadOpening = bare_line (codes "kind bad-opening") refl
@@ -89,7 +75,7 @@ digits_plain (d ∷ ds) all =
 frame_is_line : (f : TurnFrame) → FitsText f → IsLine (frame_line f)
 frame_is_line f fits = bare_line (codes "frame " ++ encode_lower (frame_bytes f)) (digits_plain (encode_lower (frame_bytes f)) (digits_lower (frame_bytes f) fits.1))
 
-frames_are_lines : (fs : List TurnFrame) → EachIs FitsText fs → EachIs IsLine (frame_lines fs)
+frames_are_lines : (fs : List TurnFrame) → EachIs FitsText fs → AreLines (frame_lines fs)
 frames_are_lines [] fits = (bare_line (codes "end") refl, tt)
 frames_are_lines (f ∷ fs) fits = (frame_is_line f fits.0, frames_are_lines fs fits.1)
 
@@ -98,9 +84,9 @@ unfolding exhibit_text
 ended_lines_of-exhibit_text x is =
     let player = is.player in
     ended_lines_of-joined (exhibit_lines x) (
-      number_line (codes "evidence") 1 refl (omega arith),
+      one_line (codes "evidence") 1 refl (omega arith),
       (
-        number_line (codes "player") x.player refl (omega arith),
-        (number_line (codes "turn") x.turn refl is.turn, (kind_is_line x.kind, frames_are_lines x.frames is.frames)),
+        one_line (codes "player") x.player refl (omega arith),
+        (one_line (codes "turn") x.turn refl is.turn, (kind_is_line x.kind, frames_are_lines x.frames is.frames)),
       ),
     )

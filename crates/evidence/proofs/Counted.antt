@@ -1,7 +1,7 @@
 -- Counted: how many frames show something.
 use Rattle.std.proofs.Common.{◌≡◌, ◌⊎◌, ℕ, ◌+◌, ◌*◌, Bool, true, false, List, [], ◌∷◌, length, refl, ap, length-append, arith, inl, inr}
 use Rattle.std.specs.Prelude.{not, ◌&&◌, ◌==◌, nat_lt}
-use Rattle.std.proofs.lemmas.Bool.{and_parts, eqb-true, false≢true}
+use Rattle.std.proofs.lemmas.Bool.{and_parts, eqb-true, not-true, false≢true}
 use Rattle.definitions.specs.declared.world.Move.{Move}
 use Rattle.definitions.specs.declared.frames.TurnFrame.{TurnFrame}
 use Rattle.definitions.specs.declared.frames.TurnFrame.TheVariants.{Commit, Reveal}
@@ -30,10 +30,6 @@ pub record IsTurnOf (game : Game) (q last : ℕ) (f g : TurnFrame) (fs : List Tu
       ((length before ≡ last) × (is_illegal_after game q before g ≡ true) × (fs ≡ [])) ⊎
       (((length before == last) ≡ false) × (is_illegal_after game q before g ≡ false) × (end_illegal game q last fs (with_move_of before g) ≡ true))
 
-not_so : (b : Bool) → not b ≡ true → b ≡ false
-not_so true h = absurd (false≢true h)
-not_so false h = refl
-
 pub turn_of_illegal : (game : Game) (q last : ℕ) (f g : TurnFrame) (fs : List TurnFrame) (before : List Move) → end_illegal game q last (f ∷ g ∷ fs) before ≡ true → IsTurnOf game q last f g fs before
 unfolding end_illegal
 turn_of_illegal game q last f g fs before h =
@@ -50,7 +46,7 @@ turn_of_illegal game q last f g fs before h =
             inl (eqb-true (length before) last here.0, d.0, empty_nil fs d.1)
         | inr there ↦
             let d = and_parts (not (is_illegal_after game q before g)) (end_illegal game q last fs (with_move_of before g)) there.1 in
-            inr (there.0, not_so _ d.0, d.1)
+            inr (there.0, not-true _ d.0, d.1)
       ];
     }
 

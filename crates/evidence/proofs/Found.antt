@@ -1,15 +1,19 @@
 -- What reading an evidence text answers, from what the text says.
-use Rattle.std.proofs.Common.{◌≡◌, ℕ, List, Result, Ok, Err, refl, sym, ap, subst, ◌∙◌, arith}
+use Rattle.std.proofs.Common.{◌≡◌, ℕ, List, Result, Ok, refl, sym, ap, subst, ◌∙◌, arith}
 use Rattle.std.specs.Prelude.{◌++◌, IfOk}
 use Rattle.text_lines.specs.Lines.{ended_lines_of, joined}
+use Rattle.text_lines.specs.Answers.{Faults, Gives, IsRead}
+use Rattle.text_lines.proofs.Answers.{faults, is_found, is_read}
 use Rattle.text_lines.proofs.Joined.{joined-ended_lines_of}
+use Rattle.text_lines.proofs.Steps.{bind_ok, ok_is}
 use Rattle.text_fields.specs.declared.fault.TextFault.{TextFault}
-use Rattle.text_fields.specs.declared.fault.TextFault.TheVariants.{At, Memory}
+use Rattle.text_fields.specs.declared.fault.TextFault.TheVariants.{Memory}
+use Rattle.text_fields.specs.Faults.{is_memory}
+use Rattle.text_fields.proofs.Faults.{only_memory}
 use Rattle.evidence.specs.declared.exhibit.Exhibit.{Exhibit}
 use Rattle.evidence.specs.Text.{IsExhibit, exhibit_lines, exhibit_text, head_lines}
-use Rattle.evidence.specs.Reading.{head_at, frames_at, said_by, exhibit_at, exhibit_fault, fault_of, Gives}
-use Rattle.evidence.specs.Answers.{IsReadFrom, IsRead, Faults}
-use Rattle.evidence.proofs.Steps.{bind_ok, ok_is}
+use Rattle.evidence.specs.Reading.{head_at, frames_at, said_by, exhibit_at, exhibit_fault}
+use Rattle.evidence.specs.Answers.{IsReadFrom}
 use Rattle.evidence.proofs.Taken.{head_takes, frames_take}
 use Rattle.evidence.proofs.Again.{said_again, ended_lines_of-exhibit_text}
 
@@ -24,7 +28,7 @@ said_found lines x e =
     let made : Exhibit = record { player = a.0.0.player; turn = a.0.0.turn; kind = a.0.0.kind; frames = b.0 } in
     let some = frames.some in
     let few = frames.few in
-    subst (λ (y : Exhibit). IsExhibit y × (lines ≡ exhibit_lines y)) {x = made} (ok_is made x b.2) (
+    subst (λ (y : Exhibit). IsExhibit y × (lines ≡ exhibit_lines y)) {x = made} (ok_is {E = TextFault} made x b.2) (
       record { player = head.player; turn = head.turn; some = omega arith; few = omega arith; frames = frames.frames },
       head.spelled ∙ ap (λ (ls : List (List ℕ)). head_lines a.0.0.player a.0.0.turn a.0.0.kind ++ ls) frames.spelled,
     )
@@ -50,19 +54,11 @@ exhibit_spelled text x e = let from = exhibit_found text x e in (from.exhibit, f
 
 -- ---- what the reader answers
 
-pub is_found : (text : List ℕ) (r : Result Exhibit TextFault) → Gives (λ x. x) r (exhibit_at text) → IfOk r (λ x. IsReadFrom x text)
-is_found text (Ok x) given = exhibit_found text x given
-is_found text (Err e) given = tt
+pub found_in : (text : List ℕ) (r : Result Exhibit TextFault) → Gives is_memory (λ x. x) r (exhibit_at text) → IfOk r (λ x. IsReadFrom x text)
+found_in text r given = is_found is_memory (λ x. IsReadFrom x text) r (exhibit_at text) (exhibit_found text) given
 
-pub is_read : (text : List ℕ) (r : Result Exhibit TextFault) (x : Exhibit) → Gives (λ x. x) r (exhibit_at text) → IsReadFrom x text → IsRead x r
-is_read text (Ok y) x given from = ok_is y x (sym given ∙ exhibit_again text x from)
-is_read text (Err Memory) x given from = refl
-is_read text (Err (At line)) x given from = absurd (apart (sym given ∙ exhibit_again text x from))
-  where
-    apart : Err (At line) ≡ Ok x → ⊥
-    apart e = absurd cc
+pub read_of : (text : List ℕ) (r : Result Exhibit TextFault) (x : Exhibit) → Gives is_memory (λ x. x) r (exhibit_at text) → IsReadFrom x text → IsRead Memory x r
+read_of text r x given from = is_read is_memory Memory r (exhibit_at text) x only_memory given (exhibit_again text x from)
 
-pub faults : (text : List ℕ) (r : Result Exhibit TextFault) → Gives (λ x. x) r (exhibit_at text) → Faults r (exhibit_fault text)
-faults text (Ok x) given = ap fault_of given
-faults text (Err Memory) given = tt
-faults text (Err (At line)) given = ap fault_of given
+pub faults_of : (text : List ℕ) (r : Result Exhibit TextFault) → Gives is_memory (λ x. x) r (exhibit_at text) → Faults is_memory r (exhibit_fault text)
+faults_of text r given = faults is_memory r (exhibit_at text) given

@@ -101,7 +101,7 @@ opens_some game f None h = absurd (false≢true h)
 opens_some game f (Some d) h = (d, refl, h)
 
 -- an illegal move is shown by a reveal
-illegal_reveals : (game : Game) (q : ℕ) (before : List Move) (f : TurnFrame) → is_illegal_after game q before f ≡ true → is_commit f ≡ false
+pub illegal_reveals : (game : Game) (q : ℕ) (before : List Move) (f : TurnFrame) → is_illegal_after game q before f ≡ true → is_commit f ≡ false
 illegal_reveals game q before (Commit p t d) h = absurd (false≢true h)
 illegal_reveals game q before (Reveal p t m n) h = refl
 

@@ -1,5 +1,4 @@
 pub mod Walking
-pub mod FirstLine
 pub mod Digits
 pub mod Loops
 pub mod Steps
@@ -12,6 +11,9 @@ pub mod Showing
 pub mod Resolved
 pub mod Illegal
 pub mod Counted
+pub mod Few
+pub mod Opened
+pub mod Faulty
 pub mod Convicted
 pub mod Short
 pub mod Standing

@@ -1,8 +1,9 @@
 -- Resolved: the turns that a log resolves of a player, each by a commitment and a reveal that it got.
-use Rattle.std.proofs.Common.{◌≡◌, ℕ, zero, suc, ◌+◌, ◌<◌, ◌≤◌, Bool, true, false, List, [], ◌∷◌, ◌++◌, length, Option, Some, None, refl, sym, ap, subst, ◌∙◌, arith, slice_get, take}
-use Rattle.std.specs.Prelude.{not, ◌&&◌, ◌==◌, find, flat_map, is_some, if◌then◌else◌}
+use Rattle.std.proofs.Common.{◌≡◌, ℕ, zero, suc, ◌+◌, ◌<◌, ◌≤◌, true, false, List, [], ◌∷◌, ◌++◌, length, Option, Some, None, refl, sym, ap, subst, ◌∙◌, arith, slice_get, take}
+use Rattle.std.specs.Prelude.{not, ◌&&◌, ◌==◌, find, flat_map, is_some}
 use Rattle.std.specs.List.{range_with_len}
 use Rattle.std.proofs.lemmas.Bool.{and_parts, and_from, eq-eqb, eqb-true, ne_eqb}
+use Rattle.std.proofs.lemmas.List.{length-take-le}
 use Rattle.definitions.specs.declared.world.Move.{Move}
 use Rattle.definitions.specs.declared.openings.Digest.{Digest}
 use Rattle.definitions.specs.declared.frames.TurnFrame.{TurnFrame}
@@ -23,6 +24,7 @@ use Rattle.definition_laws.proofs.Listing.{take_more}
 use Rattle.definition_laws.proofs.Members.{Has_middle}
 use Rattle.definition_laws.proofs.Nexts.{held_is_first, some_at}
 use Rattle.definition_laws.proofs.WellFormed.{got_entry, well_got}
+use Rattle.plain_lemmas.proofs.Options.{some_when}
 use Rattle.evidence.specs.Laws.{IsLogOf}
 use Rattle.evidence.specs.Showing.{resolving, turn_shown, turns_shown}
 use Rattle.evidence.proofs.Convicting.{digest_turned}
@@ -77,7 +79,7 @@ held_by game q u h d e =
     record { player = r.0; front = r.1; back = r.2; stands = sym (frames_are q h) ∙ r.3; first = r.4 }
 
 -- what `find` gives behind items that give nothing
-find_there : {X Y : Type 0} (g : X → Option Y) (front back : List X) (x : X) → EachIs (λ z. g z ≡ None) front → is_some (g x) ≡ true → find (λ z. is_some (g z)) (front ++ x ∷ back) ≡ Some x
+pub find_there : {X Y : Type 0} (g : X → Option Y) (front back : List X) (x : X) → EachIs (λ z. g z ≡ None) front → is_some (g x) ≡ true → find (λ z. is_some (g z)) (front ++ x ∷ back) ≡ Some x
 find_there g [] back x each some = rw some refl
 find_there g (z ∷ front) back x each some = rw each.0 (find_there g front back x each.1 some)
 
@@ -106,14 +108,10 @@ pub record GivesMove (game : Game) (q u : ℕ) (before : List Move) (d : Digest)
   pub legal : is_illegal_after game q before f ≡ false
   pub move : with_move_of before f ≡ before ++ m ∷ []
 
-gives_when : {X : Type 0} (b : Bool) (x y : X) → (if b then Some x else None) ≡ Some y → (b ≡ true) × (x ≡ y)
-gives_when true x y h = (refl, cc)
-gives_when false x y h = absurd cc
-
 pub opening_gives : (game : Game) (q u : ℕ) (before : List Move) (d : Digest) (f : TurnFrame) (m : Move) → opening_of game q before d u f ≡ Some m → GivesMove game q u before d f m
 opening_gives game q u before d (Commit p v e) m h = absurd (let none : None ≡ Some m = h in cc)
 opening_gives game q u before d (Reveal p v k n) m h =
-    let given = gives_when ((v == u) && digest_eq (digest_of game (Reveal p v k n)) d && is_legal game q (track_after game q before) k) k m h in
+    let given = some_when ((v == u) && digest_eq (digest_of game (Reveal p v k n)) d && is_legal game q (track_after game q before) k) k m h in
     let a = and_parts ((v == u) && digest_eq (digest_of game (Reveal p v k n)) d) (is_legal game q (track_after game q before) k) given.0 in
     let b = and_parts (v == u) (digest_eq (digest_of game (Reveal p v k n)) d) a.0 in
     record {
@@ -160,19 +158,14 @@ pub record EndsIllegal (game : Game) (q t : ℕ) (h : List Entry) (c r : TurnFra
   pub illegal : is_illegal_after game q (take t (got_known game q h).moves) r ≡ true
   pub before : t ≤ length (got_known game q h).moves
 
-length_take : {X : Type 0} (n : ℕ) (xs : List X) → n ≤ length xs → length (take n xs) ≡ n
-length_take zero xs le = refl
-length_take (suc n) [] le = absurd (omega arith)
-length_take (suc n) (x ∷ xs) le = ap suc (length_take n xs (omega arith))
-
-last_turn : (game : Game) (q t : ℕ) (f g : TurnFrame) (before : List Move) → length before ≡ t → is_of_turn q t f ≡ true → is_of_turn q t g ≡ true → is_opened_by game f g ≡ true →
+pub last_turn : (game : Game) (q t : ℕ) (f g : TurnFrame) (before : List Move) → length before ≡ t → is_of_turn q t f ≡ true → is_of_turn q t g ≡ true → is_opened_by game f g ≡ true →
     is_illegal_after game q before g ≡ true → end_illegal game q t (f ∷ g ∷ []) before ≡ true
 unfolding end_illegal
 last_turn game q t f g before len a b c d =
     let here : (t == t) ≡ true = eq-eqb t t refl in
     rw (len, a, b, c, here, d) refl
 
-more_turn : (game : Game) (q t u : ℕ) (f g : TurnFrame) (fs : List TurnFrame) (before after : List Move) → length before ≡ u → u < t → is_of_turn q u f ≡ true → is_of_turn q u g ≡ true →
+pub more_turn : (game : Game) (q t u : ℕ) (f g : TurnFrame) (fs : List TurnFrame) (before after : List Move) → length before ≡ u → u < t → is_of_turn q u f ≡ true → is_of_turn q u g ≡ true →
     is_opened_by game f g ≡ true → is_illegal_after game q before g ≡ false → with_move_of before g ≡ after → end_illegal game q t fs after ≡ true → end_illegal game q t (f ∷ g ∷ fs) before ≡ true
 unfolding end_illegal
 more_turn game q t u f g fs before after len lt a b c d m rest =
@@ -185,7 +178,7 @@ turns_end game q t h c r zero u log last e =
     let le = last.before in
     let same : u ≡ t = omega arith in
     let before : List Move = take u (got_known game q h).moves in
-    last_turn game q t c r before (length_take u _ (omega arith) ∙ same) last.commit_of_turn last.reveal_of_turn last.opened
+    last_turn game q t c r before (length-take-le u _ (omega arith) ∙ same) last.commit_of_turn last.reveal_of_turn last.opened
     (ap (λ (i : ℕ). is_illegal_after game q (take i (got_known game q h).moves) r) same ∙ last.illegal)
 turns_end game q t h c r (suc n) u log last e =
     let le = last.before in
@@ -195,7 +188,7 @@ turns_end game q t h c r (suc n) u log last e =
     let others : List TurnFrame = flat_map (turn_shown game q k (got_of q h)) (range_with_len (u + 1) n) ++ c ∷ r ∷ [] in
     let split : flat_map (turn_shown game q k (got_of q h)) (range_with_len u (suc n)) ++ c ∷ r ∷ [] ≡ one.commit ∷ one.reveal ∷ others = rw one.shown refl in
     ap (λ (fs : List TurnFrame). end_illegal game q t fs (take u k.moves)) split
-    ∙ more_turn game q t u one.commit one.reveal others (take u k.moves) (take (u + 1) k.moves) (length_take u k.moves (omega arith)) (omega arith) one.commit_of_turn one.reveal_of_turn one.opened one.legal one.more rest
+    ∙ more_turn game q t u one.commit one.reveal others (take u k.moves) (take (u + 1) k.moves) (length-take-le u k.moves (omega arith)) (omega arith) one.commit_of_turn one.reveal_of_turn one.opened one.legal one.more rest
 
 pub turns_show : (game : Game) (q t : ℕ) (h : List Entry) (c r : TurnFrame) → IsLogOf game h → EndsIllegal game q t h c r → end_illegal game q t (turns_shown game q t h ++ c ∷ r ∷ []) [] ≡ true
 unfolding turns_shown

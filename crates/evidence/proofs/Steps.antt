@@ -1,8 +1,7 @@
--- What a step of reading that did not fail gave, and how its line is spelled.
-use Rattle.std.proofs.Common.{◌≡◌, ℕ, ◌-◌, ◌^◌, ◌≤◌, ◌<◌, true, List, [], ◌∷◌, ◌++◌, length, take, drop, Option, Some, None, Result, Ok, Err, refl, sym, ap, ◌∙◌, length-append, arith, inl, inr}
-use Rattle.std.specs.Prelude.{bytes_eq, codes, nat_le, ◌&&◌}
+-- What the line of a kind or of a frame says, and how it is spelled.
+use Rattle.std.proofs.Common.{◌≡◌, ℕ, ◌-◌, true, List, [], ◌++◌, length, take, drop, Some, None, refl, sym, ap, ◌∙◌, length-append, arith, inl, inr}
+use Rattle.std.specs.Prelude.{bytes_eq, codes}
 use Rattle.std.specs.Cmp.Lexicographic.{same_text}
-use Rattle.std.proofs.lemmas.Bool.{and_parts, leb-true, le-leb}
 use Rattle.std.proofs.lemmas.List.{take_at, drop_at, take-append-drop}
 use Rattle.std.proofs.lemmas.Slice.Eq.{bytes_eq-Decides}
 use Rattle.hex.specs.Hex.{encode_lower}
@@ -12,60 +11,13 @@ use Rattle.definitions.specs.declared.findings.Kind.TheVariants.{TwoCommits, Bad
 use Rattle.commitment.specs.Spelling.{frame_bytes}
 use Rattle.byte_fields.specs.Fronts.{behind}
 use Rattle.byte_fields.proofs.Reading.{bind_some}
-use Rattle.text_lines.specs.Lines.{line_of, one_of}
-use Rattle.text_lines.proofs.Forms.{one_of-some, one_of-spelled}
-use Rattle.text_fields.specs.declared.fault.TextFault.{TextFault}
 use Rattle.text_fields.specs.Hexes.{frame_of}
 use Rattle.text_fields.proofs.HexFields.{frame_read, frame_spelled}
 use Rattle.plain_lemmas.proofs.Lists.{front_stands}
 use Rattle.plain_lemmas.proofs.Options.{some_when}
 use Rattle.plain_lemmas.proofs.Tests.{chosen}
 use Rattle.evidence.specs.Text.{FitsText, kind_line, frame_line}
-use Rattle.evidence.specs.Reading.{◌>>=◌, formed, line_at, kept_within, number_said, kind_said, before, digits_said, frame_said}
-
-pub bind_ok : {A B : Type 0} (r : Result A TextFault) (f : A → Result B TextFault) (y : B) → (r >>= f) ≡ Ok y → (x : A) × (r ≡ Ok x) × (f x ≡ Ok y)
-bind_ok (Ok x) f y e = (x, refl, e)
-bind_ok (Err d) f y e = absurd cc
-
-abbrev done : {A : Type 0} → A → Result A TextFault
-done x = Ok x
-
-pub ok_is : {A : Type 0} (x y : A) → done x ≡ done y → x ≡ y
-ok_is x y e = cc
-
-formed_ok : {A : Type 0} (n : ℕ) (said : Option A) (lines : List (List ℕ)) (x : A) (rest : List (List ℕ)) → formed n said lines ≡ Ok (x, rest) → (said ≡ Some x) × (lines ≡ rest)
-formed_ok n None lines x rest e = absurd cc
-formed_ok {A = A} n (Some y) lines x rest e =
-    let same = ok_is (y, lines) (x, rest) e in
-    (ap (λ (w : A × List (List ℕ)). Some w.0) same, ap (λ (w : A × List (List ℕ)). w.1) same)
-
--- a line that was read has its form
-pub line_at_ok : {A : Type 0} (n : ℕ) (read : List ℕ → Option A) (lines : List (List ℕ)) (x : A) (rest : List (List ℕ))
-    → line_at n read lines ≡ Ok (x, rest) → (line : List ℕ) × (lines ≡ line ∷ rest) × (read line ≡ Some x)
-line_at_ok n read [] x rest e = absurd cc
-line_at_ok n read (line ∷ lines) x rest e =
-    let parts = formed_ok n (read line) lines x rest e in
-    (line, cc (parts.1), parts.0)
-
--- ---- numbers
-
-kept_some : (low high : ℕ) (o : Option ℕ) (n : ℕ) → kept_within low high o ≡ Some n → (o ≡ Some n) × (low ≤ n) × (n ≤ high)
-kept_some low high None n e = absurd cc
-kept_some low high (Some m) n e =
-    let kept = some_when (nat_le low m && nat_le m high) m n e in
-    let both = and_parts (nat_le low m) (nat_le m high) kept.0 in
-    let first = leb-true low m both.0 in
-    let second = leb-true m high both.1 in
-    let same = kept.1 in
-    (ap (λ (k : ℕ). Some k) same, omega arith, omega arith)
-
-pub number_said-some : (name : List ℕ) (low high : ℕ) (line : List ℕ) (n : ℕ) → number_said name low high line ≡ Some n → (line ≡ line_of name (n ∷ [])) × (low ≤ n) × (n ≤ high)
-number_said-some name low high line n e =
-    let kept = kept_some low high (one_of name line) n e in
-    (one_of-some name line n kept.0, kept.1, kept.2)
-
-pub number_said-spelled : (name : List ℕ) (low high n : ℕ) → low ≤ n → n ≤ high → n < 2 ^ 32 → number_said name low high (line_of name (n ∷ [])) ≡ Some n
-number_said-spelled name low high n from to small = rw (one_of-spelled name n small, le-leb low n from, le-leb n high to) refl
+use Rattle.evidence.specs.Reading.{kind_said, before, digits_said, frame_said}
 
 -- ---- kinds
 
@@ -124,3 +76,7 @@ frame_said-some line f e =
 pub frame_said-spelled : (f : TurnFrame) → FitsText f → frame_said (frame_line f) ≡ Some f
 unfolding frame_said
 frame_said-spelled f fits = rw (before-front (codes "\n") (encode_lower (frame_bytes f))) (frame_read f fits.0 fits.1)
+
+-- an empty line says no kind
+pub kind_said-empty : kind_said [] ≡ None
+kind_said-empty = refl

@@ -1,6 +1,7 @@
 -- Laws of evidence: what is found in logs is shown by frames of these, and frames that show it convict whom they are of.
-use Rattle.std.specs.Prelude.{◌≡◌, ℕ, ◌+◌, ◌*◌, ◌<◌, ◌≤◌, List, length, Ok}
+use Rattle.std.specs.Prelude.{◌≡◌, ℕ, ◌+◌, ◌-◌, ◌*◌, ◌<◌, ◌≤◌, List, [], ◌∷◌, ◌++◌, length, take, Some, Ok}
 use Rattle.definitions.specs.declared.openings.Digest.{Digest}
+use Rattle.definitions.specs.declared.openings.Opening.{Opening}
 use Rattle.definitions.specs.declared.frames.TurnFrame.{TurnFrame}
 use Rattle.definitions.specs.declared.frames.TurnFrame.TheVariants.{Commit}
 use Rattle.definitions.specs.declared.logs.Entry.{Entry}
@@ -8,16 +9,20 @@ use Rattle.definitions.specs.declared.logs.Entry.TheVariants.{Got}
 use Rattle.definitions.specs.declared.findings.Kind.{Kind}
 use Rattle.definitions.specs.declared.findings.Kind.TheVariants.{TwoCommits, BadOpening, Collision, Illegal}
 use Rattle.definitions.specs.declared.findings.Finding.{Finding}
-use Rattle.definitions.specs.declared.limits.TheConstants.{EVIDENCE_FRONT}
+use Rattle.definitions.specs.declared.limits.TheConstants.{EVIDENCE_FRONT, MOST_EVIDENCE_FRAMES}
 use Rattle.definitions.specs.Lists.{EachIs}
-use Rattle.definitions.specs.World.{Game}
+use Rattle.definitions.specs.World.{Game, players_of}
 use Rattle.definitions.specs.Entries.{AreWellFormed}
 use Rattle.definitions.specs.Findings.{findings}
 use Rattle.definitions.specs.Exhibits.{Shows}
 use Rattle.definition_laws.specs.Members.{Has}
 use Rattle.evidence.specs.declared.exhibit.Exhibit.{Exhibit}
-use Rattle.evidence.specs.Text.{IsExhibit, exhibit_text}
-use Rattle.evidence.specs.Reading.{exhibit_at}
+use Rattle.grid_world.specs.Sessions.{IsSession}
+use Rattle.text_lines.specs.Lines.{ended_lines_of}
+use Rattle.text_fields.specs.declared.fault.TextFault.TheVariants.{At}
+use Rattle.evidence.specs.Text.{FitsText, IsExhibit, exhibit_text}
+use Rattle.evidence.specs.Reading.{exhibit_at, exhibit_fault}
+use Rattle.evidence.specs.Openings.{IsIllegalPlay, frames_of_openings}
 use Rattle.evidence.specs.Showing.{frames_of_finding}
 
 -- a log of the session, honest or not, whoever wrote it
@@ -69,6 +74,25 @@ frame_count Illegal t = 2 * (t + 1)
 abbrev pub ShownFramesAreCounted : Type 0
 ShownFramesAreCounted = (game : Game) (q t : ℕ) (kind : Kind) (fs : List TurnFrame) → Shows game q t kind fs → length fs ≡ frame_count kind t
 
+-- what shows something of a session that a text may say has a frame at least, and no more than a text may have
+abbrev pub ShownFramesAreFew : Type 0
+ShownFramesAreFew = (game : Game) (q t : ℕ) (kind : Kind) (fs : List TurnFrame) → IsSession game → Shows game q t kind fs → (0 < length fs) × (length fs ≤ MOST_EVIDENCE_FRAMES)
+
+-- so an exhibit that shows something is read back from its text. Its frames fit, as those of every value of their type do
+abbrev pub ShownExhibitsAreRead : Type 0
+ShownExhibitsAreRead = (game : Game) (x : Exhibit) → IsSession game → Shows game x.player x.turn x.kind x.frames → EachIs FitsText x.frames →
+    IsExhibit x × (exhibit_at (exhibit_text x) ≡ Ok x)
+
+-- an illegal move is shown by openings of which the last is of the first move that is not legal, each by its commitment and its reveal
+abbrev pub IllegalExhibitsAreOpenings : Type 0
+IllegalExhibitsAreOpenings = (game : Game) (q t : ℕ) (fs : List TurnFrame) → Shows game q t Illegal fs →
+    (before : List Opening) × (last : Opening) × IsIllegalPlay game q t before last × (fs ≡ frames_of_openings game (before ++ last ∷ []))
+
+-- and the frames of such openings show it
+abbrev pub OpeningsMakeIllegalExhibits : Type 0
+OpeningsMakeIllegalExhibits = (game : Game) (q t : ℕ) (before : List Opening) (last : Opening) → q < players_of game → t < game.turns → IsIllegalPlay game q t before last →
+    Shows game q t Illegal (frames_of_openings game (before ++ last ∷ []))
+
 -- the text of an exhibit is read as the exhibit
 abbrev pub ExhibitsAreRead : Type 0
 ExhibitsAreRead = (x : Exhibit) → IsExhibit x → exhibit_at (exhibit_text x) ≡ Ok x
@@ -80,3 +104,19 @@ ExhibitsAreSpelled = (text : List ℕ) (x : Exhibit) → exhibit_at text ≡ Ok 
 -- each such text ends before the front of a file that decides
 abbrev pub ExhibitsFitTheFront : Type 0
 ExhibitsFitTheFront = (x : Exhibit) → IsExhibit x → length (exhibit_text x) < EVIDENCE_FRONT
+
+-- the text of some exhibit begins with these lines
+abbrev pub BeginsExhibit : List (List ℕ) → Type 0
+BeginsExhibit lines = (x : Exhibit) × (rest : List (List ℕ)) × IsExhibit x × (ended_lines_of (exhibit_text x) ≡ lines ++ rest)
+
+-- Line n of these is the first at fault: it is one of them, or the one that is missing behind the last.
+pub record IsFirstFault (lines : List (List ℕ)) (n : ℕ) : Type 0 where
+  pub number : (1 ≤ n) × (n ≤ length lines + 1)
+  -- some exhibit begins with the lines before it
+  pub before : BeginsExhibit (take (n - 1) lines)
+  -- and none with the line, too
+  pub faulty : n ≤ length lines → BeginsExhibit (take n lines) → ⊥
+
+-- the line that is said to be at fault is the first at fault
+abbrev pub FirstFaultsAreFirst : Type 0
+FirstFaultsAreFirst = (text : List ℕ) (n : ℕ) → exhibit_fault text ≡ Some (At n) → IsFirstFault (ended_lines_of text) n

@@ -1,6 +1,6 @@
 //! Laws of evidence: functions that do nothing, whose clauses are proved.
 
-ghost use Rattle.evidence.specs.Laws.{FindingsAreShown, FramesOfFindingsStand, ShownFramesConvict, IllegalMovesConvict, ShownFramesAreCounted, ExhibitsAreRead, ExhibitsAreSpelled, ExhibitsFitTheFront};
+ghost use Rattle.evidence.specs.Laws.{FindingsAreShown, FramesOfFindingsStand, ShownFramesConvict, IllegalMovesConvict, ShownFramesAreCounted, ShownFramesAreFew, ShownExhibitsAreRead, IllegalExhibitsAreOpenings, OpeningsMakeIllegalExhibits, ExhibitsAreRead, ExhibitsAreSpelled, ExhibitsFitTheFront, FirstFaultsAreFirst};
 
 /// What is found in logs of the session is shown by frames that these logs got: by the two at the finding's spots, and of an
 /// illegal move by those with which the turns before it were resolved, too.
@@ -20,9 +20,19 @@ pub fn illegal_moves_convict()
     ensures { IllegalMovesConvict }
 {}
 
-/// Two frames show something, or two for each turn up to that of an illegal move.
+/// Two frames show something, or two for each turn up to that of an illegal move. In a session that a text may say these are at most
+/// `MOST_EVIDENCE_FRAMES`, and an exhibit that shows something is read back from its text.
 pub fn shown_frames_are_counted()
-    ensures { ShownFramesAreCounted }
+    ensures counted { ShownFramesAreCounted }
+    ensures few { ShownFramesAreFew }
+    ensures read { ShownExhibitsAreRead }
+{}
+
+/// Frames show an illegal move exactly where they are, turn by turn, the commitments to openings of the player and the reveals of these,
+/// and the last move is the first that isn't legal.
+pub fn illegal_exhibits_are_openings()
+    ensures opened { IllegalExhibitsAreOpenings }
+    ensures shown { OpeningsMakeIllegalExhibits }
 {}
 
 /// The text of an exhibit is read as that exhibit, a text that is read as one is its text, and each has room in the first
@@ -31,4 +41,9 @@ pub fn exhibits_are_told()
     ensures read { ExhibitsAreRead }
     ensures spelled { ExhibitsAreSpelled }
     ensures short { ExhibitsFitTheFront }
+{}
+
+/// Some exhibit's text begins with the lines before the one that is said to be at fault, and none with that line, too.
+pub fn first_faults_are_first()
+    ensures { FirstFaultsAreFirst }
 {}

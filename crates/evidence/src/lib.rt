@@ -5,8 +5,10 @@
 //! [`print_exhibit`] writes; [`read_exhibit`] reads each such text as that exhibit unless memory runs out, and refuses any other
 //! with its first line at fault. The laws of `laws` tie exhibits to logs: each finding in logs of a session is shown by frames
 //! that these logs got, and frames that show something convict their player where logs got them, for an illegal move with what
-//! comes before them. Nothing here tells whether a frame is of the player that it names: that is for those who took it from that
-//! player. The crate takes memory from the allocator that it is given, `judge` takes none, and it touches nothing else.
+//! comes before them. They say too which frames show an illegal move, that what shows something is read back from its text, and that
+//! the line at fault is the first with which no exhibit's text begins. Nothing here tells whether a frame is of the player that it
+//! names: that is for those who took it from that player. The crate takes memory from the allocator that it is given, `judge` takes
+//! none, and it touches nothing else.
 #![tactic(auto)]
 
 mod exhibit;
@@ -14,6 +16,8 @@ mod judging;
 pub mod laws;
 mod printing;
 mod reading;
+#[cfg(test)]
+mod tests;
 
 pub use definitions::{Kind, PlayerId, Turn, TurnFrame};
 pub use exhibit::{Exhibit, FrameList};

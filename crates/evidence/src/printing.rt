@@ -1,7 +1,7 @@
 //! The text of an exhibit.
 
-ghost use Rattle.std.specs.Prelude.{◌≡◌, ◌++◌, [], ◌∷◌, map, IfOk, OnOk};
-ghost use Rattle.text_lines.specs.Lines.{joined, line_of};
+ghost use Rattle.std.specs.Prelude.{◌≡◌, ◌++◌, map, IfOk, OnOk};
+ghost use Rattle.text_lines.specs.Lines.{joined};
 ghost use Rattle.evidence.specs.Text.{exhibit_text, frame_line, head_lines, kind_line};
 
 use crate::exhibit::Exhibit;
@@ -10,22 +10,13 @@ use definitions::{Kind, TurnFrame};
 use hex::encode_to_slice;
 use std::alloc::{AllocError, Global};
 use text_fields::name_of_kind;
+use text_lines::put_line;
 
 /// Room for the bytes of a frame.
 const FRAME_ROOM: usize = 64;
 
 /// Room for the digits that spell them.
 const FRAME_DIGITS: usize = 128;
-
-/// Writes the line of this name and this number.
-fn put_number(alloc: Global, out: &mut Vec<u8>, name: &[u8], number: u32) -> Result<(), AllocError>
-    ensures { OnOk result (out.new.items ≡ out.old.items ++ line_of name.now (number ∷ [])) }
-{
-    let field = format!(in alloc; " {number}\n")?;
-    out.extend_from_slice(name)?;
-    out.extend_from_slice(field.as_bytes())?;
-    Ok(())
-}
 
 /// Writes the line that says what kind it is.
 fn put_kind(out: &mut Vec<u8>, kind: Kind) -> Result<(), AllocError>
@@ -69,11 +60,11 @@ pub fn print_exhibit(alloc: Global, exhibit: &Exhibit) -> Result<Vec<u8>, AllocE
     ensures { IfOk result (λ text. text.items ≡ exhibit_text exhibit.now) }
 {
     let mut out = Vec::new(alloc);
-    put_number(alloc, &mut out, b"evidence", 1)?;
-    put_number(alloc, &mut out, b"player", exhibit.player.into())?;
-    put_number(alloc, &mut out, b"turn", exhibit.turn)?;
+    put_line(alloc, &mut out, b"evidence", &[1])?;
+    put_line(alloc, &mut out, b"player", &[exhibit.player.into()])?;
+    put_line(alloc, &mut out, b"turn", &[exhibit.turn])?;
     put_kind(&mut out, exhibit.kind)?;
     put_frames(&mut out, exhibit.frames.as_slice())?;
-    out.extend_from_slice(b"end\n")?;
+    put_line(alloc, &mut out, b"end", &[])?;
     Ok(out)
 }

@@ -1,19 +1,22 @@
 //! An exhibit is read from its text.
 
-ghost use Rattle.std.specs.Prelude.{◌≡◌, ◌<◌, ◌≤◌, length, option_map, IfOk, IfSome};
+ghost use Rattle.std.specs.Prelude.{◌≡◌, ◌<◌, ◌≤◌, option_map, IfOk};
 ghost use Rattle.text_lines.specs.Lines.{ended_lines_of};
-ghost use Rattle.text_fields.specs.declared.fault.TextFault.TheVariants.{At};
+ghost use Rattle.text_lines.specs.Reading.{line_at};
+ghost use Rattle.text_lines.specs.Answers.{Faults, Gives, IsRead, Says};
+ghost use Rattle.text_fields.specs.declared.fault.TextFault.TheVariants.{At, Memory};
+ghost use Rattle.text_fields.specs.Faults.{is_memory};
 ghost use Rattle.evidence.specs.declared.exhibit.Exhibit.{Exhibit};
 ghost use Rattle.evidence.specs.Reading as spec;
-ghost use Rattle.evidence.specs.Reading.{Gives, Says, digits_said, exhibit_at, exhibit_fault, frame_at, frame_said, frames_at, head_at, kind_said, line_at, line_behind, number_said};
-ghost use Rattle.evidence.specs.Answers.{IsReadFrom, IsRead, Faults};
+ghost use Rattle.evidence.specs.Reading.{digits_said, exhibit_at, exhibit_fault, frame_at, frame_said, frames_at, head_at, kind_said, line_behind};
+ghost use Rattle.evidence.specs.Answers.{IsReadFrom};
 
 use crate::exhibit::{Exhibit, FrameList};
 use definitions::limits::{GREATEST_PLAYER, LONGEST_LINE, MOST_EVIDENCE_FRAMES};
 use definitions::{Kind, PlayerId, Turn, TurnFrame};
 use std::alloc::Global;
 use text_fields::{TextFault, read_frame};
-use text_lines::{is_last_line, one_of, take_line};
+use text_lines::{is_last_line, one_within_at, take_line};
 
 /// What the lines before those of the frames say.
 #[derive(Clone, Copy)]
@@ -21,38 +24,6 @@ struct Head {
     player: PlayerId,
     turn: Turn,
     kind: Kind,
-}
-
-/// The number of a line of this name that has one, from `low` to `high`.
-fn number_of(name: &[u8], low: u32, high: u32, line: &[u8]) -> Option<u32>
-    ensures said { result ≡ number_said name.now low high line.now }
-    ensures within { IfSome result (λ n. n ≤ high) }
-{
-    let number = one_of(name, line)?;
-    if low <= number && number <= high {
-        Some(number)
-    } else {
-        None
-    }
-}
-
-/// The number of line `n`, which has this name and one number from `low` to `high`, and the text behind the line.
-fn number_at<'a>(
-    n: u32,
-    name: &[u8],
-    low: u32,
-    high: u32,
-    text: &'a [u8],
-) -> Result<(u32, &'a [u8]), TextFault>
-    requires { 0 < length name.now }
-    ensures said { Says (λ x. (x.0, ended_lines_of x.1.now)) result (line_at n (number_said name.now low high) (ended_lines_of text.now)) }
-    ensures within { IfOk result (λ x. x.0 ≤ high) }
-{
-    let (line, rest) = take_line(text);
-    match number_of(name, low, high, line) {
-        None => Err(TextFault::At(n)),
-        Some(number) => Ok((number, rest)),
-    }
 }
 
 /// The kind that a line says.
@@ -74,7 +45,7 @@ fn kind_of(line: &[u8]) -> Option<Kind>
 
 /// The kind that line 4 says, and the text behind the line.
 fn kind_at(text: &[u8]) -> Result<(Kind, &[u8]), TextFault>
-    ensures { Says (λ x. (x.0, ended_lines_of x.1.now)) result (line_at 4 kind_said (ended_lines_of text.now)) }
+    ensures { Says (λ x. (x.0, ended_lines_of x.1.now)) result (line_at (At 4) kind_said (ended_lines_of text.now)) }
 {
     let (line, rest) = take_line(text);
     match kind_of(line) {
@@ -88,9 +59,15 @@ fn kind_at(text: &[u8]) -> Result<(Kind, &[u8]), TextFault>
 fn read_head(text: &[u8]) -> Result<(Head, &[u8]), TextFault>
     ensures { Says (λ x. (record { player = x.0.player; turn = x.0.turn; kind = x.0.kind }, ended_lines_of x.1.now)) result (head_at (ended_lines_of text.now)) }
 {
-    let (_version, rest) = number_at(1, b"evidence", 1, 1, text)?;
-    let (player, rest) = number_at(2, b"player", 0, GREATEST_PLAYER.into(), rest)?;
-    let (turn, rest) = number_at(3, b"turn", 0, u32::MAX, rest)?;
+    let (_version, rest) = one_within_at(TextFault::At(1), b"evidence", 1, 1, text)?;
+    let (player, rest) = one_within_at(
+        TextFault::At(2),
+        b"player",
+        0,
+        GREATEST_PLAYER.into(),
+        rest,
+    )?;
+    let (turn, rest) = one_within_at(TextFault::At(3), b"turn", 0, u32::MAX, rest)?;
     let (kind, rest) = kind_at(rest)?;
     let head = Head {
         player: player as u8,
@@ -149,7 +126,7 @@ fn is_end(count: usize, line: &[u8]) -> bool
 
 /// The frames that lines 5 and on say, up to `end`, the last line.
 fn frames_of(alloc: Global, text: &[u8]) -> Result<Vec<TurnFrame>, TextFault>
-    ensures { Gives (λ v. v.items) result (frames_at 0 (ended_lines_of text.now)) }
+    ensures { Gives is_memory (λ v. v.items) result (frames_at 0 (ended_lines_of text.now)) }
 {
     let mut frames = Vec::new(alloc);
     let mut rest = text;
@@ -171,7 +148,7 @@ fn frames_of(alloc: Global, text: &[u8]) -> Result<Vec<TurnFrame>, TextFault>
 /// The exhibit of a text, or the first line at fault.
 #[tactic(auto, unfolding(crate::specs::Reading::exhibit_at, crate::specs::Reading::said_by))]
 fn exhibit_of(alloc: Global, text: &[u8]) -> Result<Exhibit, TextFault>
-    ensures { Gives (λ x. x) result (exhibit_at text.now) }
+    ensures { Gives is_memory (λ x. x) result (exhibit_at text.now) }
 {
     let (head, rest) = read_head(text)?;
     let frames = frames_of(alloc, rest)?;
@@ -192,11 +169,11 @@ pub fn read_exhibit(alloc: Global, text: &[u8]) -> Result<Exhibit, TextFault>
     // What is read has this text and no other.
     ensures found { IfOk result (λ x. IsReadFrom x text.now) }
     // Each text of an exhibit is read as that exhibit, unless memory runs out.
-    ensures only { (x : Exhibit) → IsReadFrom x text.now → IsRead x result }
+    ensures only { (x : Exhibit) → IsReadFrom x text.now → IsRead Memory x result }
     // Which line is at fault.
-    ensures exact { Faults result (exhibit_fault text.now) }
+    ensures exact { Faults is_memory result (exhibit_fault text.now) }
     // All of it once more, as the text is read line by line.
-    ensures said { Gives (λ x. x) result (exhibit_at text.now) }
+    ensures said { Gives is_memory (λ x. x) result (exhibit_at text.now) }
 {
     exhibit_of(alloc, text)
 }

@@ -2,9 +2,11 @@ use Rattle.std.proofs.Common.{◌≡◌, List, ℕ, ◌∷◌, Err, refl, sym, a
 use Rattle.std.proofs.lemmas.Result.{err_from_is_err_and}
 use Rattle.text_lines.specs.Lines.{ended_lines_of, line_len}
 use Rattle.text_lines.proofs.FirstLine.{ended_lines_of-first, some_left, none_left}
+use Rattle.text_lines.proofs.Answers.{said_fails}
 use Rattle.text_fields.specs.declared.fault.TextFault.TheVariants.{At}
+use Rattle.text_fields.specs.Faults.{is_memory}
 use Rattle.evidence.specs.Reading.{is_end, frame_at, frames_at, line_behind}
-use Rattle.evidence.proofs.Loops.{said_fails, frames_more, frames_fail, frames_end, frames_past, frames_missing}
+use Rattle.evidence.proofs.Loops.{frames_more, frames_fail, frames_end, frames_past, frames_missing}
 use Rattle.evidence.proofs.reading.frames_of.Goals as goal
 
 pub returns-then-is_empty : goal.returns-then-is_empty
@@ -44,7 +46,7 @@ returns-in_err-frame c =
     let end = ap (λ (n : ℕ). is_end n line) (sym (c.len.ensures ∙ len)) ∙ sym c.if-is_end.ensures in
     let p = err_from_is_err_and c.from_residual.result c.from_residual.ensures.1 in
     let said = ap (λ (n : ℕ). frame_at n line) (sym (c.len-in-loop-rest.ensures ∙ len)) ∙ c.in_err-frame.ensures.said in
-    rw (p.1, p.2) (frames_fail c.in_err-frame.field-0.0 r.frames.items line (ended_lines_of r.rest.now) (ended_lines_of after) total split end (said_fails _ _ said) r.invariant)
+    rw (p.1, p.2) (frames_fail c.in_err-frame.field-0.0 r.frames.items line (ended_lines_of r.rest.now) (ended_lines_of after) total split end (said_fails is_memory _ _ said) r.invariant)
 
 pub loop-rest-preserved : goal.loop-rest-preserved
 loop-rest-preserved c =

@@ -1,11 +1,13 @@
 use Rattle.std.proofs.Common.{sym}
+use Rattle.text_lines.proofs.FirstLine.{line_at-none, line_at-some}
+use Rattle.text_fields.specs.declared.fault.TextFault.TheVariants.{At}
 use Rattle.evidence.specs.Reading.{kind_said}
-use Rattle.evidence.proofs.FirstLine.{kind_said-empty, line_at-none, line_at-some}
+use Rattle.evidence.proofs.Steps.{kind_said-empty}
 use Rattle.evidence.proofs.reading.kind_at.Goals as goal
 
 pub returns-in-None : goal.returns-in-None
-returns-in-None c = line_at-none 4 kind_said c.args.text.now c.take_line.result.0.now kind_said-empty c.take_line.ensures.line (sym c.in-None.ensures)
+returns-in-None c = line_at-none (At 4) kind_said c.args.text.now c.take_line.result.0.now kind_said-empty c.take_line.ensures.line (sym c.in-None.ensures)
 
 pub returns-in-Some : goal.returns-in-Some
 returns-in-Some c =
-    line_at-some 4 kind_said c.args.text.now c.take_line.result.0.now c.take_line.result.1.now c.in-Some.kind kind_said-empty c.take_line.ensures.line c.take_line.ensures.rest (sym c.in-Some.ensures)
+    line_at-some (At 4) kind_said c.args.text.now c.take_line.result.0.now c.take_line.result.1.now c.in-Some.kind kind_said-empty c.take_line.ensures.line c.take_line.ensures.rest (sym c.in-Some.ensures)
