@@ -14,7 +14,8 @@ use Rattle.definitions.specs.World.{Game, players_of}
 use Rattle.grid_world.specs.declared.fault.SessionFault.{SessionFault}
 use Rattle.grid_world.specs.declared.fault.SessionFault.TheVariants.{At, Memory}
 use Rattle.text_lines.specs.Lines as L
-use Rattle.grid_world.specs.Reading.{◌>>=◌, fault_of, game_at, said_by, session_fault}
+use Rattle.text_lines.specs.Reading.{◌>>=◌, fault_of}
+use Rattle.grid_world.specs.Reading.{game_at, said_by, session_fault}
 use Rattle.grid_world.proofs.Found.{game_found}
 use Rattle.old_log.specs.Old.{Fault, dropped_at, old_entries, old_fault}
 use Rattle.drive_command.specs.Begin.{Beginning, TellsPlay, begun_answer, drive_answer}
@@ -26,7 +27,6 @@ use Rattle.upgrade_command.proofs.Tells.{upgrade_tells}
 use Rattle.text_fields.specs.declared.fault.TextFault.{TextFault}
 use Rattle.text_fields.specs.declared.fault.TextFault.TheVariants as text
 use Rattle.evidence.specs.declared.exhibit.Exhibit.{Exhibit}
-use Rattle.evidence.specs.Reading as evidence
 use Rattle.evidence.specs.Reading.{exhibit_at}
 use Rattle.judge_command.specs.Judge.{JudgeCause, is_shown, judge_answer, verdict_answer}
 use Rattle.judge_command.specs.Words.{Judging}
@@ -130,7 +130,7 @@ judge_exhibit j contents input game f (Ok x) e = go (is_shown game x) refl
     go true b = record { case = (game, x); files = record { read = f; exhibit = e }; cause = b }
     go false b = record { case = (game, x); files = record { read = f; exhibit = e }; cause = b }
 judge_exhibit j contents input game f (Err text.Memory) e = tt
-judge_exhibit j contents input game f (Err (text.At line)) e = (record { game = game; read = f }, ap evidence.fault_of e)
+judge_exhibit j contents input game f (Err (text.At line)) e = (record { game = game; read = f }, ap fault_of e)
 
 judge_read : (j : Judging) (contents : Contents) (input : Input) (r : Result Game SessionFault) → game_at (front_of (content contents 0)) ≡ r →
     HasCause (Some (Judge j)) contents input (judge_answer (with_exhibit (ended_by r) (exhibit_in (content contents 1)))).status
