@@ -2,7 +2,6 @@
 use Rattle.std.proofs.Common.{Bool, List, None, Some, [], ◌∷◌, ap, arith, false, inl, inr, refl, subst, suc, sym, true, zero, zero-add, ℕ, ◌*◌, ◌++◌, ◌+◌, ◌-◌, ◌<◌, ◌≤◌, ◌∙◌, ◌≡◌, ◌⊎◌, Option, slice_get, length, take, is_err, IfSome}
 use Rattle.std.specs.Prelude.{◌&&◌, ◌==◌, if◌then◌else◌, is_some, nat_le, not}
 use Rattle.std.specs.Option.{option_map_or}
-use Rattle.std.proofs.Math.Nat.{suc-add}
 use Rattle.std.proofs.lemmas.Bool.{false≢true, and_parts, cases_lt, eqb-true, le-leb, lt-leb}
 use Rattle.std.proofs.lemmas.Option.{slice_get_past, slice_get_within}
 use Rattle.definitions.specs.declared.findings.Spot.{Spot}
@@ -16,36 +15,29 @@ use Rattle.definitions.specs.declared.logs.Entry.{Entry}
 use Rattle.definitions.specs.World.{Game, players_of}
 use Rattle.definitions.specs.Moves.{is_legal, track_after}
 use Rattle.definitions.specs.Logs.{digest_eq, got_of}
-use Rattle.definitions.specs.Held.{Known, commit_of, digest_of, first_commit, known_to}
+use Rattle.definitions.specs.Held.{Known, commit_of, digest_of, first_commit}
 use Rattle.definitions.specs.Findings.{finding_at, got_known, is_commit, is_illegal_after, is_illegal_at, opens}
 use Rattle.definition_laws.specs.Members.{Has}
-use Rattle.definition_laws.proofs.Grows.{IsBeginning, IsBeginning_refl, IsBeginning_trans, next_grows}
-use Rattle.definition_laws.proofs.Knowing.{known_to_stuck}
+use Rattle.definition_laws.proofs.Grows.{IsBeginning}
 use Rattle.definition_laws.proofs.Listing.{slice_get_front, take_front}
 use Rattle.grid_world.specs.Sessions.{IsSession}
 use Rattle.move_rules.specs.Verdicts.{verdict}
 use Rattle.streams.specs.declared.stream.Stream.{Stream}
 use Rattle.streams.specs.Streams.{places_of}
 use Rattle.streams.proofs.Opened.{refused_illegal}
-use Rattle.streams.proofs.Shown.{held_there, shown_short}
+use Rattle.streams.proofs.Shown.{held_there}
 use Rattle.frame_index.specs.declared.seen.Seen.{Seen}
 use Rattle.frame_index.specs.Heads.{Ends, IsAt, Stands, front_of}
 use Rattle.frame_index.specs.InLog.{NoneBelow, ShowsIn, is_bad, takes}
 use Rattle.frame_index.specs.Judged.{is_wrong, judged_by}
 use Rattle.frame_index.specs.Keeps.{Keeps, IsLeast, finding_by}
 use Rattle.frame_index.specs.Pairs.{in_order}
+use Rattle.frame_index.proofs.Come as C
+use Rattle.frame_index.proofs.Come.{length_more}
 use Rattle.frame_index.proofs.InLog.{first_in_log}
 use Rattle.frame_index.proofs.Judging.{least_alike}
 use Rattle.frame_index.proofs.OfTurn.{commit_turn}
 use Rattle.frame_index.proofs.Wrong.{item_is, none_without_commit, none_without_wrong, wrong_found, wrong_none}
-
--- what is known of some places begins what is known of more
-known_begins : (game : Game) (q : ℕ) (fs : List TurnFrame) (m n : ℕ) → IsBeginning (known_to game q fs n) (known_to game q fs (m + n))
-unfolding known_to
-known_begins game q fs zero n = subst (λ i. IsBeginning (known_to game q fs n) (known_to game q fs i)) (sym (zero-add n)) (IsBeginning_refl _)
-known_begins game q fs (suc m) n =
-    subst (λ i. IsBeginning (known_to game q fs n) (known_to game q fs i)) (sym (suc-add m n))
-    (IsBeginning_trans _ _ _ (known_begins game q fs m n) (next_grows game q fs (known_to game q fs (m + n))))
 
 -- the move isn't legal from the track
 abbrev wrong_from : Game → ℕ → Track → TurnFrame → Bool
@@ -72,32 +64,25 @@ commit_carries game t (Commit p u d) h = go (u == t) h
 
 module _ (game : Game) (q t : ℕ) (h : List Entry) (s : Stream) (is : IsSession game) (player : q < players_of game) (turn : t < game.turns) (stands : Stands game q (got_of q h) (front_of game t) s) where
   abbrev front : Known
-  front = known_to game q (got_of q h) (places_of s)
+  front = C.front game q h (front_of game t) s is player stands
 
   abbrev all : Known
   all = got_known game q h
 
-  few : places_of s ≤ 2 * game.turns
-  few = shown_short game q (got_of q h) s is player stands.read
-
   begins : IsBeginning front all
-  begins =
-      let whole : 2 * game.turns - places_of s + places_of s ≡ 2 * game.turns = omega (arith, few) in
-      subst (λ n. IsBeginning front (known_to game q (got_of q h) n)) whole (known_begins game q (got_of q h) (2 * game.turns - places_of s) (places_of s))
+  begins = C.begins game q h (front_of game t) s is player stands
 
   ended : Ends game q (got_of q h) s → all ≡ front
-  ended ends =
-      let whole : 2 * game.turns - places_of s + places_of s ≡ 2 * game.turns = omega (arith, few) in
-      sym (ap (λ n. known_to game q (got_of q h) n) whole) ∙ known_to_stuck game q (got_of q h) (places_of s) (2 * game.turns - places_of s) ends
+  ended ends = C.ended game q h (front_of game t) s is player stands ends
+
+  resolved : s.resolved ≡ length front.moves
+  resolved = C.resolved game q h (front_of game t) s is player stands
+
+  track : s.track ≡ track_after game q front.moves
+  track = C.track game q h (front_of game t) s is player stands
 
   commits : s.commits ≡ length front.digests
   commits = ap (λ (r : Stream). r.commits) stands.read
-
-  resolved : s.resolved ≡ length front.moves
-  resolved = ap (λ (r : Stream). r.resolved) stands.read
-
-  track : s.track ≡ track_after game q front.moves
-  track = ap (λ (r : Stream). r.track) stands.read
 
   -- where the stream has come to the turn, a frame is illegal where it opens the digest held and is not legal from the track
   here : (d : Digest) → s.resolved ≡ t → t < s.commits → first_commit (got_of q h) t ≡ Some d → (f : TurnFrame) →
@@ -117,10 +102,6 @@ module _ (game : Game) (q t : ℕ) (h : List Entry) (s : Stream) (is : IsSession
 
       reached : nat_le t (length all.moves) ≡ true
       reached = le-leb _ _ (let l = long in let m = ap length begins.moves_are in let n = length_more front.moves begins.moves_after in omega arith)
-        where
-          length_more : {X : Type 0} (xs ys : List X) → length xs ≤ length (xs ++ ys)
-          length_more [] ys = omega arith
-          length_more (x ∷ xs) ys = let r = length_more xs ys in omega arith
 
   -- else none is
   not_here : (s.resolved ≡ t → t < s.commits → ⊥) → (f : TurnFrame) → is_illegal_at game q t all f ≡ false

@@ -32,7 +32,7 @@ four_kinds game logs q t out a b c d w x y z e f g h i j k l =
     l ∙ ap (λ (xs : List Finding). xs ++ option_to_list z) (k ∙ ap (λ (xs : List Finding). xs ++ option_to_list y) (j ∙ ap (λ (xs : List Finding). xs ++ option_to_list x) i))
     ∙ push_four out w x y z ∙ (λ n. out ++ cons_option (e n) (cons_option (f n) (cons_option (g n) (cons_option (h n) []))))
 
-range_more : (a n : ℕ) → range_with_len a (n + 1) ≡ range_with_len a n ++ (a + n) ∷ []
+pub range_more : (a n : ℕ) → range_with_len a (n + 1) ≡ range_with_len a n ++ (a + n) ∷ []
 range_more a zero = ap (λ n. n ∷ []) (sym (add-zero a))
 range_more a (suc n) =
     let ih = range_more (a + 1) n in

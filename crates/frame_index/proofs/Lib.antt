@@ -14,6 +14,7 @@ pub mod InSight
 pub mod Wrong
 pub mod Judging
 pub mod Headed
+pub mod Come
 pub mod Illegals
 pub mod Fronts
 pub mod Joined

@@ -21,8 +21,8 @@ use move_rules::Walker;
 use std::alloc::AllocError;
 use streams::{Stream, start_stream};
 
-/// By the log's number: the player's stream as far as the log shows it, up to a place that all logs have come to.
-pub(crate) type Heads = [Stream; MOST_LOGS as usize];
+/// By the log's number: a player's stream as far as the log shows it, up to a place that all logs have come to.
+pub type Heads = [Stream; MOST_LOGS as usize];
 
 /// A place of a stream: how many commitments and how many reveals come before it.
 #[derive(Clone, Copy)]
@@ -152,8 +152,8 @@ fn step_all(
     }
 }
 
-/// Streams of which no place is there.
-pub(crate) fn start_heads(session: &Session, player: PlayerId) -> Heads
+/// Streams of the player of which no place is there, with which the reading of logs begins.
+pub fn start_heads(session: &Session, player: PlayerId) -> Heads
     requires { player < players_of session.now }
     ensures tracks { H.AreOpen session.now result }
     ensures stand { (logs : List (List Entry)) → H.Stand session.now player logs (record { commits = 0; resolved = 0 }) result }
@@ -184,8 +184,9 @@ fn read_place(
     Ok(())
 }
 
-/// Reads the commitments that come before the first reveal.
-pub(crate) fn read_first(
+/// Reads the commitments that come before the first reveal. `seen` is room for what is kept of a turn, and an error comes where
+/// its allocator has no memory.
+pub fn read_first(
     index: &FrameIndex,
     session: &Session,
     walker: &mut Walker,
@@ -209,8 +210,9 @@ pub(crate) fn read_first(
     Ok(())
 }
 
-/// Reads the turn's reveal, by what is kept of the turn, and the commitment that comes before the next reveal.
-pub(crate) fn read_turn(
+/// Reads the turn's reveal, by what is kept of the turn, and the commitment that comes before the next reveal. `seen` has what is
+/// kept of the turn, which is lost; an error comes where its allocator has no memory.
+pub fn read_turn(
     index: &FrameIndex,
     session: &Session,
     walker: &mut Walker,

@@ -4,7 +4,8 @@
 //! is kept stands for the logs so far: of each player's turn, each different frame with the first spot that it has in each log
 //! that got it. From this alone [`findings`] lists every finding of the logs with its least pair of spots, in the words of the
 //! definitions, whatever the number of turns that players commit ahead. What a log shows of a player's stream is read place by
-//! place, all logs at once, and never kept.
+//! place, all logs at once, and never kept: [`start_heads`], [`read_first`] and [`read_turn`] read it for whoever wants more than
+//! the findings.
 //!
 //! A frame is taken in time that doesn't grow with what is kept. An index keeps the allocator that it was made with, and takes
 //! from it the memory for what it keeps; all other calls say in their parameters where memory comes from. A want of memory
@@ -27,6 +28,7 @@ mod tests;
 
 pub use definitions::{Digest, Finding, Kind, Spot, TurnFrame};
 pub use frames::{FrameIndex, own_entries_change_nothing};
+pub use heads::{Heads, read_first, read_turn, start_heads};
 pub use limits::MOST_LOGS;
 pub use listing::findings;
 pub use seen::Seen;

@@ -7,3 +7,4 @@ pub mod Parts
 pub mod Feeds
 pub mod Unread
 pub mod Pieces
+pub mod FedWell
