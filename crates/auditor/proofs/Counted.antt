@@ -1,0 +1,85 @@
+-- Counted: the counts of the logs' entries, where one comes to a log and before any came.
+use Rattle.std.proofs.Common.{List, None, Some, [], ap, arith, refl, suc, sym, zero, ℕ, ◌+◌, ◌++◌, ◌<◌, ◌∙◌, ◌∷◌, ◌≡◌, slice_get, length, get_or, set, replicate, true, false, Bool, Option}
+use Rattle.std.specs.Prelude.{◌==◌}
+use Rattle.std.proofs.lemmas.Bool.{eqb-true, eqb-false}
+use Rattle.std.proofs.lemmas.List.{get_or-replicate, length-append, length-replicate}
+use Rattle.std.proofs.lemmas.Option.{get_or_from_slice_get, slice_get-get_or, slice_get_within}
+use Rattle.definitions.specs.declared.logs.Entry.{Entry}
+use Rattle.definitions.specs.Lists.{item_or}
+use Rattle.frame_index.specs.Appended.{with_entry}
+use Rattle.frame_index.proofs.Grows.{own_after}
+
+-- an entry more makes no log more
+pub length-with_entry : (logs : List (List Entry)) (i : ℕ) (e : Entry) → length (with_entry logs i e) ≡ length logs
+length-with_entry [] i e = refl
+length-with_entry (h ∷ hs) zero e = refl
+length-with_entry (h ∷ hs) (suc i) e = ap suc (length-with_entry hs i e)
+
+-- the other logs stay
+other_after : (logs : List (List Entry)) (i l : ℕ) (e : Entry) → (l ≡ i → ⊥) → slice_get (with_entry logs i e) l ≡ slice_get logs l
+other_after [] i l e ne = refl
+other_after (h ∷ hs) zero zero e ne = absurd (ne refl)
+other_after (h ∷ hs) zero (suc l) e ne = refl
+other_after (h ∷ hs) (suc i) zero e ne = refl
+other_after (h ∷ hs) (suc i) (suc l) e ne = other_after hs i l e (λ same. ne (ap suc same))
+
+set_here : {X : Type 0} (xs : List X) (i : ℕ) (x y : X) → slice_get xs i ≡ Some y → slice_get (set xs i x) i ≡ Some x
+set_here [] i x y h = absurd (let none : None ≡ Some y = h in cc)
+set_here (z ∷ zs) zero x y h = refl
+set_here (z ∷ zs) (suc i) x y h = set_here zs i x y h
+
+set_there : {X : Type 0} (xs : List X) (i l : ℕ) (x : X) → (l ≡ i → ⊥) → slice_get (set xs i x) l ≡ slice_get xs l
+set_there [] i l x ne = refl
+set_there (z ∷ zs) zero zero x ne = absurd (ne refl)
+set_there (z ∷ zs) zero (suc l) x ne = refl
+set_there (z ∷ zs) (suc i) zero x ne = refl
+set_there (z ∷ zs) (suc i) (suc l) x ne = set_there zs i l x (λ same. ne (ap suc same))
+
+-- the counts are those of the logs
+abbrev pub AreCounts : List (List Entry) → List ℕ → Type 0
+AreCounts logs counts = (i : ℕ) (h : List Entry) → slice_get logs i ≡ Some h → slice_get counts i ≡ Some (length h)
+
+-- with the one of the log more by one, they are those of the logs with the entry
+pub counts_grown : (logs : List (List Entry)) (counts : List ℕ) (log : ℕ) (h : List Entry) (e : Entry) → slice_get logs log ≡ Some h → AreCounts logs counts →
+    AreCounts (with_entry logs log e) (set counts log (get_or counts log 0 + 1))
+counts_grown logs counts log h e there are i g at = go (i == log) refl
+  where
+    go : (b : Bool) → (i == log) ≡ b → slice_get (set counts log (get_or counts log 0 + 1)) i ≡ Some (length g)
+    go false x =
+        let ne = eqb-false i log x in
+        set_there counts log i (get_or counts log 0 + 1) ne ∙ are i g (sym (other_after logs log i e ne) ∙ at)
+    go true x =
+        let same = eqb-true i log x in
+        let one : Some g ≡ Some (h ++ e ∷ []) = sym at ∙ ap (slice_get (with_entry logs log e)) same ∙ own_after logs log e h there in
+        let is : g ≡ h ++ e ∷ [] = cc in
+        let before = are log h there in
+        let count : get_or counts log 0 ≡ length h = get_or_from_slice_get counts log (length h) 0 before in
+        ap (slice_get (set counts log (get_or counts log 0 + 1))) same ∙ set_here counts log (get_or counts log 0 + 1) (length h) before
+        ∙ ap (λ (n : ℕ). Some n) (ap (λ (n : ℕ). n + 1) count ∙ sym (length-append h (e ∷ [])) ∙ sym (ap length is))
+
+-- empty logs, and counts of them
+pub none_in : (n i : ℕ) (h : List Entry) → slice_get (replicate n []) i ≡ Some h → h ≡ []
+none_in n i h at =
+    let lt = slice_get_within (replicate n []) i h at in
+    let long = length-replicate n (let nil : List Entry = [] in nil) in
+    sym (get_or_from_slice_get (replicate n []) i h [] at) ∙ get_or-replicate n i [] [] (omega arith)
+
+pub none_counted : (n : ℕ) → AreCounts (replicate n []) (replicate n 0)
+none_counted n i h at =
+    let lt = slice_get_within (replicate n []) i h at in
+    let long = length-replicate n (let nil : List Entry = [] in nil) in
+    let less : i < n = omega arith in
+    let counts = length-replicate n (let none : ℕ = 0 in none) in
+    slice_get-get_or (replicate n 0) i 0 (omega arith)
+    ∙ ap (λ (x : ℕ). Some x) (get_or-replicate n i 0 0 less ∙ sym (ap length (none_in n i h at)))
+
+pub count_none : (n i : ℕ) → get_or {A = ℕ} (replicate n 0) i 0 ≡ (let nought : ℕ = 0 in nought)
+count_none zero i = refl
+count_none (suc n) zero = refl
+count_none (suc n) (suc i) = count_none n i
+
+-- no log has an owner
+pub owner_none : (n i : ℕ) → item_or {X = Option ℕ} (replicate n None) i None ≡ None
+owner_none zero i = refl
+owner_none (suc n) zero = refl
+owner_none (suc n) (suc i) = owner_none n i

@@ -1,0 +1,13 @@
+pub mod Accorded
+pub mod Agreeing
+pub mod Counted
+pub mod Spotted
+pub mod Paired
+pub mod Picked
+pub mod Turned
+pub mod Fed
+pub mod Moved
+pub mod Owned
+pub mod Ranged
+pub mod Crossed
+pub mod Worlds

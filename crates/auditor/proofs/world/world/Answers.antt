@@ -1,0 +1,20 @@
+use Rattle.std.proofs.Common.{List, Some, ap, sym, ◌∙◌, ◌≡◌, Bool, Option, map, arith, length}
+use Rattle.std.specs.Prelude.{if◌then◌else◌}
+use Rattle.definitions.specs.Lists.{item_or}
+use Rattle.playout.specs.declared.standing.Standing.{Standing}
+use Rattle.playout.specs.Lockstep.{lockstep}
+use Rattle.playout.specs.Playing.{no_standing}
+use Rattle.auditor.specs.declared.world.WorldLine.{WorldLine}
+use Rattle.auditor.specs.Agreed.{line_of, world_by}
+use Rattle.auditor.specs.Played.{line_at}
+use Rattle.auditor.proofs.Worlds.{line_is, whole_world}
+use Rattle.auditor.proofs.world.world.Goals as goal
+
+pub returns : goal.returns
+returns c = λ legal q lt.
+    let lists = map (λ own. own.items) c.args.moves.now in
+    let whole = sym c.are_whole.ensures ∙ c.if-not-are_whole.false in
+    let played = c.in_ok-playout.ensures.lockstep (legal whole) in
+    ap (λ (lines : List WorldLine). line_at lines q) c.in_ok-lines.ensures
+    ∙ line_is c.in_ok-playout.playout.standings q (let n = c.in_ok-playout.ensures.players in omega (arith, n, lt))
+    ∙ whole_world c.args.session.now lists c.in_ok-playout.playout q whole played.0 played.1 lt

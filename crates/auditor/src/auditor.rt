@@ -1,0 +1,118 @@
+//! The auditor, and the entries that it takes.
+
+ghost use Rattle.std.specs.Prelude.{◌≡◌, ◌<◌, ◌+◌, ℕ, List, [], None, Some, slice_get, length, replicate, IfOk, OnOk, OnErr, IsTrue};
+ghost use Rattle.definitions.specs.declared.logs.Entry.{Entry};
+ghost use Rattle.definitions.specs.World.{Game};
+ghost use Rattle.frame_index.specs.Appended.{with_entry};
+ghost use Rattle.frame_index.specs.Frames as F;
+ghost use Rattle.frame_index.specs.Frames.{IsIndex};
+ghost use Rattle.auditor.specs.Audits.{IsAuditOf, count_in, crossed, is_of_its_sender, owner_in};
+
+use definitions::limits::LONGEST_LOG;
+use definitions::{Entry, PlayerId, Spot};
+use frame_index::{FrameIndex, MOST_LOGS, own_entries_change_nothing};
+use grid_world::Session;
+use reveal_check::frame_digest;
+use std::alloc::{AllocError, Global};
+
+/// How many logs an auditor has room for.
+const LOGS: usize = MOST_LOGS as usize;
+
+/// What the logs of a session show together, of which the entries come one by one.
+#[derive(Drop)]
+pub struct Auditor {
+    pub(crate) session: Session,
+    // the frames that logs got, and those that the logs' owners made
+    pub(crate) index: FrameIndex,
+    pub(crate) made: FrameIndex,
+    // of each log, by its number: how many entries were taken, and whose log it is
+    counts: [u32; LOGS],
+    pub(crate) owners: [Option<PlayerId>; LOGS],
+}
+
+/// Takes the frame of the entry at the spot: to the frames that logs got, or to those that their owners made.
+fn take_entry(
+    index: &mut FrameIndex,
+    made: &mut FrameIndex,
+    session: &Session,
+    spot: Spot,
+    entry: &Entry,
+) -> Result<(), AllocError>
+    requires log { spot.log < MOST_LOGS }
+    requires few { spot.entry < LONGEST_LOG }
+    requires sender { IsTrue (is_of_its_sender entry.now) }
+    ensures got { OnOk result ((logs : List (List Entry)) (h : List Entry) → slice_get logs spot.log ≡ Some h → spot.entry ≡ length h → IsIndex session.now logs index.old → IsIndex session.now (with_entry logs spot.log entry.now) index.new) }
+    ensures made { OnOk result ((logs : List (List Entry)) (h : List Entry) → slice_get logs spot.log ≡ Some h → spot.entry ≡ length h → IsIndex session.now logs made.old → IsIndex session.now (with_entry logs spot.log (crossed entry.now)) made.new) }
+    ensures got_err { OnErr result ((logs : List (List Entry)) → IsIndex session.now logs index.old → IsIndex session.now logs index.new) }
+    ensures made_err { OnErr result ((logs : List (List Entry)) → IsIndex session.now logs made.old → IsIndex session.now logs made.new) }
+{
+    own_entries_change_nothing();
+    match entry {
+        Entry::Got(_, frame) => index.take(*frame, frame_digest(session, frame), spot),
+        Entry::Made(frame) => made.take(*frame, frame_digest(session, frame), spot),
+        Entry::Chose { .. } => Ok(()),
+    }
+}
+
+impl Auditor {
+    /// An auditor of logs of the session that took no entry yet: it stands for 64 empty logs. The allocator is kept, and an error
+    /// comes where it has no memory for a copy of the session.
+    pub fn new(alloc: Global, session: &Session) -> Result<Auditor, AllocError>
+        ensures stands { IfOk result (λ a. IsAuditOf session.now (replicate MOST_LOGS []) a) }
+        ensures counts { IfOk result (λ a. (log : ℕ) → count_in a log ≡ 0) }
+        ensures owners { IfOk result (λ a. (log : ℕ) → owner_in a log ≡ None) }
+    {
+        Ok(Auditor {
+            session: session.copy(alloc)?,
+            index: FrameIndex::new(alloc),
+            made: FrameIndex::new(alloc),
+            counts: [0; LOGS],
+            owners: [None; LOGS],
+        })
+    }
+
+    /// The log is this player's. It is given once, before the log's first entry. It takes no memory.
+    pub fn owner(&mut self, log: u32, owner: PlayerId)
+        requires log { log < MOST_LOGS }
+        ensures stands { (game : Game) (logs : List (List Entry)) → IsAuditOf game logs self.old → IsAuditOf game logs self.new }
+        ensures session { self.new.session ≡ self.old.session }
+        ensures counts { (i : ℕ) → count_in self.new i ≡ count_in self.old i }
+        ensures owner { owner_in self.new log ≡ Some owner }
+        ensures others { (i : ℕ) → (i ≡ log → F.Never) → owner_in self.new i ≡ owner_in self.old i }
+    {
+        self.owners[log as usize] = Some(owner);
+    }
+
+    /// How many entries were taken of the log.
+    pub fn count(&self, log: u32) -> u32
+        requires log { log < MOST_LOGS }
+        ensures { result ≡ count_in self.now log }
+    {
+        self.counts[log as usize]
+    }
+
+    /// Takes the next entry of the log of this number, counted from 0. The auditor stands for the logs with the entry at the end of
+    /// that log. An error comes where the auditor's allocator has no memory, and then it stands for the logs without the entry.
+    ///
+    /// A log has no more entries than bytes, and what it got is of the player from whom it came, as the grammar of logs has it.
+    pub fn take(&mut self, log: u32, entry: &Entry) -> Result<(), AllocError>
+        requires log { log < MOST_LOGS }
+        requires few { count_in self.old log < LONGEST_LOG }
+        requires sender { IsTrue (is_of_its_sender entry.now) }
+        ensures stands { OnOk result ((game : Game) (logs : List (List Entry)) → IsAuditOf game logs self.old → IsAuditOf game (with_entry logs log entry.now) self.new) }
+        ensures err { OnErr result ((game : Game) (logs : List (List Entry)) → IsAuditOf game logs self.old → IsAuditOf game logs self.new) }
+        ensures session { self.new.session ≡ self.old.session }
+        ensures counted { OnOk result (count_in self.new log ≡ count_in self.old log + 1) }
+        ensures uncounted { OnErr result (count_in self.new log ≡ count_in self.old log) }
+        ensures others { (i : ℕ) → (i ≡ log → F.Never) → count_in self.new i ≡ count_in self.old i }
+        ensures owners { (i : ℕ) → owner_in self.new i ≡ owner_in self.old i }
+    {
+        let spot = Spot {
+            log,
+            entry: self.counts[log as usize],
+        };
+        take_entry(&mut self.index, &mut self.made, &self.session, spot, entry)?;
+        self.counts[log as usize] += 1;
+        Ok(())
+    }
+}

@@ -1,0 +1,92 @@
+//! What the logs that an auditor took show together.
+
+ghost use Rattle.std.specs.Prelude.{◌≡◌, List, IfOk, length, map};
+ghost use Rattle.definitions.specs.declared.logs.Entry.{Entry};
+ghost use Rattle.definitions.specs.World.{Game};
+ghost use Rattle.auditor.specs.Agreed as A;
+ghost use Rattle.auditor.specs.Audits.{IsAuditOf};
+ghost use Rattle.auditor.specs.Reading.{IsReadable};
+ghost use Rattle.auditor.specs.Reports.{IsReportOf, agreed_by, found_in, world_by};
+
+use crate::auditor::Auditor;
+use crate::world::{WorldLine, world};
+use definitions::{Finding, Move, PlayerId};
+use frame_index::findings;
+use move_rules::Walker;
+use std::alloc::{AllocError, Global};
+
+/// What logs show.
+#[derive(Drop)]
+pub struct Report {
+    found: Vec<Finding>,
+    // how many turns of each player are agreed
+    agreed: Vec<u32>,
+    // each player's line, or none
+    lines: Vec<WorldLine>,
+}
+
+impl Report {
+    /// The findings of the logs, by player, turn and kind, each with its least pair of spots.
+    pub fn findings(&self) -> &[Finding]
+        ensures { result.now ≡ found_in self.now }
+    {
+        &self.found
+    }
+
+    /// How many turns of the player are agreed, wherever they lie: some log resolves the turn, and all logs that do give one
+    /// move. An owner's own frames count in its own log. 0 of a player whom the session doesn't have.
+    pub fn agreed(&self, player: PlayerId) -> u32
+        ensures { result ≡ agreed_by self.now player }
+    {
+        self.agreed.get(usize::from(player)).copied().unwrap_or(0)
+    }
+
+    /// Where the player stands behind the last turn and what it scored, by the play of the moves on which the logs agree. None
+    /// where some turn of some player isn't agreed, and of a player whom the session doesn't have.
+    pub fn world(&self, player: PlayerId) -> Option<WorldLine>
+        ensures { result ≡ world_by self.now player }
+    {
+        self.lines.get(usize::from(player)).copied()
+    }
+}
+
+/// The moves of each player's agreed turns, in order, and how many they are.
+#[derive(Drop)]
+struct Agreed {
+    moves: Vec<Vec<Move>>,
+    counts: Vec<u32>,
+}
+
+impl Auditor {
+    /// The moves of each player's agreed turns.
+    fn agreed(&self, alloc: Global, walker: &mut Walker) -> Result<Agreed, AllocError>
+        ensures counts { IfOk result (λ a. a.counts.items ≡ map (λ own. length own.items) a.moves.items) }
+        ensures moves { IfOk result (λ a. (logs : List (List Entry)) → IsReadable self.now logs → map (λ own. own.items) a.moves.items ≡ A.all_agreed_moves self.now.session self.now.owners logs) }
+    {
+        self.session.facts();
+        let players = usize::from(self.session.players());
+        let mut moves = Vec::with_capacity(alloc, players)?;
+        let mut counts = Vec::with_capacity(alloc, players)?;
+        for player in 0..self.session.players() {
+            let own = self.agreed_moves(alloc, walker, player)?;
+            counts.push(own.len() as u32)?;
+            moves.push(own)?;
+        }
+        Ok(Agreed { moves, counts })
+    }
+
+    /// What the logs show that the auditor took so far. It takes memory from `alloc`, and an error comes where there is none.
+    pub fn report(&self, alloc: Global) -> Result<Report, AllocError>
+        ensures { IfOk result (λ r. (game : Game) (logs : List (List Entry)) → IsAuditOf game logs self.now → IsReportOf game self.now.owners logs r) }
+    {
+        let mut walker = Walker::new(alloc, self.session.grid())?;
+        let found = findings(alloc, &self.session, &mut walker, &self.index)?;
+        let agreed = self.agreed(alloc, &mut walker)?;
+        let lines = world(alloc, &self.session, &mut walker, &agreed.moves)?;
+        Ok(Report {
+            found,
+            agreed: agreed.counts,
+            lines,
+        })
+    }
+}
