@@ -12,6 +12,7 @@ pub mod Tracks
 pub mod Meetings
 pub mod Distances
 pub mod LegalMoves
+pub mod Strikes
 pub mod Permits
 pub mod Advances
 pub mod Headline
@@ -30,6 +31,7 @@ pub mod Collided
 pub mod Stays
 pub mod Silent
 pub mod Settling
+pub mod Revealed
 pub mod Standing
 pub mod Stepping
 pub mod Deliveries

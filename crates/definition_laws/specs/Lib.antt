@@ -17,3 +17,4 @@ pub mod Rows
 pub mod First
 pub mod Fits
 pub mod Replies
+pub mod Strikes

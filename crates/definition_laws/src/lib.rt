@@ -6,6 +6,7 @@
 
 ghost use Rattle.definition_laws.specs.Walks.{ReachesIsWalk, ReachesGrows};
 ghost use Rattle.definition_laws.specs.Distances.{LegalMovesAreWalks, SpheresAreDistances, MeetingsAreDistances};
+ghost use Rattle.definition_laws.specs.Strikes.{WhoIsHitMeets};
 ghost use Rattle.definition_laws.specs.Streams.{PlacesAlternate, EachPlaceIsAFrames, KnownIsBelowTheNext, NothingFitsTheNext, HeldIsTheFirst, ResolvedIsTheFirst, OthersAreKnownByReceipt, ResolvedAreLegal, KnownStays};
 ghost use Rattle.definition_laws.specs.Openings.{OpeningsDiffer};
 ghost use Rattle.definition_laws.specs.Growth.{HonestLogsAreWellFormed, SettledStays, MeetingsOnlyEnd, PrefixesAreHonest, PermitsStay, HonestLogsGrow, CleanWithoutFrames, NothingKnownWithoutFrames};
@@ -32,6 +33,11 @@ pub fn influence()
     ensures moves { LegalMovesAreWalks }
     ensures spheres { SpheresAreDistances }
     ensures meetings { MeetingsAreDistances }
+{}
+
+/// Whom a strike can hit.
+pub fn strikes_meet()
+    ensures { WhoIsHitMeets }
 {}
 
 /// The order of a stream.
