@@ -129,3 +129,27 @@ missing_alike game me own p (mv ∷ moves) (o ∷ others) same there =
 pub missing_turn_alike : (game : Game) (moves : List Move) (others : List (Option Move)) (me : ℕ) → length others ≡ length moves →
     ((q : ℕ) → q < length moves → (q ≡ me → ⊥) → IsThereOrApart game (move_of moves me) (move_of moves q) (item_or others q None)) → own_score game me (move_of moves me) others ≡ turn_score game moves me
 missing_turn_alike game moves others me same there = missing_alike game me (move_of moves me) 0 moves others same (λ i lt other. there i lt (λ e. other (omega arith)))
+
+-- ---- where other moves are there
+
+counts_alike : (b : Bool) (game : Game) (own : Move) (o more : Option Move) → (b ≡ false → between_known false game own o ≡ between_known false game own more) → between_known b game own o ≡ between_known b game own more
+counts_alike false game own o more same = same refl
+counts_alike true game own None None same = refl
+counts_alike true game own None (Some mv) same = refl
+counts_alike true game own (Some mv) None same = refl
+counts_alike true game own (Some mv) (Some other) same = refl
+
+-- an own turn counts the same against other moves, each of which counts the same
+pub own_alike : (game : Game) (me : ℕ) (own : Move) (p : ℕ) (others more : List (Option Move)) → length others ≡ length more →
+    ((i : ℕ) → i < length others → (p + i ≡ me → ⊥) → between_known false game own (item_or others i None) ≡ between_known false game own (item_or more i None)) →
+    own_score_among game me own p others ≡ own_score_among game me own p more
+unfolding own_score_among
+own_alike game me own p [] [] same each = refl
+own_alike game me own p [] (x ∷ more) same each = absurd (omega arith)
+own_alike game me own p (o ∷ others) [] same each = absurd (omega arith)
+own_alike game me own p (o ∷ others) (x ∷ more) same each =
+    let one : between_known (p == me) game own o ≡ between_known (p == me) game own x
+    = counts_alike (p == me) game own o x (λ t. each 0 (omega arith) (λ e. false≢true (sym t ∙ eq-eqb p me (omega arith)))) in
+    let rest : own_score_among game me own (p + 1) others ≡ own_score_among game me own (p + 1) more
+    = own_alike game me own (p + 1) others more (omega arith) (λ i lt other. each (suc i) (omega arith) (λ e. other (omega arith))) in
+    ap (λ (s : Score). plus s (own_score_among game me own (p + 1) others)) one ∙ ap (plus (between_known (p == me) game own x)) rest

@@ -85,6 +85,13 @@ impl Playout {
         self.turns += 1;
     }
 
+    /// How many turns were played, those of all players and own ones.
+    pub fn turns(&self) -> u32
+        ensures { result ≡ self.now.turns }
+    {
+        self.turns
+    }
+
     /// The hits that the player gave and took in the turns played.
     pub fn score(&self, player: PlayerId) -> Score
         requires { player < length self.now.standings }
