@@ -2,6 +2,9 @@ pub mod OwnTracks
 pub mod Ready
 pub mod Answering
 pub mod Tables
+pub mod Scores
+pub mod Counted
+pub mod Unheld
 pub mod Peers
 pub mod Choices
 pub mod Replaying

@@ -52,7 +52,7 @@ commit_track game me t last h ts is i slot are l = let w = at_commit game me t h
 stage_cell : (game : Game) (me t : ℕ) (h : List Entry) (ts : List Track) (d : Track) → IsSession game → IsHonest game me h → AreOwnTracks game me h ts → t ≤ resolved_count game me h me → (get_or ts t d).at ≡ cell_before game me h me t
 stage_cell game me t h ts d is i are le = own_track_at game me t h ts d (ahead_least game is) i are le
 
-stage_open : (game : Game) (me t : ℕ) (h : List Entry) (ts : List Track) (d : Track) → IsSession game → me < players_of game → IsHonest game me h → AreOwnTracks game me h ts → t ≤ resolved_count game me h me →
+pub stage_open : (game : Game) (me t : ℕ) (h : List Entry) (ts : List Track) (d : Track) → IsSession game → me < players_of game → IsHonest game me h → AreOwnTracks game me h ts → t ≤ resolved_count game me h me →
     is_open game.grid (get_or ts t d).at ≡ true
 stage_open game me t h ts d is lt i are le =
     let Is : Cell → Type 0 = λ c. is_open game.grid c ≡ true in

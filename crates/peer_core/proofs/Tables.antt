@@ -51,7 +51,7 @@ item_get (x ∷ xs) zero d = refl
 item_get (x ∷ xs) (suc n) d = item_get xs n d
 
 -- what a window shows is what the log shows
-window_known : (game : Game) (me q : ℕ) (h : List Entry) (w : Seen) → IsWindowOf game me h q w → w.known ≡ known game me h q
+pub window_known : (game : Game) (me q : ℕ) (h : List Entry) (w : Seen) → IsWindowOf game me h q w → w.known ≡ known game me h q
 window_known game me q h w o = shows_log game me h w o.window o.offered ∙ ap (λ k. known game me h k) o.player
 
 pub window_track : (game : Game) (me q : ℕ) (h : List Entry) (w : Seen) → IsWindowOf game me h q w → w.track ≡ track_after game q (known game me h q).moves

@@ -4,5 +4,7 @@ pub mod Others
 pub mod Choosing
 pub mod Answers
 pub mod Standing
+pub mod Scoring
+pub mod Settling
 pub mod Inside
 pub mod Resuming

@@ -1,26 +1,32 @@
 //! What a peer knows of the other players: a window of the frames of each, and for whom the peer waits.
 
-ghost use Rattle.std.specs.Prelude.{◌≡◌, ◌≢◌, ◌≤◌, ◌<◌, ◌+◌, ◌^◌, [], length, replicate, IsTrue, IfOk};
-ghost use Rattle.definitions.specs.World.{players_of};
+ghost use Rattle.std.specs.Prelude.{◌≡◌, ◌≢◌, ◌≤◌, ◌<◌, ◌+◌, ◌^◌, [], length, map, replicate, slice_get, IsTrue, IfOk};
+ghost use Rattle.std.specs.List.{list_all};
+ghost use Rattle.definitions.specs.World.{players_of, is_open};
+ghost use Rattle.definitions.specs.Meets.{cell_before};
 ghost use Rattle.definitions.specs.Findings.{is_clean};
 ghost use Rattle.definitions.specs.Answers.{got_answer, is_of_another};
 ghost use Rattle.definitions.specs.Honest.{IsHonest, made_count};
+ghost use Rattle.definitions.specs.Honest as O;
 ghost use Rattle.definitions.specs.Needs as N;
 ghost use Rattle.peer_window.specs.Logged.{answer_of_offer, finding_of_clash};
 ghost use Rattle.wait_rule.specs.Waiting.{no_view};
 ghost use Rattle.peer_core.specs.OwnTracks.{AreOwnTracks};
 ghost use Rattle.peer_core.specs.Others.{AreOthers, AreOpened, view_of};
+ghost use Rattle.peer_core.specs.Settling.{unheld};
 ghost use Rattle.peer_core.specs.Views as V;
 
 use crate::stages::next_stage;
 use crate::views::PlayerView;
-use definitions::{Entry, Finding, GotAnswer, Place, PlayerId, Spot, Track, TurnFrame};
+use definitions::{
+    Cell, Entry, Finding, GotAnswer, Move, Place, PlayerId, Spot, Track, Turn, TurnFrame,
+};
 use grid_world::Session;
 use move_rules::Walker;
 use peer_window::{Clash, Offer, Window};
 use std::alloc::{AllocError, Global};
 use std::marker::Model;
-use wait_rule::{NeedList, View, WaitRule};
+use wait_rule::{NeedList, Stage, View, WaitRule};
 
 /// What the rule of waiting is told of a player.
 fn view_of(window: &Window) -> View
@@ -88,12 +94,26 @@ fn blank_views(alloc: Global, session: &Session) -> Result<Vec<View>, AllocError
     vec![in alloc; blank; usize::from(session.players())]
 }
 
+/// The same of a player, as if no commitment to a turn that isn't resolved were held.
+fn unheld(view: View) -> View
+    ensures { result ≡ unheld view }
+{
+    View {
+        resolved: view.resolved,
+        next: view.next,
+        commits: view.resolved,
+    }
+}
+
 /// The windows of all players, what the rule of waiting is told of them, and the rule. The peer's own are never asked.
 #[derive(Drop)]
 pub(crate) struct Others {
     windows: Vec<Window>,
     views: Vec<View>,
     rule: WaitRule,
+    // the views without commitments to turns that aren't resolved, and room for those who keep a turn from being settled
+    bare: Vec<View>,
+    keeping: NeedList,
 }
 
 impl Model for Others {
@@ -102,6 +122,11 @@ impl Model for Others {
     ghost Value = { Known };
 
     ghost view = { λ o. record { windows = o.windows.items; views = o.views.items; rule = o.rule } };
+
+    ghost use Rattle.std.specs.Prelude.{◌≡◌, map};
+    ghost use Rattle.peer_core.specs.Settling.{unheld};
+
+    ghost invariant = { λ o. o.bare.items ≡ map unheld o.views.items };
 }
 
 impl Others {
@@ -112,10 +137,13 @@ impl Others {
         let windows = open_windows(alloc, session)?;
         let views = blank_views(alloc, session)?;
         let rule = WaitRule::new(alloc, session)?;
+        let bare = blank_views(alloc, session)?;
         Ok(Others {
             windows,
             views,
             rule,
+            bare,
+            keeping: NeedList::new(),
         })
     }
 
@@ -143,6 +171,7 @@ impl Others {
         let view = view_of(&self.windows[at]);
         let cell = self.windows[at].track().at;
         self.views[at] = view;
+        self.bare[at] = unheld(view);
         self.rule.resolved(from, cell);
         answer_of(from, &offer)
     }
@@ -168,6 +197,42 @@ impl Others {
         let stage = next_stage(session, me, entries, made, tracks);
         self.rule
             .needs(session, me, stage, self.views.as_slice(), out);
+    }
+
+    /// Whether each other player is resolved in the turn, before which the owner of the log stood at this cell, or doesn't meet
+    /// the owner in it.
+    pub(crate) fn let_on(
+        &mut self,
+        session: &Session,
+        me: PlayerId,
+        _entries: &[Entry],
+        turn: Turn,
+        at: Cell,
+    ) -> bool
+        requires owner { me < players_of session.now }
+        requires others { AreOthers session.now me _entries.now self.old }
+        requires turn { turn < session.now.turns }
+        requires at { at ≡ cell_before session.now me _entries.now me turn }
+        requires open { IsTrue (is_open session.now.grid at) }
+        ensures lets { result ≡ list_all (O.lets_commit session.now me _entries.now turn) (O.others session.now me) }
+        ensures others { self.new ≡ self.old }
+    {
+        // as if its commitment weren't held, each player that isn't resolved in the turn and meets the owner keeps it waiting
+        let stage = Stage::Reveal { turn, at };
+        let views = self.bare.as_slice();
+        self.rule
+            .needs(session, me, stage, views, &mut self.keeping);
+        self.keeping.as_slice().is_empty()
+    }
+
+    /// Makes `out` the moves of the turn that the players' windows show, in order of player.
+    pub(crate) fn moves_at(&self, turn: Turn, out: &mut [Option<Move>])
+        requires { length out.old ≡ length self.now.windows }
+        ensures { out.new ≡ map (λ w. slice_get w.known.moves turn) self.now.windows }
+    {
+        for at in 0..out.len() {
+            out[at] = self.windows[at].move_at(turn);
+        }
     }
 
     /// What the log shows of another player.

@@ -15,12 +15,16 @@ ghost use Rattle.std.specs.Option.{is_some};
 ghost use Rattle.definitions.specs.Findings.{is_clean};
 ghost use Rattle.definitions.specs.Answers.{got_answer, is_of_another};
 ghost use Rattle.definition_laws.specs.First.{finding_of_log};
+ghost use Rattle.definitions.specs.Settled.{settled};
+ghost use Rattle.peer_core.specs.Scoring as S;
 ghost use Rattle.peer_core.specs.Views as V;
 
 use crate::answers::{caught_in, is_logged, progress_of};
 use crate::choosing::{chooses, next_of};
+use crate::following::follow;
 use crate::others::Others;
 use crate::room::add;
+use crate::settling::Settling;
 use crate::views::{Choice, PlayerView};
 use definitions::{
     Entry, Finding, GotAnswer, Move, MoveFault, Nonce, Opening, OwnFault, Place, PlayerId,
@@ -28,6 +32,7 @@ use definitions::{
 };
 use grid_world::Session;
 use move_rules::{Walker, start_track};
+use playout::Score;
 use std::alloc::{AllocError, Global};
 use std::marker::Model;
 use wait_rule::NeedList;
@@ -47,19 +52,22 @@ pub struct Peer {
     others: Others,
     found: Option<Finding>,
     needs: NeedList,
+    settling: Settling,
 }
 
 impl Model for Peer {
     ghost use Rattle.std.specs.Prelude.{vec_capacity};
     ghost use Rattle.peer_core.specs.Views.{PeerState};
     ghost use Rattle.peer_core.specs.Inside.{IsPeer, HasRoom};
+    ghost use Rattle.peer_core.specs.Settling.{IsCounted};
 
     ghost Value = { PeerState };
 
     ghost view = { λ p. record { game = p.session; me = p.me; entries = p.entries.items } };
 
     ghost invariant = { λ p. IsPeer p.session p.me p.entries.items p.openings.items p.frames.items p.tracks.items p.others p.found p.needs
-        × HasRoom p.session (vec_capacity p.entries) (vec_capacity p.openings) (vec_capacity p.frames) (vec_capacity p.tracks) };
+        × HasRoom p.session (vec_capacity p.entries) (vec_capacity p.openings) (vec_capacity p.frames) (vec_capacity p.tracks)
+        × IsCounted p.session p.me p.entries.items p.settling };
 }
 
 impl Peer {
@@ -78,6 +86,7 @@ impl Peer {
         let mut tracks = Vec::with_capacity(alloc, turns + 1)?;
         tracks.push(start_track(session, me))?;
         let mut known = Others::new(alloc, session, me)?;
+        let settling = Settling::new(alloc, session)?;
         let mut needs = NeedList::new();
         known.find_needs(
             session,
@@ -98,6 +107,7 @@ impl Peer {
             others: known,
             found: None,
             needs,
+            settling,
         })
     }
 
@@ -143,6 +153,25 @@ impl Peer {
         ensures { result.now ≡ N.needs self.now.game self.now.me self.now.entries }
     {
         &self.needs
+    }
+
+    /// How many own turns are settled, from the first one on without a gap. An own turn is settled where its reveal is made,
+    /// and the turn of each other player is resolved or that player can't meet the peer in it. What comes later changes nothing
+    /// of it.
+    pub fn settled(&self) -> u32
+        ensures { result ≡ settled self.now.game self.now.me self.now.entries }
+    {
+        self.settling.turns()
+    }
+
+    /// The hits that the peer gave and took in its settled turns: whatever the moves are that its log doesn't show, these are
+    /// its hits where all players play so many turns.
+    pub fn score(&self) -> Score
+        ensures exact { result ≡ S.settled_score self.now.game self.now.me self.now.entries }
+        ensures of_all { S.IsScoreOfAll self.now.game self.now.me self.now.entries result }
+    {
+        self.session.facts();
+        self.settling.score(self.me)
     }
 
     /// How many frames the peer made: the next one has this place in its stream.
@@ -218,10 +247,13 @@ impl Peer {
         self.session.facts();
         add(&mut self.entries, Entry::Made(frame));
         add(&mut self.frames, frame);
-        self.others.find_needs(
+        follow(
+            &mut self.others,
+            &mut self.settling,
             &self.session,
             self.me,
             self.entries.as_slice(),
+            self.openings.as_slice(),
             self.frames.len() as u32,
             self.tracks.as_slice(),
             &mut self.needs,
@@ -273,10 +305,13 @@ impl Peer {
         add(&mut self.entries, Entry::Chose { turn, mv, nonce });
         add(&mut self.openings, opening);
         add(&mut self.tracks, track);
-        self.others.find_needs(
+        follow(
+            &mut self.others,
+            &mut self.settling,
             &self.session,
             self.me,
             self.entries.as_slice(),
+            self.openings.as_slice(),
             self.frames.len() as u32,
             self.tracks.as_slice(),
             &mut self.needs,
@@ -332,10 +367,13 @@ impl Peer {
         if is_logged(&answer) {
             add(&mut self.entries, Entry::Got(from, *frame));
             self.found = caught_in(&answer);
-            self.others.find_needs(
+            follow(
+                &mut self.others,
+                &mut self.settling,
                 &self.session,
                 self.me,
                 self.entries.as_slice(),
+                self.openings.as_slice(),
                 self.frames.len() as u32,
                 self.tracks.as_slice(),
                 &mut self.needs,

@@ -1,6 +1,5 @@
-use Rattle.std.proofs.Common.{◌≡◌, ◌≤◌, take, ◌+◌, arith, refl}
+use Rattle.std.proofs.Common.{arith, refl}
 use Rattle.definitions.specs.Logs.{made}
-use Rattle.definitions.specs.Honest.{made_count}
 use Rattle.peer_core.proofs.MadeFrames.{made_count_more, made_count_same}
 use Rattle.peer_core.proofs.sending.count_made.Goals as goal
 use Rattle.peer_core.proofs.sending.count_made.Goals.{in-Made, in_default}

@@ -5,8 +5,12 @@ use Rattle.definitions.specs.declared.world.Track.{Track}
 use Rattle.peer_window.specs.Windows.{Seen}
 use Rattle.peer_core.specs.Others.{Known, AreOthers, view_of}
 use Rattle.peer_core.proofs.Tables.{window_at, offered_below, offered_there, offered_open, offered_read}
+use Rattle.peer_core.proofs.Unheld.{unheld_set}
 use Rattle.peer_core.proofs.others.Others.offer.Goals as goal
 use Rattle.definition_laws.proofs.Room.{other_player}
+
+pub invariant_of-self : goal.invariant_of-self
+invariant_of-self c = unheld_set c.self.inside.views.items c.self.inside.bare.items c.from-at.result c.view_of-view.result c.unheld.result c.self.invariant c.unheld.ensures
 
 pub offer-offer-requires-clause-later : goal.offer-offer-requires-clause-later
 offer-offer-requires-clause-later c =

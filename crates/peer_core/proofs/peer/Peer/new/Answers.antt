@@ -1,5 +1,6 @@
 use Rattle.std.proofs.Common.{refl, sym, subst, ◌≡◌, List, [], ◌∷◌, ◌∙◌, ap, ◌-◌, ◌++◌, arith}
 use Rattle.definition_laws.proofs.ForPeers.{honest_empty}
+use Rattle.peer_core.proofs.Counted.{counted_fresh}
 use Rattle.peer_core.proofs.Peers.{peer_new, room_new, made_empty, tracks_empty}
 use Rattle.definitions.specs.declared.logs.Entry.{Entry}
 use Rattle.peer_core.specs.Others.{Known, AreOthers}
@@ -32,4 +33,5 @@ invariant_of-result c =
           (subst Are (sym c.find_needs.ensures.others) c.in_ok-known.ensures) c.find_needs.ensures.needs,
       room_new c.args.session.now c.in_ok-copy.copy c.turns-turns.result (c.from-others.result - 1) _ _ _ _ c.in_ok-copy.ensures c.turns-turns.ensures.value (ap (λ n. n - 1) (c.from-others.ensures ∙ c.players.ensures.value))
           c.in_ok-entries.ensures.capacity c.in_ok-openings.ensures.capacity c.in_ok-frames.ensures.capacity (omega (arith, c.in_ok-tracks.ensures.capacity, c.in_ok-push.ensures.capacity)),
+      counted_fresh c.args.session.now c.in_ok-copy.copy c.args.me _ c.in_ok-settling.settling c.in_ok-copy.ensures c.in_ok-entries.ensures.items c.requires.player c.in_ok-settling.ensures,
     )

@@ -1,4 +1,4 @@
-use Rattle.std.proofs.Common.{◌≡◌, ◌≤◌, ℕ, ◌+◌, ◌∙◌, ap, arith, drop, take, List, ◌<◌, ◌^◌, rules}
+use Rattle.std.proofs.Common.{◌≡◌, ◌≤◌, ℕ, ◌∙◌, ap, arith, drop, List, ◌<◌, ◌^◌, rules}
 use Rattle.definitions.specs.declared.logs.Entry.{Entry}
 use Rattle.definitions.specs.Honest.{made_count}
 use Rattle.peer_core.proofs.MadeFrames.{made_count_split}
