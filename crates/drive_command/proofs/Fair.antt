@@ -25,7 +25,7 @@ use Rattle.wire_frames.specs.declared.frames.Frame.{Frame}
 use Rattle.wire_frames.specs.declared.frames.Frame.TheVariants.{Hello, Turn, Want}
 use Rattle.wire_frames.specs.Streams.{given_of}
 use Rattle.script_grammar.specs.declared.grammar.DriveLine.{DriveLine}
-use Rattle.script_grammar.specs.declared.grammar.DriveLine.TheVariants.{Bad, Bytes, Choose, Log, Nothing}
+use Rattle.script_grammar.specs.declared.grammar.DriveLine.TheVariants.{Bad, Bytes, Choose, Log, Nothing, Score}
 use Rattle.script_grammar.specs.declared.grammar.DriveLine.TheVariants as D
 use Rattle.script_grammar.specs.Grammar.{is_bad}
 use Rattle.drive_command.specs.Driven.{State, fresh_state, reader_of}
@@ -61,6 +61,7 @@ behind_honest game me s (Choose mv nonce) a i = choice_honest game me s.log mv n
 behind_honest game me s (D.Got q f) a i = got_honest game me q s.log f i
 behind_honest game me s (Bytes q bytes) a i = frames_honest game me s.log q (given_of (reader_of s q) bytes).frames i
 behind_honest game me s Log a i = i
+behind_honest game me s Score a i = i
 behind_honest game me s Bad a i = i
 
 by_honest : (game : Game) (me : ℕ) (now last : List Entry) (bad : Bool) → IsHonest game me now → IsHonest game me last → IsHonest game me (log_by bad now last)

@@ -21,7 +21,7 @@ use Rattle.run_frame.specs.declared.statuses.Status.TheVariants.{BadLine, Caught
 use Rattle.run_frame.specs.declared.statuses.TextName.TheVariants.{Script}
 use Rattle.line_io.proofs.Writing.{bytes_none}
 use Rattle.script_grammar.specs.declared.grammar.DriveLine.{DriveLine}
-use Rattle.script_grammar.specs.declared.grammar.DriveLine.TheVariants.{Bad, Nothing, Choose, Got, Bytes, Log}
+use Rattle.script_grammar.specs.declared.grammar.DriveLine.TheVariants.{Bad, Nothing, Choose, Got, Bytes, Log, Score}
 use Rattle.script_grammar.specs.Grammar.{is_bad, line_of}
 use Rattle.definitions.specs.declared.limits.TheConstants.{LONGEST_LINE}
 use Rattle.definitions.specs.declared.limits.TheConstants.{MOST_LINES}
@@ -29,7 +29,7 @@ use Rattle.drive_command.specs.Driven.{State, last_reader, state_with_log}
 use Rattle.drive_command.specs.Coming.{received_text, bytes_text, bytes_state}
 use Rattle.drive_command.specs.Drive.{answer_by, drive_from, going_on, said_behind, state_behind, text_behind}
 use Rattle.report_lines.specs.Lines.{added_text, choice_text, got_text}
-use Rattle.drive_command.specs.Report.{end_text, log_text}
+use Rattle.drive_command.specs.Report.{end_text, log_text, own_score_text}
 
 -- the answer from a log on that has no finding, and from one that has
 pub goes_on : (game : Game) (me : ℕ) (h : List Entry) (rest : Answer) → is_clean game h ≡ true → going_on game me h rest ≡ rest
@@ -82,6 +82,12 @@ pub printed : (game : Game) (me : ℕ) (s : State) (n : ℕ) (line : List ℕ) (
     answer_from game me s n (Line line input) ≡ after_text (log_text game me s.log) (answer_from game me s (n + 1) input)
 unfolding text_behind state_behind
 printed game me s n line input c e = from_said game me s n line input Log c e
+
+-- a line that prints the own score
+pub scored : (game : Game) (me : ℕ) (s : State) (n : ℕ) (line : List ℕ) (input : Input) → is_clean game s.log ≡ true → Score ≡ said_behind game n line →
+    answer_from game me s n (Line line input) ≡ after_text (own_score_text game me s.log) (answer_from game me s (n + 1) input)
+unfolding text_behind state_behind
+scored game me s n line input c e = from_said game me s n line input Score c e
 
 -- a line in no grammar
 pub refused : (game : Game) (me : ℕ) (s : State) (n : ℕ) (line : List ℕ) (input : Input) → is_clean game s.log ≡ true → Bad ≡ said_behind game n line →

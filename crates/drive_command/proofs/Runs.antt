@@ -14,7 +14,7 @@ use Rattle.wire_frames.specs.declared.frames.Frame.{Frame}
 use Rattle.wire_frames.specs.declared.frames.Frame.TheVariants.{Hello, Turn, Want}
 use Rattle.wire_frames.specs.Streams.{given_of}
 use Rattle.script_grammar.specs.declared.grammar.DriveLine.{DriveLine}
-use Rattle.script_grammar.specs.declared.grammar.DriveLine.TheVariants.{Bad, Bytes, Choose, Got, Log, Nothing}
+use Rattle.script_grammar.specs.declared.grammar.DriveLine.TheVariants.{Bad, Bytes, Choose, Got, Log, Nothing, Score}
 use Rattle.script_grammar.specs.Grammar.{is_bad}
 use Rattle.drive_command.specs.Driven.{State, fresh_state, reader_of}
 use Rattle.drive_command.specs.Coming.{bytes_state, log_on, log_through}
@@ -61,6 +61,7 @@ module _ (game : Game) (me : ℕ) where
   line_run s (Got q f) = refl
   line_run s (Bytes q bytes) = frames_run s.log q (given_of (reader_of s q) bytes).frames
   line_run s Log = refl
+  line_run s Score = refl
   line_run s Bad = refl
 
   from_run : (s : State) (n : ℕ) (lines : List (List ℕ)) → log_from game me s n lines ≡ log_run game me s.log (steps_from game me s n lines)

@@ -11,7 +11,7 @@ use Rattle.wire_frames.specs.Reading.{Reading, at_start}
 use Rattle.wire_frames.specs.Streams.{Given, Stream, end_of, given_of, given_over, seen_by, stream_of}
 use Rattle.wire_frames.proofs.Pieces.{pieces_same}
 use Rattle.script_grammar.specs.declared.grammar.DriveLine.{DriveLine}
-use Rattle.script_grammar.specs.declared.grammar.DriveLine.TheVariants.{Nothing, Choose, Got, Bytes, Log, Bad}
+use Rattle.script_grammar.specs.declared.grammar.DriveLine.TheVariants.{Nothing, Choose, Got, Bytes, Log, Score, Bad}
 use Rattle.drive_command.specs.declared.readers.TheConstants.{READERS}
 use Rattle.drive_command.specs.Driven.{State, fresh_state, reader_of, with_reader}
 use Rattle.drive_command.specs.Coming.{bytes_state}
@@ -60,6 +60,7 @@ line_reader game me q s Nothing l k = refl
 line_reader game me q s (Choose mv nonce) l k = refl
 line_reader game me q s (Got p f) l k = refl
 line_reader game me q s Log l k = refl
+line_reader game me q s Score l k = refl
 line_reader game me q s Bad l k = refl
 line_reader game me q s (Bytes p bytes) l k = go (p == q) refl
   where
@@ -79,6 +80,7 @@ line_count game me s (Choose mv nonce) = refl
 line_count game me s (Got p f) = refl
 line_count game me s (Bytes p bytes) = length-set s.readers p (given_of (reader_of s p) bytes).reader
 line_count game me s Log = refl
+line_count game me s Score = refl
 line_count game me s Bad = refl
 
 lines_reader : (game : Game) (me q : ℕ) (s : State) (n : ℕ) (lines : List (List ℕ)) → length s.readers ≡ READERS → q < READERS →

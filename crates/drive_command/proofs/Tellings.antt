@@ -34,7 +34,7 @@ use Rattle.drive_command.specs.Coming.{bad_byte_text, bytes_state, bytes_text, c
 use Rattle.drive_command.specs.Drive.{answer_by, drive, drive_from, drive_log, going_on, log_by, log_from, said_behind, start_text, state_behind, text_behind}
 use Rattle.report_lines.specs.Lines.{added_text, bad_text, choice_text, entry_report, found_text, got_text, made_text}
 use Rattle.drive_command.specs.Report.{end_text}
-use Rattle.drive_command.specs.Telling.{Chooses, Finds, Greets, IsTold, Makes, Prints, Receives, Refuses, Spoils, TellsLog, Telling, Wants, added_by, telling_text, told_text}
+use Rattle.drive_command.specs.Telling.{Chooses, Finds, Greets, IsTold, Makes, Prints, Receives, Refuses, Scores, Spoils, TellsLog, Telling, Wants, added_by, telling_text, told_text}
 
 -- nothing is told of no entries
 none_added : (h : List Entry) → added_text (length h) h ≡ []
@@ -212,6 +212,7 @@ module _ (game : Game) (me : ℕ) where
   tells_line s (D.Got q f) n log rest t = tells_got s.log q f log rest.body t
   tells_line s (D.Bytes q bytes) n log rest t = tells_through s.log log q (given_of (reader_of s q) bytes).frames (given_of (reader_of s q) bytes).reader rest.body t
   tells_line s D.Log n log rest t = tells_aside s.log log rest.body Prints refl tt t
+  tells_line s D.Score n log rest t = tells_aside s.log log rest.body Scores refl tt t
   tells_line s D.Nothing n log rest t = t
   tells_line s (D.Choose mv nonce) n log rest t = tells_choice s.log mv nonce log rest.body t
 

@@ -13,14 +13,14 @@ use Rattle.run_frame.specs.declared.statuses.TextName.TheVariants.{Script}
 use Rattle.run_frame.specs.Frame.{Answer, after_text, bare_answer}
 use Rattle.line_io.specs.Inputs.{Input, Line, End, Fault, Ending, AtEnd, AtFault, lines_in}
 use Rattle.script_grammar.specs.declared.grammar.DriveLine.{DriveLine}
-use Rattle.script_grammar.specs.declared.grammar.DriveLine.TheVariants.{Nothing, Choose, Got, Bytes, Log, Bad}
+use Rattle.script_grammar.specs.declared.grammar.DriveLine.TheVariants.{Nothing, Choose, Got, Bytes, Log, Score, Bad}
 use Rattle.script_grammar.specs.Grammar.{line_of, is_bad}
 use Rattle.definitions.specs.declared.limits.TheConstants.{LONGEST_LINE}
 use Rattle.definitions.specs.declared.limits.TheConstants.{MOST_LINES}
 use Rattle.drive_command.specs.Driven.{State, fresh_state, last_reader, state_with_log}
 use Rattle.drive_command.specs.Coming.{received_text, bytes_text, bytes_state, log_on}
 use Rattle.report_lines.specs.Lines.{choice_text, found_text, added_text}
-use Rattle.drive_command.specs.Report.{log_text, end_text}
+use Rattle.drive_command.specs.Report.{log_text, own_score_text, end_text}
 
 -- what the line says that comes behind n lines: a line longer than a line may be, and one behind the most lines that a
 -- script has, is in no grammar
@@ -35,10 +35,11 @@ state_behind game me s (Choose mv nonce) = state_with_log s (after_choice game m
 state_behind game me s (Got q f) = state_with_log s (after_got game me s.log q f)
 state_behind game me s (Bytes q bytes) = bytes_state game me s q bytes
 state_behind game me s Log = s
+state_behind game me s Score = s
 state_behind game me s Bad = s
 
 -- what is written about the line: the answer to a choice or to what comes, and then each frame that the peer made by it; or the
--- log so far
+-- log so far, or the own score
 unfoldable pub text_behind : Game → ℕ → State → DriveLine → List ℕ
 text_behind game me s Nothing = []
 text_behind game me s (Choose mv nonce) =
@@ -46,6 +47,7 @@ text_behind game me s (Choose mv nonce) =
 text_behind game me s (Got q f) = received_text game me s.log q f
 text_behind game me s (Bytes q bytes) = bytes_text game me s q bytes
 text_behind game me s Log = log_text game me s.log
+text_behind game me s Score = own_score_text game me s.log
 text_behind game me s Bad = []
 
 -- the answer from the line on that is the n-th: a line outside the grammar ends the run; else what is written about the line

@@ -11,7 +11,7 @@ use Rattle.wire_frames.specs.declared.frames.Frame.{Frame}
 use Rattle.wire_frames.specs.declared.frames.Frame.TheVariants.{Hello, Turn, Want}
 use Rattle.wire_frames.specs.Streams.{end_of, given_of, stream_of}
 use Rattle.script_grammar.specs.declared.grammar.DriveLine.{DriveLine}
-use Rattle.script_grammar.specs.declared.grammar.DriveLine.TheVariants.{Nothing, Choose, Got, Bytes, Log, Bad}
+use Rattle.script_grammar.specs.declared.grammar.DriveLine.TheVariants.{Nothing, Choose, Got, Bytes, Log, Score, Bad}
 use Rattle.script_grammar.specs.Grammar.{is_bad}
 use Rattle.drive_command.specs.declared.readers.TheConstants.{READERS}
 use Rattle.drive_command.specs.Driven.{State, fresh_state, reader_of}
@@ -41,6 +41,7 @@ piece_of q Nothing = []
 piece_of q (Choose mv nonce) = []
 piece_of q (Got p f) = []
 piece_of q Log = []
+piece_of q Score = []
 piece_of q Bad = []
 
 -- all bytes that these lines bring from the player, which come behind n lines
@@ -78,6 +79,7 @@ steps_of s (Got q f) = Comes q f ∷ []
 steps_of s (Bytes q bytes) = steps_in q (given_of (reader_of s q) bytes).frames
 steps_of s Nothing = []
 steps_of s Log = []
+steps_of s Score = []
 steps_of s Bad = []
 
 -- the steps of these lines, which come behind n lines, up to the first that is in no grammar

@@ -13,7 +13,7 @@ use Rattle.drive_command.specs.declared.readers.TheConstants.{READERS}
 use Rattle.drive_command.specs.declared.outcomes.Outcome.{Outcome}
 use Rattle.drive_command.specs.declared.outcomes.Outcome.TheVariants.{Bad, AtOnce, Bytes}
 use Rattle.drive_command.specs.declared.outcomes.Answered.{Answered}
-use Rattle.drive_command.specs.declared.outcomes.Answered.TheVariants.{Nothing, Choice, Received, Log}
+use Rattle.drive_command.specs.declared.outcomes.Answered.TheVariants.{Nothing, Choice, Received, Log, Score}
 use Rattle.drive_command.specs.declared.outcomes.Reply.{Reply}
 use Rattle.drive_command.specs.declared.outcomes.Arrival.{Arrival}
 use Rattle.drive_command.specs.declared.outcomes.Arrival.TheVariants as arrival
@@ -21,7 +21,7 @@ use Rattle.drive_command.specs.Driven.{Driven, reader_of}
 use Rattle.drive_command.specs.Coming.{bytes_text, bytes_state}
 use Rattle.drive_command.specs.Drive.{drive_from, going_on}
 use Rattle.report_lines.specs.Lines.{choice_text, got_text, hello_text, want_text, bad_text, added_text}
-use Rattle.drive_command.specs.Report.{log_text}
+use Rattle.drive_command.specs.Report.{log_text, own_score_text}
 
 -- what is written about a frame that came from q, by the peer's answer, where the log is now this one
 abbrev pub reply_text : ℕ → Reply → List Entry → List ℕ
@@ -45,6 +45,7 @@ answered_text game me Nothing log = []
 answered_text game me (Choice turn fault entries) log = choice_text turn fault ++ added_text entries log
 answered_text game me (Received from reply) log = reply_text from reply log
 answered_text game me Log log = log_text game me log
+answered_text game me Score log = own_score_text game me log
 
 -- The whole answer from a line on, by what became of it, where behind it the driver is this one: the line is the n-th, and
 -- this input comes behind it.
@@ -66,6 +67,7 @@ HasAll Nothing log = Unit {0}
 HasAll (Choice turn fault entries) log = entries ≤ length log
 HasAll (Received from reply) log = reply.entries ≤ length log
 HasAll Log log = Unit {0}
+HasAll Score log = Unit {0}
 
 -- What holds of a driver behind a line that lets the run go on, where so many lines were taken before: it took one more, which
 -- was not one too many, its log has all that it had, and bytes of the line may come.

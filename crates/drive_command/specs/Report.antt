@@ -7,9 +7,11 @@ use Rattle.definitions.specs.World.{Game, players_of}
 use Rattle.definitions.specs.Logs.{chosen}
 use Rattle.definitions.specs.Findings.{is_clean}
 use Rattle.definitions.specs.Needs.{needs, may_choose}
+use Rattle.definitions.specs.Settled.{settled}
 use Rattle.session_log.specs.Spelling.{log_bytes}
 use Rattle.peer_core.specs.Views.{player_view}
-use Rattle.report_lines.specs.Lines.{due_text, end_line_text, needs_text, player_text}
+use Rattle.peer_core.specs.Scoring.{settled_score}
+use Rattle.report_lines.specs.Lines.{due_text, end_line_text, needs_text, player_text, score_text}
 
 -- the bytes of a log as a field of a line, and nothing where there is none
 abbrev pub log_field : List ℕ → List ℕ
@@ -19,6 +21,10 @@ log_field (b ∷ bytes) = codes " " ++ encode_lower (b ∷ bytes)
 -- what is written where the log is to be printed: all of its bytes
 unfoldable pub log_text : Game → ℕ → List Entry → List ℕ
 log_text game me h = (codes "log" ++ log_field (log_bytes game.id me h)) ++ codes "\n"
+
+-- what is written where the own score is to be printed: how many turns of the log's owner are settled, and what they count
+unfoldable pub own_score_text : Game → ℕ → List Entry → List ℕ
+own_score_text game me h = score_text (settled game me h) (settled_score game me h).given (settled_score game me h).taken
 
 -- how the log's owner stands: it may choose, or it waits, or it is done; nothing where the log has a finding
 unfoldable pub stand_text : Game → ℕ → List Entry → List ℕ

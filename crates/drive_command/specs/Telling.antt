@@ -16,7 +16,7 @@ use Rattle.definitions.specs.Answers.{got_answer, place_of}
 use Rattle.definitions.specs.Advance.{next_made}
 use Rattle.peer_core.specs.Answers.{is_logged}
 use Rattle.report_lines.specs.Lines.{choice_text, got_text, hello_text, want_text, bad_text, caught_text, made_text}
-use Rattle.drive_command.specs.Report.{end_text, log_text}
+use Rattle.drive_command.specs.Report.{end_text, log_text, own_score_text}
 
 -- what a part of a text is about
 pub data Telling : Type 0 where
@@ -38,6 +38,8 @@ pub data Telling : Type 0 where
   Finds : Finding → Telling
   -- the log so far is printed
   Prints : Telling
+  -- the own score is printed
+  Scores : Telling
 
 -- how it is written, where the log so far is this one; of a refused choice the turn isn't told
 abbrev pub telling_text : Game → ℕ → (log : List Entry) → Telling → List ℕ
@@ -50,6 +52,7 @@ telling_text game me log (Wants q place) = want_text q place
 telling_text game me log (Spoils q place) = bad_text q place
 telling_text game me log (Finds f) = caught_text f
 telling_text game me log Prints = log_text game me log
+telling_text game me log Scores = own_score_text game me log
 
 -- what it adds to the log
 abbrev pub added_by : Telling → List Entry
@@ -62,6 +65,7 @@ added_by (Wants q place) = []
 added_by (Spoils q place) = []
 added_by (Finds f) = []
 added_by Prints = []
+added_by Scores = []
 
 -- how these are written one behind the other, each with the log that those before it left
 abbrev pub told_text : Game → ℕ → (log : List Entry) → List Telling → List ℕ
@@ -80,6 +84,7 @@ IsTold game me log (Wants q place) = Unit {0}
 IsTold game me log (Spoils q place) = Unit {0}
 IsTold game me log (Finds f) = slice_get (findings game (log ∷ [])) 0 ≡ Some f
 IsTold game me log Prints = Unit {0}
+IsTold game me log Scores = Unit {0}
 
 -- each is so of the log that those before it left
 abbrev pub AreTold : Game → ℕ → (log : List Entry) → List Telling → Type 0
@@ -89,8 +94,8 @@ AreTold game me log (t ∷ ts) = IsTold game me log t × AreTold game me (log ++
 -- The body of an answer tells how the log came from its first entries. Each choice, each frame made and each frame received that
 -- stands behind them is told where it came, and nothing is told as taken, stashed or made that isn't such an entry; a finding is
 -- told of such an entry, or of the log that the run begins with. Each
--- answer is the one that the protocol gives of the log at that moment. Where the log is printed, it is the log so far. The last
--- part, if there is one, is the end that belongs to this log.
+-- answer is the one that the protocol gives of the log at that moment. Where the log or the score is printed, it is that of the log so far. The
+-- last part, if there is one, is the end that belongs to this log.
 pub record TellsLog (game : Game) (me : ℕ) (first log : List Entry) (body : List ℕ) : Type 0 where
   pub tellings : List Telling
   pub last : List ℕ

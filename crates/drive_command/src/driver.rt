@@ -192,6 +192,7 @@ impl Driver {
             }
             DriveLine::Bytes(from, piece) => Outcome::Bytes(from, piece),
             DriveLine::Log => Outcome::AtOnce(Answered::Log),
+            DriveLine::Score => Outcome::AtOnce(Answered::Score),
         }
     }
 

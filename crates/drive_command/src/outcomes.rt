@@ -31,6 +31,8 @@ pub(crate) enum Answered {
     Received(PlayerId, Reply),
     /// The log is to be printed.
     Log,
+    /// The own score is to be printed.
+    Score,
 }
 
 /// What became of a line.

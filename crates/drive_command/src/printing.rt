@@ -4,7 +4,7 @@ ghost use Rattle.std.specs.Prelude.{◌≡◌, ◌≤◌, ◌<◌, ◌++◌, len
 ghost use Rattle.definitions.specs.World.{players_of};
 ghost use Rattle.line_io.specs.Texts.{Puts};
 ghost use Rattle.report_lines.specs.Lines.{choice_text, found_text, added_text};
-ghost use Rattle.drive_command.specs.Report.{stand_text, viewed_text, players_text, last_text, end_text};
+ghost use Rattle.drive_command.specs.Report.{stand_text, viewed_text, players_text, last_text, end_text, own_score_text};
 ghost use Rattle.drive_command.specs.Outcomes.{reply_text, part_text, answered_text, HasAll, HasBefore};
 ghost use Rattle.definition_laws.specs.First.{finding_of_log};
 
@@ -15,7 +15,7 @@ use line_io::{Written, put};
 use peer_core::Peer;
 use report_lines::{
     bad_byte_line, choice_line, due_line, end_line, got_line, hello_line, player_line, put_added,
-    put_found, put_needs, want_line,
+    put_found, put_needs, score_line, want_line,
 };
 use station::Sink;
 
@@ -109,6 +109,18 @@ fn put_reply<O: Sink>(peer: &Peer, from: PlayerId, reply: &Reply, out: &mut O) -
     }
 }
 
+/// Writes the peer's own score.
+#[tactic(auto, unfolding(crate::specs::Report::own_score_text))]
+fn put_score<O: Sink>(peer: &Peer, out: &mut O) -> Written
+    ensures { Puts (O.state out.old) (O.state out.new) (own_score_text peer.now.game peer.now.me peer.now.entries) result }
+{
+    let score = peer.score();
+    put(
+        out,
+        score_line(peer.settled(), score.given, score.taken).as_slice(),
+    )
+}
+
 /// Writes what is told of a line.
 pub(crate) fn put_answered<O: Sink>(peer: &Peer, answered: &Answered, out: &mut O) -> Written
     requires { HasAll answered.now peer.now.entries }
@@ -123,6 +135,7 @@ pub(crate) fn put_answered<O: Sink>(peer: &Peer, answered: &Answered, out: &mut 
         } => put_choice(peer, *turn, *fault, *entries, out),
         Answered::Received(from, reply) => put_reply(peer, *from, reply, out),
         Answered::Log => put_log(peer, out),
+        Answered::Score => put_score(peer, out),
     }
 }
 

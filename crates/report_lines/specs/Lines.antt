@@ -104,6 +104,10 @@ abbrev pub needs_text : List Need → List ℕ
 needs_text [] = codes "done\n"
 needs_text (n ∷ ns) = need_text n ++ flat_map need_text ns
 
+-- what is written about a player's score: how many of its turns are settled, and the hits that it gave and took in them
+unfoldable pub score_text : (turns given taken : ℕ) → List ℕ
+score_text turns given taken = codes "score turns " ++ decimal turns ++ codes " given " ++ decimal given ++ codes " taken " ++ decimal taken ++ codes "\n"
+
 -- what is written about the byte from which on a log is dropped
 unfoldable pub dropped_line : ℕ → List ℕ
 dropped_line at = codes "dropped " ++ decimal at ++ codes "\n"

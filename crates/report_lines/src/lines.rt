@@ -272,6 +272,25 @@ pub fn player_line(player: PlayerId, turns: u32, track: Track, next: u32) -> Rep
     line
 }
 
+/// What is written about a player's score: how many of its turns are settled, and the hits that it gave and took in them.
+#[tactic(auto, unfolding(crate::specs::Lines::score_text))]
+pub fn score_line(turns: u32, given: u32, taken: u32) -> ReportLine
+    ensures { result.items ≡ L.score_text turns given taken }
+{
+    let mut line = ArrayVec::new();
+    line.try_extend_from_slice(b"score turns ").unwrap();
+    line.try_extend_from_slice(Buffer::new().format(turns).as_bytes())
+        .unwrap();
+    line.try_extend_from_slice(b" given ").unwrap();
+    line.try_extend_from_slice(Buffer::new().format(given).as_bytes())
+        .unwrap();
+    line.try_extend_from_slice(b" taken ").unwrap();
+    line.try_extend_from_slice(Buffer::new().format(taken).as_bytes())
+        .unwrap();
+    line.push(b'\n');
+    line
+}
+
 /// The line that tells from which byte on a log is dropped.
 #[tactic(auto, unfolding(crate::specs::Lines::dropped_line))]
 pub fn dropped_line(at: u32) -> ReportLine

@@ -15,7 +15,7 @@ use Rattle.definitions.specs.declared.frames.TurnFrame.{TurnFrame}
 use Rattle.definitions.specs.Openings.{FitsCell, FitsStrike}
 use Rattle.commitment.specs.Spelling.{frame_bytes, FitsFrame}
 use Rattle.script_grammar.specs.declared.grammar.DriveLine.{DriveLine}
-use Rattle.script_grammar.specs.declared.grammar.DriveLine.TheVariants.{Nothing, Choose, Got, Bytes, Log, Bad}
+use Rattle.script_grammar.specs.declared.grammar.DriveLine.TheVariants.{Nothing, Choose, Got, Bytes, Log, Score, Bad}
 use Rattle.byte_fields.specs.Fronts.{◌>>=◌, behind}
 use Rattle.byte_fields.proofs.Reading.{bind_some}
 use Rattle.text_fields.specs.Numbers.{number_then}
@@ -69,6 +69,10 @@ log_line : (last : ℕ) → line_of last (codes "log") ≡ Log
 unfolding line_of word_line
 log_line last = refl
 
+score_line : (last : ℕ) → line_of last (codes "score") ≡ Score
+unfolding line_of word_line
+score_line last = refl
+
 nothing_line : (last : ℕ) (line : List ℕ) → IsPassedOver line → line_of last line ≡ Nothing
 unfolding line_of
 nothing_line last line (inl empty) = ap (line_of last) empty
@@ -80,6 +84,7 @@ line_read last line (Choose mv nonce) k h = ap (line_of last) h.3 ∙ choose_lin
 line_read last line (Got q frame) k h = ap (line_of last) h.3 ∙ got_line last q frame h.0 h.1 h.2
 line_read last line (Bytes q bytes) k h = ap (line_of last) h.3 ∙ bytes_line last q bytes k h.0 h.1 h.2
 line_read last line Log k h = ap (line_of last) h ∙ log_line last
+line_read last line Score k h = ap (line_of last) h ∙ score_line last
 line_read last line Bad k h = absurd h
 
 -- ---- a line says what it is read as
@@ -158,12 +163,13 @@ choose_says last line =
 
 word_says : (last : ℕ) (line : List ℕ) → SaysWhatIsRead last line (word_line last line)
 unfolding word_line
-word_says last line = go (bytes_eq line (codes "log")) refl
+word_says last line = go (bytes_eq line (codes "log")) refl (bytes_eq line (codes "score")) refl
   where
-    go : (b : Bool) → bytes_eq line (codes "log") ≡ b →
-        SaysWhatIsRead last line (if b then Some Log else or_else (choose_of line) (coming_of last line))
-    go true t = some_says last line Log ((bytes_eq-Decides line (codes "log")).0 t)
-    go false t = or_says last line _ _ (choose_says last line) (coming_says last line)
+    go : (b : Bool) → bytes_eq line (codes "log") ≡ b → (d : Bool) → bytes_eq line (codes "score") ≡ d →
+        SaysWhatIsRead last line (if b then Some Log else if d then Some Score else or_else (choose_of line) (coming_of last line))
+    go true t d u = some_says last line Log ((bytes_eq-Decides line (codes "log")).0 t)
+    go false t true u = some_says last line Score ((bytes_eq-Decides line (codes "score")).0 u)
+    go false t false u = or_says last line _ _ (choose_says last line) (coming_says last line)
 
 -- the line says what it is read as, unless that is bad
 abbrev SaysUnlessBad : (last : ℕ) → List ℕ → DriveLine → Type 0

@@ -6,7 +6,7 @@ use Rattle.text_fields.specs.Numbers.{number_then}
 use Rattle.text_fields.specs.Cells.{cell_then}
 use Rattle.text_fields.specs.Hexes.{nonce_of, frame_of, bytes_of}
 use Rattle.script_grammar.specs.declared.grammar.DriveLine.{DriveLine}
-use Rattle.script_grammar.specs.declared.grammar.DriveLine.TheVariants.{Nothing, Choose, Got, Bytes, Log, Bad}
+use Rattle.script_grammar.specs.declared.grammar.DriveLine.TheVariants.{Nothing, Choose, Got, Bytes, Log, Score, Bad}
 
 -- `X Y NONCE`
 unfoldable pub step_of : List ℕ → Option DriveLine
@@ -63,9 +63,12 @@ bytes_from last line = behind (codes "bytes ") line >>= piece_of last
 unfoldable pub coming_of : (last : ℕ) → List ℕ → Option DriveLine
 coming_of last line = or_else (frame_from line) (bytes_from last line)
 
--- `log`, a choice, or what comes from a player
+-- `log`, `score`, a choice, or what comes from a player
 unfoldable pub word_line : (last : ℕ) → List ℕ → Option DriveLine
-word_line last line = if bytes_eq line (codes "log") then Some Log else or_else (choose_of line) (coming_of last line)
+word_line last line =
+    if bytes_eq line (codes "log") then Some Log
+    else if bytes_eq line (codes "score") then Some Score
+    else or_else (choose_of line) (coming_of last line)
 
 -- it is empty, or a comment
 abbrev pub is_passed_over : List ℕ → Bool
@@ -83,6 +86,7 @@ IsFew last Nothing = Unit {0}
 IsFew last (Choose mv nonce) = Unit {0}
 IsFew last (Got q f) = Unit {0}
 IsFew last Log = Unit {0}
+IsFew last Score = Unit {0}
 IsFew last Bad = Unit {0}
 
 -- the line is in no grammar
@@ -93,3 +97,4 @@ is_bad (Choose mv nonce) = false
 is_bad (Got q f) = false
 is_bad (Bytes q bytes) = false
 is_bad Log = false
+is_bad Score = false

@@ -10,7 +10,7 @@ use Rattle.definitions.specs.Openings.{FitsCell, FitsStrike}
 use Rattle.commitment.specs.Spelling.{frame_bytes, FitsFrame}
 use Rattle.text_fields.specs.Spelling.{number_text, cell_text, FitsNonce}
 use Rattle.script_grammar.specs.declared.grammar.DriveLine.{DriveLine}
-use Rattle.script_grammar.specs.declared.grammar.DriveLine.TheVariants.{Nothing, Choose, Got, Bytes, Log, Bad}
+use Rattle.script_grammar.specs.declared.grammar.DriveLine.TheVariants.{Nothing, Choose, Got, Bytes, Log, Score, Bad}
 
 -- `SX SY `, or nothing where the move does not strike
 abbrev pub strike_text : Option Cell → List ℕ
@@ -41,4 +41,5 @@ Says last line (Choose mv nonce) = FitsCell mv.to × FitsStrike mv.strike × Fit
 Says last line (Got q frame) = (q ≤ GREATEST_PLAYER) × FitsFrame frame × IsBytes (frame_bytes frame) × (line ≡ got_text q frame)
 Says last line (Bytes q bytes) = (q ≤ last) × (0 < length bytes) × IsBytes bytes × (line ≡ bytes_text q bytes)
 Says last line Log = line ≡ codes "log"
+Says last line Score = line ≡ codes "score"
 Says last line Bad = ⊥

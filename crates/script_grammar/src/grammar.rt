@@ -20,6 +20,8 @@ pub enum DriveLine {
     Bytes(PlayerId, Piece),
     /// The log is to be printed.
     Log,
+    /// The own score is to be printed.
+    Score,
     /// It is not in the grammar.
     Bad,
 }
@@ -127,6 +129,9 @@ fn read_words(last: PlayerId, line: &[u8]) -> Option<DriveLine>
 {
     if line == b"log".as_slice() {
         return Some(DriveLine::Log);
+    }
+    if line == b"score".as_slice() {
+        return Some(DriveLine::Score);
     }
     match read_choose(line) {
         Some(choose) => Some(choose),

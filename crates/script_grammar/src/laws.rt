@@ -2,14 +2,14 @@
 
 ghost use Rattle.script_grammar.specs.Laws.{LinesAreRead, LinesAreSpelled};
 
-/// A line that is empty, a comment, `log`, or spelled from parts that fit their limits is read as what it says, whatever its
+/// A line that is empty, a comment, `log`, `score`, or spelled from parts that fit their limits is read as what it says, whatever its
 /// length.
 pub fn lines_are_read()
     ensures { LinesAreRead }
 {}
 
 /// A line that is read as a choice, a frame or bytes is the one spelling of these parts, which fit their limits. Each other
-/// line is empty, a comment, `log`, or read as bad, and a line that is read as bad says nothing.
+/// line is empty, a comment, `log`, `score`, or read as bad, and a line that is read as bad says nothing.
 pub fn lines_are_spelled()
     ensures { LinesAreSpelled }
 {}

@@ -1,4 +1,4 @@
-//! What a line of a script says: a choice, a frame or bytes that come from a player, or that the log is to be printed.
+//! What a line of a script says: a choice, a frame or bytes that come from a player, or that the log or the score is to be printed.
 //!
 //! This crate promises that a line is read exactly as the definitions in `specs/Grammar.antt` have it, over the fields of
 //! `text_fields`; any other line is answered as one of no grammar. The laws of `laws` are that each line which is spelled from parts within their limits, as

@@ -1,6 +1,6 @@
 use Rattle.std.proofs.Common.{arith, refl}
 use Rattle.drive_command.proofs.Choices.{choice_longer, got_longer}
-use Rattle.drive_command.proofs.LineOutcomes.{answered, brought, passed_over, printed, received}
+use Rattle.drive_command.proofs.LineOutcomes.{answered, brought, passed_over, printed, received, scored}
 use Rattle.drive_command.proofs.driver.Driver.take_line.Goals as goal
 
 pub returns-in-Nothing : goal.returns-in-Nothing
@@ -43,6 +43,14 @@ returns-in-Bytes c =
           few = omega (arith, room, known.1);
         },
       );
+    }
+
+pub returns-in-Score : goal.returns-in-Score
+returns-in-Score c =
+    let few = c.in-Score.ensures.few in
+    record {
+      answers = λ input. rw c.count.ensures.after (scored _ _ _ _ _ input c.requires.clean c.in-Score.ensures.value);
+      counts = rw c.count.ensures.after (refl, omega (arith, few), tt);
     }
 
 pub returns-in-Log : goal.returns-in-Log
