@@ -11,6 +11,7 @@ use Rattle.definitions.proofs.Cells.{any-cell, any-from}
 use Rattle.definitions.proofs.Walks.{has-begun, walked_open}
 use Rattle.cell_set.proofs.CellLists.{filter_cells}
 use Rattle.cell_set.specs.Regions.{Region, IsSizeOf, AreOpen, ground_of, with_cells}
+use Rattle.influence.specs.Strikes.{struck_from}
 use Rattle.plain_lemmas.proofs.Tests.{same_tests}
 
 -- the cells after so many growths by a step
@@ -86,18 +87,22 @@ spread_size g h radius cells width height =
     let from : ℕ → ℕ → List Cell = λ w k. filter (λ c. list_any (λ b. nat_le (distance b c) radius) cells) (cells_in w k) in
     ap (λ (w : ℕ). from w g.height) width ∙ ap (λ (k : ℕ). from h.width k) height
 
--- as many steps as a player walks in a turn, and then what it strikes
-pub sphere_is : (game : Game) (q k radius : ℕ) (r o out new : Region) → IsSizeOf game.grid r → IsSizeOf game.grid o → 1 ≤ k
-    → k ≡ (seat_of game q).speed → radius ≡ (seat_of game q).reach + game.rules.blast
-    → out ≡ with_cells r (grown game.grid k r.cells) → new ≡ with_cells out (spread (ground_of out) radius out.cells) → new ≡ with_cells o (sphere_of game q r.cells)
-sphere_is game q k radius r o out new size size_too some steps square is new_is =
+-- a growth by the reach and the blast is a strike
+pub struck_is : (game : Game) (q radius : ℕ) (r new : Region) → IsSizeOf game.grid r → radius ≡ (seat_of game q).reach + game.rules.blast
+    → new ≡ with_cells r (spread (ground_of r) radius r.cells) → new ≡ with_cells r (struck_from game q r.cells)
+struck_is game q radius r new size square is =
+    is ∙ ap (λ (cs : List Cell). with_cells r cs)
+    (spread_size (ground_of r) game.grid radius r.cells size.width size.height ∙ ap (λ (n : ℕ). spread game.grid n r.cells) square)
+
+-- as many steps as a player walks in a turn, and then a strike
+pub sphere_is : (game : Game) (q k : ℕ) (r o out new : Region) → IsSizeOf game.grid r → IsSizeOf game.grid o → 1 ≤ k → k ≡ (seat_of game q).speed
+    → out ≡ with_cells r (grown game.grid k r.cells) → new ≡ with_cells out (struck_from game q out.cells) → new ≡ with_cells o (sphere_of game q r.cells)
+sphere_is game q k r o out new size size_too some steps is new_is =
     let walk : grown game.grid k r.cells ≡ reach_of game q 1 r.cells =
     grown_some game.grid k r.cells some ∙ ap (λ (n : ℕ). walked game.grid n r.cells) (let e : k ≡ 1 * (seat_of game q).speed = omega arith in e) in
     let width : r.width ≡ o.width = size.width ∙ sym size_too.width in
     let height : r.height ≡ o.height = size.height ∙ sym size_too.height in
     let sized : ℕ → ℕ → Region = λ w h. record { width = w; height = h; cells = sphere_of game q r.cells } in
-    new_is ∙ ap (λ (s : Region). with_cells s (spread (ground_of s) radius s.cells)) is
-    ∙ ap (λ (cs : List Cell). with_cells r cs)
-    (spread_size (ground_of r) game.grid radius (grown game.grid k r.cells) size.width size.height
-    ∙ ap (λ (cs : List Cell). spread game.grid radius cs) walk ∙ ap (λ (n : ℕ). spread game.grid n (reach_of game q 1 r.cells)) square)
+    new_is ∙ ap (λ (s : Region). with_cells s (struck_from game q s.cells)) is
+    ∙ ap (λ (cs : List Cell). with_cells r (struck_from game q cs)) walk
     ∙ ap (λ (w : ℕ). sized w r.height) width ∙ ap (λ (h : ℕ). sized o.width h) height

@@ -1,5 +1,4 @@
-use Rattle.std.proofs.Common.{◌∙◌, ap, sym, arith}
-use Rattle.definitions.specs.World as world
+use Rattle.std.proofs.Common.{◌∙◌, refl, ap, sym, arith}
 use Rattle.influence.proofs.Grown.{grown_none, size_kept, open_kept, step_more, sphere_is}
 use Rattle.influence.proofs.sphere.sphere_of.Goals as goal
 use Rattle.cell_set.specs.Regions.{with_cells}
@@ -16,9 +15,10 @@ grow_walk-requires-clause-open c = open_kept _ _ _ _ _ c.requires.open c.grid.en
 pub loop-step-preserved : goal.loop-step-preserved
 loop-step-preserved c = step_more _ _ _ _ _ _ c.grid.ensures.value c.loop-step.invariant c.grow_walk.ensures.cells
 
+pub grow_strike-requires-clause-size : goal.grow_strike-requires-clause-size
+grow_strike-requires-clause-size c = size_kept _ _ _ _ _ c.requires.size refl c.loop-step.invariant
+
 pub returns : goal.returns
 returns c =
-    sphere_is c.args.session.now c.args.player c.loop-step._step _ c.args.from.now c.args.out.now _ _ c.requires.size c.requires.out_size
-    (omega arith) (omega arith)
-    (let e = ap (λ (r : world.Rules). r.blast) c.rules.ensures.value in omega arith)
-    c.loop-step.invariant c.grow_square.ensures
+    sphere_is c.args.session.now c.args.player c.loop-step._step c.args.from.now c.args.out.now _ _ c.requires.size c.requires.out_size
+    (omega arith) (omega arith) c.loop-step.invariant c.grow_strike.ensures
