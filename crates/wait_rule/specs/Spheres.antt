@@ -1,5 +1,5 @@
 -- Spheres: what holds of the two sets that are compared.
-use Rattle.std.specs.Prelude.{◌≡◌, ℕ, List, [], ◌∷◌}
+use Rattle.std.specs.Prelude.{◌≡◌, ℕ, List, [], ◌∷◌, IfSome}
 use Rattle.definitions.specs.declared.world.Cell.{Cell}
 use Rattle.definitions.specs.World.{Game}
 use Rattle.definitions.specs.Sphere.{sphere_of}
@@ -8,11 +8,12 @@ use Rattle.wait_rule.specs.declared.views.Stage.{Stage}
 use Rattle.wait_rule.specs.declared.views.Stage.TheVariants.{Commit, Reveal, After}
 use Rattle.wait_rule.specs.declared.meeting.Meeting.{Meeting}
 
--- the cells are of this game, and the sets have its grid's size
+-- the cells are of this game, the sets have its grid's size, and the own sphere is that of the player and the cell that it names
 pub record IsMeeting (game : Game) (m : Meeting) : Type 0 where
   pub same : m.dilation.game ≡ game
   pub size : IsSizeOf game.grid m.own
   pub size_theirs : IsSizeOf game.grid m.theirs
+  pub taken : IfSome m.stood (λ s. m.own.cells ≡ sphere_of game s.player (s.cell ∷ []))
 
 -- where the players were last seen and the own sphere are the same
 pub record Stays (game : Game) (before after : Meeting) : Type 0 where

@@ -15,7 +15,14 @@ use cell_set::CellSet;
 use definitions::{Cell, PlayerId};
 use dilation::Dilation;
 use grid_world::Session;
-use influence::sphere_of;
+use influence::{grow_strike, sphere_of};
+
+/// A player on a cell.
+#[derive(Clone, Copy)]
+pub(crate) struct Stand {
+    pub player: PlayerId,
+    pub cell: Cell,
+}
 
 /// Where the players were last seen, with room for the two spheres that are compared.
 #[derive(Drop)]
@@ -23,11 +30,13 @@ pub(crate) struct Meeting {
     pub dilation: Dilation,
     // the sphere of the player who asks
     pub own: CellSet,
-    // and that of another
+    // from where it was taken, if it was
+    pub stood: Option<Stand>,
+    // the sphere of another
     pub theirs: CellSet,
 }
 
-/// The player who asks stands at this cell.
+/// The player who asks stands at this cell. The stages of a turn ask from one cell, whose sphere is taken once.
 fn stand_at(meeting: &mut Meeting, session: &Session, me: PlayerId, cell: Cell)
     requires meeting { IsMeeting session.now meeting.old }
     requires player { me < players_of session.now }
@@ -36,8 +45,14 @@ fn stand_at(meeting: &mut Meeting, session: &Session, me: PlayerId, cell: Cell)
     ensures dilation { meeting.new.dilation ≡ meeting.old.dilation }
     ensures own { meeting.new.own.cells ≡ D.sphere_of session.now me (cell ∷ []) }
 {
+    if let Some(stood) = meeting.stood {
+        if stood.player == me && stood.cell == cell {
+            return;
+        }
+    }
     meeting.theirs.set_one(cell);
     sphere_of(&mut meeting.own, &meeting.theirs, session, me);
+    meeting.stood = Some(Stand { player: me, cell });
 }
 
 /// Takes the own sphere from the stage that the own frames have come to.
@@ -57,19 +72,22 @@ pub(crate) fn look_from(meeting: &mut Meeting, session: &Session, me: PlayerId, 
     }
 }
 
-/// Whether the player's sphere, so many turns after it was last seen, has a cell in common with the own sphere. The turns
-/// that are asked for rise from stage to stage, by one at the most, until the player is seen elsewhere: so its set only grows
-/// by what the next turn adds, and not at all where a stage is asked about again.
+/// Whether the player's sphere, so many turns after it was last seen, has a cell in common with the own sphere. The walk of
+/// that sphere is one turn more of the walk by which the player is followed: so the set is followed for that turn too, which it
+/// keeps, and a strike from it is the sphere. The turns that are asked for rise from stage to stage, by one at the most, until
+/// the player is seen elsewhere: so the set only grows by what the next turn adds, and not at all where they are asked for again.
 fn meets(meeting: &mut Meeting, session: &Session, q: PlayerId, missed: u32) -> bool
     requires meeting { IsMeeting session.now meeting.old }
     requires player { q < players_of session.now }
-    requires missed { missed ≤ session.now.turns }
+    requires missed { missed < session.now.turns }
     ensures stays { Stays session.now meeting.old meeting.new }
     ensures meets { result ≡ have_common meeting.old.own.cells
         (D.sphere_of session.now q (reach_of session.now q missed (cell_of meeting.old.dilation.cells q ∷ []))) }
 {
-    meeting.dilation.grow_to(q, missed);
-    sphere_of(&mut meeting.theirs, meeting.dilation.reached(q), session, q);
+    session.facts();
+    meeting.dilation.grow_to(q, missed + 1);
+    meeting.theirs.copy_from(meeting.dilation.reached(q));
+    grow_strike(&mut meeting.theirs, session, q);
     meeting.own.meets(&meeting.theirs)
 }
 

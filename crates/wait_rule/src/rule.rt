@@ -132,6 +132,7 @@ impl WaitRule {
             meeting: Meeting {
                 dilation,
                 own,
+                stood: None,
                 theirs,
             },
         })

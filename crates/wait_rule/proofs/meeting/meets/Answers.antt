@@ -1,6 +1,11 @@
-use Rattle.wait_rule.proofs.Sights.{reached_open}
+use Rattle.std.proofs.Common.{◌∙◌, ap}
+use Rattle.definitions.specs.Sphere.{have_common}
+use Rattle.wait_rule.proofs.Sights.{sphere_struck}
 use Rattle.wait_rule.proofs.meeting.meets.Goals as goal
 
-pub sphere_of-requires-clause-open : goal.sphere_of-requires-clause-open
-sphere_of-requires-clause-open c =
-    reached_open c.args.session.now c.args.meeting.now.dilation _ _ c.args.q c.args.missed c.requires.meeting.same c.grow_to.ensures.kept c.grow_to.ensures.turns c.reached.ensures
+pub returns-clause-meets : goal.returns-clause-meets
+returns-clause-meets c =
+    c.meets.ensures
+    ∙ ap (have_common c.args.meeting.now.own.cells)
+    (sphere_struck c.args.session.now c.args.meeting.now.dilation _ _ _ _ c.args.q c.args.missed c.requires.meeting.same c.grow_to.ensures.kept c.grow_to.ensures.turns
+    c.reached.ensures c.copy_from.ensures c.grow_strike.ensures)
