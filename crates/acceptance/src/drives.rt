@@ -5,6 +5,7 @@ use crate::brought::BROUGHT;
 use crate::received::RECEIVED;
 use crate::rows::{ROWS, Row};
 use crate::runs::{NONE, run_drive};
+use crate::scores::SCORES;
 use crate::walled::WALLED;
 use std::alloc::{AllocError, Global};
 use std::test::Fail;
@@ -54,6 +55,15 @@ fn walls_are_walked_around(rt: HostRuntime) -> Result<(), Fail> {
 #[test]
 fn bytes_and_logs_print_their_texts(rt: HostRuntime) -> Result<(), Fail> {
     for row in &BROUGHT {
+        let agrees = agrees(rt.alloc(), row)?;
+        assert!(rt; agrees, "{}", row.name);
+    }
+    Ok(())
+}
+
+#[test]
+fn scores_are_those_of_settled_turns(rt: HostRuntime) -> Result<(), Fail> {
+    for row in &SCORES {
         let agrees = agrees(rt.alloc(), row)?;
         assert!(rt; agrees, "{}", row.name);
     }

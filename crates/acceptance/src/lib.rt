@@ -29,6 +29,8 @@ mod rows;
 #[cfg(test)]
 mod runs;
 #[cfg(test)]
+mod scores;
+#[cfg(test)]
 mod silent;
 #[cfg(test)]
 mod stopped;
