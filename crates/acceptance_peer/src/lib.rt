@@ -15,4 +15,6 @@ mod scans;
 #[cfg(test)]
 mod scripts;
 #[cfg(test)]
+mod settles;
+#[cfg(test)]
 mod spheres;

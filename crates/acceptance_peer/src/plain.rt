@@ -127,7 +127,7 @@ fn square(alloc: Global, grid: &Grid, marks: &Marks, radius: usize) -> Result<Ma
 }
 
 /// The player's sphere of influence from the marked cells.
-fn sphere(
+pub fn sphere(
     alloc: Global,
     session: &Session,
     player: PlayerId,
@@ -144,7 +144,7 @@ fn sphere(
 }
 
 /// Whether a cell is marked in both.
-fn have_common(marks: &Marks, others: &Marks) -> bool {
+pub fn have_common(marks: &Marks, others: &Marks) -> bool {
     for y in 0..marks.height {
         for x in 0..marks.width {
             if is_marked(marks, x, y) && is_marked(others, x, y) {

@@ -3,6 +3,7 @@
 ghost use Rattle.std.specs.Prelude.{◌≡◌, ◌<◌, IfOk};
 
 use crate::scripts::{Coming, Dice, Manner, any_coming, any_manner, next_of};
+use crate::settles::settled_turns;
 use definitions::{Cell, Entry, GotAnswer, Kind, Move, Nonce, PlayerId, TurnFrame};
 use grid_world::{Session, read_session};
 use move_rules::Walker;
@@ -44,6 +45,9 @@ static PATHS: [Path; 6] = [
         ahead: 8,
     },
 ];
+
+/// Where the peer's player stays.
+const HOME: Cell = Cell { x: 0, y: 0 };
 
 /// How many turns the sessions have.
 const TURNS: u64 = 12;
@@ -160,7 +164,7 @@ fn fits_the_window(ahead: u64, answer: &GotAnswer, next: u32, frame: &TurnFrame)
 }
 
 /// The peer's answer to a frame, where it is that of the scans and of the window's rule, and the peer then shows what scans
-/// show.
+/// show, and has as many settled turns as are counted anew.
 fn agreed(
     alloc: Global,
     ahead: u64,
@@ -174,13 +178,18 @@ fn agreed(
         return Ok(None);
     }
     let alike = shows_both(alloc, peer)?;
-    Ok(if alike { Some(answer) } else { None })
+    let settled = settled_turns(alloc, peer, HOME)?;
+    Ok(if alike && settled == peer.settled() {
+        Some(answer)
+    } else {
+        None
+    })
 }
 
 /// The peer itself stays where it is, where it may choose.
 fn plays(peer: &mut Peer) {
     let stays = Move {
-        to: Cell { x: 0, y: 0 },
+        to: HOME,
         strike: None,
     };
     // a refusal changes nothing
