@@ -198,8 +198,22 @@ impl Auditor {
         ensures put { OnOk result ((logs : List (List Entry)) → R.IsReadable self.now logs → R.AreUpTo self.now player logs turn readings.old →
             R.AreUpTo self.now player logs (turn + 1) readings.new × (out.new.items ≡ out.old.items ++ option_to_list (A.agreed_move self.now.session self.now.owners logs player turn))) }
     {
-        read_on(&mut readings.got, &self.index, &self.session, walker, player, turn)?;
-        read_on(&mut readings.made, &self.made, &self.session, walker, player, turn)?;
+        read_on(
+            &mut readings.got,
+            &self.index,
+            &self.session,
+            walker,
+            player,
+            turn,
+        )?;
+        read_on(
+            &mut readings.made,
+            &self.made,
+            &self.session,
+            walker,
+            player,
+            turn,
+        )?;
         if let Some(mv) = self.agreed_move(walker, player, turn, readings) {
             out.push(mv)?;
         }

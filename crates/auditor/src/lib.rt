@@ -16,9 +16,9 @@ mod exhibit;
 mod frames;
 mod reading;
 mod report;
+mod taking;
 #[cfg(test)]
 mod tests;
-mod taking;
 mod turns;
 mod world;
 

@@ -99,11 +99,7 @@ fn take(auditor: &mut Auditor, session: &Session, log: u32, step: Step) -> Resul
 }
 
 /// Takes the entries of the steps, each of the log of its number.
-fn take_all(
-    auditor: &mut Auditor,
-    session: &Session,
-    steps: &[(u32, Step)],
-) -> Result<(), Fail> {
+fn take_all(auditor: &mut Auditor, session: &Session, steps: &[(u32, Step)]) -> Result<(), Fail> {
     for (log, step) in steps {
         take(auditor, session, *log, *step)?;
     }
@@ -146,7 +142,12 @@ const FOUND: [Finding; 3] = [
 ];
 
 /// Whether the auditor's exhibit of the finding shows it.
-fn is_shown(alloc: Global, auditor: &Auditor, session: &Session, finding: &Finding) -> Result<bool, Fail> {
+fn is_shown(
+    alloc: Global,
+    auditor: &Auditor,
+    session: &Session,
+    finding: &Finding,
+) -> Result<bool, Fail> {
     let exhibit = auditor.exhibit(alloc, finding)?;
     let mut walker = Walker::new(alloc, session.grid())?;
     Ok(judge(session, &mut walker, &exhibit))

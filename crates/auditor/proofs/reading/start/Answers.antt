@@ -1,4 +1,3 @@
-
 use Rattle.auditor.proofs.reading.start.Goals as goal
 
 pub returns-clause-stand : goal.returns-clause-stand

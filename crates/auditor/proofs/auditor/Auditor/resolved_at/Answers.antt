@@ -26,9 +26,9 @@ returns c = λ logs long owned got made.
       | then-own w ↦
           let is : item_or owners log None ≡ Some q = sym owner ∙ owner_is (slice_index_or owners log None) q (sym c.eq-own.ensures ∙ w.if-own.true) in
           c.read_move.ensures (crossed_logs logs) (map crossed h.0) (subst (λ (r : Reading). IsReadTurn game q (crossed_logs logs) t r) (ap (λ (r : Bor Reading). r.now) (sym w.reading-is)) made) (crossed_there logs log h.0 h.1)
-              ∙ by_made game (item_or owners log None) h.0 q t is (owned log q h.0 h.1 is) ∙ ap (λ (g : List Entry). resolved_by game (item_or owners log None) g q t) (sym there)
+          ∙ by_made game (item_or owners log None) h.0 q t is (owned log q h.0 h.1 is) ∙ ap (λ (g : List Entry). resolved_by game (item_or owners log None) g q t) (sym there)
       | else-own w ↦
           c.read_move.ensures logs h.0 (subst (λ (r : Reading). IsReadTurn game q logs t r) (ap (λ (r : Bor Reading). r.now) (sym w.reading-is)) got) h.1
-              ∙ by_got game (item_or owners log None) h.0 q t (λ is. owner_isnt (slice_index_or owners log None) q (sym c.eq-own.ensures ∙ w.if-own.false) (owner ∙ is))
-              ∙ ap (λ (g : List Entry). resolved_by game (item_or owners log None) g q t) (sym there)
+          ∙ by_got game (item_or owners log None) h.0 q t (λ is. owner_isnt (slice_index_or owners log None) q (sym c.eq-own.ensures ∙ w.if-own.false) (owner ∙ is))
+          ∙ ap (λ (g : List Entry). resolved_by game (item_or owners log None) g q t) (sym there)
     ]

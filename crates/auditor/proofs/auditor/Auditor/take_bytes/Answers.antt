@@ -71,4 +71,3 @@ returns-clause-others c = λ i ne.
     let before = c.loop-used.invariant.others i ne in
     let now = c.take_next.ensures.others i ne in
     (now.0 ∙ before.0, now.1 ∙ before.1)
-
