@@ -1,0 +1,3 @@
+mod Players
+mod Reported
+mod Printed
