@@ -1,3 +1,4 @@
 mod Players
 mod Reported
 mod Printed
+mod Told
