@@ -4,7 +4,7 @@ use Rattle.std.specs.Prelude.{filter_map, flat_map, map, option_to_list}
 use Rattle.std.specs.List.{cons_option, range_with_len}
 use Rattle.std.proofs.lemmas.List.{map-append}
 use Rattle.std.proofs.lemmas.List.Elements.{filter_map-append}
-use Rattle.frame_index.proofs.Joined.{flat_more, range_more}
+use Rattle.plain_lemmas.proofs.Lists.{flat_more, range_more}
 
 -- with what belongs to one turn more
 pub shown_more : {X : Type 0} (f : ℕ → List X) (n : ℕ) (out a b : List X) → a ≡ out ++ flat_map f (range_with_len 0 n) → b ≡ a ++ f n → b ≡ out ++ flat_map f (range_with_len 0 (n + 1))

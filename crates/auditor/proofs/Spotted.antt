@@ -22,7 +22,8 @@ use Rattle.frame_index.specs.Keeps.{Keeps, IsLeast, IsLeastOf, finding_by, sight
 use Rattle.frame_index.specs.Pairs.{bad_opening, collision, in_order, two_commits}
 use Rattle.frame_index.specs.Wants.{is_before, least_from}
 use Rattle.frame_index.proofs.Illegals.{illegal_none, none_below_more}
-use Rattle.frame_index.proofs.Lowest.{least_is, spot_from}
+use Rattle.definition_laws.proofs.Sighted.{spot_from}
+use Rattle.frame_index.proofs.Lowest.{least_is}
 use Rattle.frame_index.proofs.Shown.{bad_opening_found, bad_opening_is, collision_found, collision_is, two_commits_found, two_commits_is}
 use Rattle.frame_index.proofs.Wrong.{item_is, none_without_commit, none_without_wrong, wrong_found}
 use Rattle.evidence.specs.Showing.{frame_at, if_there}

@@ -13,7 +13,7 @@ use Rattle.definitions.specs.declared.openings.Nonce.{Nonce}
 use Rattle.definitions.specs.declared.frames.TurnFrame.{TurnFrame}
 use Rattle.definitions.specs.declared.frames.TurnFrame.TheVariants.{Commit, Reveal}
 use Rattle.definitions.specs.Openings.{cell_bytes, move_bytes, FitsCell, FitsStrike}
-use Rattle.commitment.specs.Spelling.{frame_bytes, has_head, short_at, cell_at, turn_at, turn_frame_of, FitsFrame}
+use Rattle.commitment.specs.Spelling.{frame_bytes, has_head, reveal_length, short_at, cell_at, turn_at, turn_frame_of, FitsFrame}
 use Rattle.std.proofs.lemmas.Option.{same_Some, none-some}
 use Rattle.plain_lemmas.proofs.Tests.{chosen}
 use Rattle.plain_lemmas.proofs.Lists.{AreBytes, two_bytes, four_bytes, front_same}
@@ -201,6 +201,16 @@ pub length-frame : (f : TurnFrame) → FitsFrame f → length (frame_bytes f) �
 unfolding frame_bytes move_bytes cell_bytes
 length-frame (Commit p t d) h = omega (arith, h.2)
 length-frame (Reveal p t m n) h = length-reveal p t m.to m.strike n h.4
+
+payload_short : (strike : Option Cell) → reveal_length strike ≤ 46
+payload_short None = omega arith
+payload_short (Some c) = omega arith
+
+-- no frame is longer than 49 bytes
+pub frame_short : (f : TurnFrame) → FitsFrame f → length (frame_bytes f) ≤ 49
+unfolding frame_bytes
+frame_short (Commit p t d) h = let l = length-frame (Commit p t d) h in omega arith
+frame_short (Reveal p t m n) h = let l = length-frame (Reveal p t m n) h in let s = payload_short m.strike in omega arith
 
 -- the third byte of a frame stays where more bytes follow
 third_byte : (f : TurnFrame) (x : List ℕ) → slice_index (frame_bytes f ++ x) 2 ≡ slice_index (frame_bytes f) 2

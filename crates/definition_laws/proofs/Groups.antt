@@ -37,7 +37,7 @@ use Rattle.definition_laws.proofs.Behind.{frames_of_other}
 use Rattle.definition_laws.proofs.Chosen.{legal_at}
 use Rattle.definition_laws.proofs.ForPeers.{made_item}
 use Rattle.definition_laws.proofs.Innocent.{Conforms, known_chosen}
-use Rattle.definition_laws.proofs.Members.{Has_each, Has_middle, slice_get_Has}
+use Rattle.definition_laws.proofs.Members.{Has_each, Has_middle, map_Has, slice_get_Has}
 use Rattle.definition_laws.proofs.Nexts.{held_below, held_is_first, known_orderly, no_commit_next, no_opening_next, resolved_below, some_at}
 use Rattle.definition_laws.proofs.Order.{reveal_turn}
 use Rattle.definition_laws.proofs.OwnLog.{chosen_for_at, own_honest}
@@ -51,11 +51,6 @@ filter_Has {X} p (y ∷ ys) x m = go (p y) refl m (filter_Has p ys x)
     go true e (inl a) ih = (inl a, ap p (sym a) ∙ e)
     go true e (inr k) ih = let r = ih k in (inr r.0, r.1)
     go false e k ih = let r = ih k in (inr r.0, r.1)
-
-map_Has : {X Y : Type 0} (f : X → Y) (xs : List X) (y : Y) → Has (map f xs) y → (x : X) × Has xs x × (f x ≡ y)
-map_Has f [] y m = absurd m
-map_Has f (x ∷ xs) y (inl e) = (x, inl refl, e)
-map_Has f (x ∷ xs) y (inr k) = let r = map_Has f xs y k in (r.0, inr r.1, r.2)
 
 -- who is needed is another player that does not pass the test
 needed : (game : Game) (me : ℕ) (h : List Entry) (test : ℕ → Bool) (t : ℕ) (what : What) (n : Need) → Has (needs_unless game me h test t what) n →

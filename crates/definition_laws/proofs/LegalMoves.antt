@@ -1,16 +1,20 @@
 -- LegalMoves: which moves are legal, in the words of walks and distances.
-use Rattle.std.proofs.Common.{Bool, None, Some, [], arith, false, refl, subst, sym, true, ℕ, ◌*◌, ◌∷◌, ◌≡◌, Option}
+use Rattle.std.proofs.Common.{Bool, List, None, Some, [], arith, false, refl, subst, sym, true, ℕ, ◌*◌, ◌∷◌, ◌≡◌, Option}
 use Rattle.std.specs.Prelude.{if◌then◌else◌, is_none, nat_lt, not}
 use Rattle.std.proofs.lemmas.Bool.{and_parts, false≢true, le-ltb, ltb-false}
 use Rattle.definitions.specs.declared.world.Cell.{Cell}
 use Rattle.definitions.specs.declared.world.Move.{Move}
 use Rattle.definitions.specs.declared.world.Track.{Track}
 use Rattle.definitions.specs.declared.world.MoveFault.{MoveFault}
+use Rattle.definitions.specs.declared.frames.TurnFrame.{TurnFrame}
+use Rattle.definitions.specs.declared.frames.TurnFrame.TheVariants.{Commit, Reveal}
 use Rattle.definitions.specs.World.{Game, distance, is_inside, is_wall, seat_of}
 use Rattle.definitions.specs.Walk.{Walk, in_reach}
-use Rattle.definitions.specs.Moves.{is_legal, strike_fault}
+use Rattle.definitions.specs.Moves.{is_legal, strike_fault, track_after}
+use Rattle.definitions.specs.Findings.{is_illegal_after}
 use Rattle.definitions.proofs.Walks.{Walk-from, reaches-Walk, walked_open}
 use Rattle.definition_laws.specs.Distances.{IsLegalMove, IsLegalStrike}
+use Rattle.definition_laws.specs.Illegals.{is_illegal_from}
 
 -- no cause stands
 all_pass : (a b c : Bool) (x y z : MoveFault) (o : Option MoveFault) → is_none (if not a then Some x else if b then Some y else if not c then Some z else o) ≡ true →
@@ -76,3 +80,8 @@ walk_is_legal game q track m w =
     let opens = and_parts (is_inside game.grid m.to) (not (is_wall game.grid m.to)) (walked_open game.grid (1 * (seat_of game q).speed) (track.at ∷ []) m.to there) in
     pass_all (is_inside game.grid m.to) (is_wall game.grid m.to) (in_reach game q track.at m.to) _ _ _ (strike_fault game q track m.to m.strike) opens.0 (not_not _ opens.1) there
     (is_strike game q track m.to m.strike w.strike)
+
+-- a reveal is illegal after some moves where its move isn't legal from the track that they lead to
+pub illegal_after_track : (game : Game) (q : ℕ) (ms : List Move) (f : TurnFrame) → is_illegal_after game q ms f ≡ is_illegal_from game q (track_after game q ms) f
+illegal_after_track game q ms (Commit p u d) = refl
+illegal_after_track game q ms (Reveal p u m n) = refl

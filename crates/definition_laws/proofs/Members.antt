@@ -1,6 +1,6 @@
 -- Members: what stands in lists that are made of others.
 use Rattle.std.proofs.Common.{Bool, List, None, Some, [], ap, arith, false, inl, inr, refl, subst, suc, sym, true, zero, ℕ, ◌++◌, ◌+◌, ◌<◌, ◌∙◌, ◌∷◌, ◌≡◌, ◌≤◌, ◌⊎◌, Option, slice_get}
-use Rattle.std.specs.Prelude.{cond, filter, filter_map, flat_map}
+use Rattle.std.specs.Prelude.{cond, filter, filter_map, flat_map, map}
 use Rattle.std.specs.List.{list_all, range_with_len}
 use Rattle.std.proofs.lemmas.Bool.{and_parts, cases_lt}
 use Rattle.definitions.specs.Lists.{EachIs}
@@ -65,6 +65,11 @@ Has_filter_map {X} {Y} f (z ∷ xs) x y (inr h) k = go (f z) refl (Has_filter_ma
     go : (o : Option Y) → f z ≡ o → Has (filter_map f xs) y → Has (filter_map f (z ∷ xs)) y
     go None e m = rw e m
     go (Some w) e m = rw e (inr m)
+
+pub map_Has : {X Y : Type 0} (f : X → Y) (xs : List X) (y : Y) → Has (map f xs) y → (x : X) × Has xs x × (f x ≡ y)
+map_Has f [] y h = absurd h
+map_Has f (x ∷ xs) y (inl e) = (x, inl refl, e)
+map_Has f (x ∷ xs) y (inr h) = let r = map_Has f xs y h in (r.0, inr r.1, r.2)
 
 pub filter_map_Has : {X Y : Type 0} (f : X → Option Y) (xs : List X) (y : Y) → Has (filter_map f xs) y → (x : X) × Has xs x × (f x ≡ Some y)
 filter_map_Has f [] y h = absurd h

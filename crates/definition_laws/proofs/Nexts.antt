@@ -72,11 +72,13 @@ first_of_none {X} {Y} f (x ∷ xs) h = go (f x) refl h (first_of_none f xs)
     go None e h ih = (e, ih h)
     go (Some y) e h ih = absurd (cc)
 
-no_commit : (k : Known) (o : Option Digest) → with_commit k o ≡ k → o ≡ None
+-- a digest that leaves what is known as it is isn't there
+pub no_commit : (k : Known) (o : Option Digest) → with_commit k o ≡ k → o ≡ None
 no_commit k None e = refl
 no_commit k (Some d) e = let l = length-append k.digests (d ∷ []) in let n = ap (λ (x : Known). length x.digests) e in absurd (omega arith)
 
-no_move : (k : Known) (o : Option Move) → with_move k o ≡ k → o ≡ None
+-- and a move
+pub no_move : (k : Known) (o : Option Move) → with_move k o ≡ k → o ≡ None
 no_move k None e = refl
 no_move k (Some m) e = let l = length-append k.moves (m ∷ []) in let n = ap (λ (x : Known). length x.moves) e in absurd (omega arith)
 

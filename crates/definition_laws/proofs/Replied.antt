@@ -88,13 +88,10 @@ taken_clean game me q h f w none = go (findings game (h ∷ [])) none ∙ sym (a
     go [] e = refl
     go (y ∷ fs) e = absurd (cc)
 
-pub taken_next : (game : Game) (me q : ℕ) (h : List Entry) (f : TurnFrame) (next : Bool) → IsTaken game me h q f → None ≡ finding_of_log game h →
-    next ≡ (place_of game f == next_place game me (before_last h) q) → next ≡ true → Taken ≡ got_answer game me (before_last h) q f
-taken_next game me q h f next w none is holds = ap (λ (b : Bool). if b then Taken else Stashed) (sym holds ∙ is) ∙ taken_clean game me q h f w none
-
-pub taken_stashed : (game : Game) (me q : ℕ) (h : List Entry) (f : TurnFrame) (next : Bool) → IsTaken game me h q f → None ≡ finding_of_log game h →
-    next ≡ (place_of game f == next_place game me (before_last h) q) → next ≡ false → Stashed ≡ got_answer game me (before_last h) q f
-taken_stashed game me q h f next w none is fails = ap (λ (b : Bool). if b then Taken else Stashed) (sym fails ∙ is) ∙ taken_clean game me q h f w none
+-- taken or stashed, by whether the place is the next one
+pub taken_at : (game : Game) (me q : ℕ) (h : List Entry) (f : TurnFrame) (next b : Bool) → IsTaken game me h q f → None ≡ finding_of_log game h →
+    next ≡ (place_of game f == next_place game me (before_last h) q) → next ≡ b → (if b then Taken else Stashed) ≡ got_answer game me (before_last h) q f
+taken_at game me q h f next b w none is so = ap (λ (t : Bool). if t then Taken else Stashed) (sym so ∙ is) ∙ taken_clean game me q h f w none
 
 taken_in : (game : Game) (me q : ℕ) (h : List Entry) (f : TurnFrame) → (is_taken_in game me h q f ≡ true) ↔ (refusal game me h q f ≡ None)
 unfolding refused_by

@@ -3,6 +3,7 @@ use Rattle.std.proofs.Common.{Bool, List, None, Some, [], ap, arith, false, inl,
 use Rattle.std.specs.Prelude.{if◌then◌else◌, ◌&&◌, ◌==◌}
 use Rattle.std.proofs.lemmas.Bool.{and_from, eq-eqb, eqb-true}
 use Rattle.definitions.specs.declared.frames.TurnFrame.{TurnFrame}
+use Rattle.definitions.specs.declared.findings.Spot.{Spot}
 use Rattle.definitions.specs.declared.logs.Entry.{Entry}
 use Rattle.definitions.specs.declared.logs.Entry.TheVariants.{Chose, Got, Made}
 use Rattle.definitions.specs.Lists.{EachIs}
@@ -12,6 +13,13 @@ use Rattle.definition_laws.specs.Members.{Has}
 use Rattle.definition_laws.specs.Spots.{IsSighting, SpotBefore}
 use Rattle.definition_laws.proofs.Listing.{EachIs_append}
 use Rattle.definition_laws.proofs.Members.{Has_append, Has_back, Has_front, each_Has}
+
+-- a spot by its log and its entry
+pub spot_from : (s t : Spot) → s.log ≡ t.log → s.entry ≡ t.entry → s ≡ t
+spot_from s t a b =
+    let at_log : ℕ → Spot = λ n. record { log = n; entry = s.entry } in
+    let at_entry : ℕ → Spot = λ n. record { log = t.log; entry = n } in
+    ap at_log a ∙ ap at_entry b
 
 -- a sighting is an entry of this log, from its entry i on
 abbrev pub IsIn : ℕ → ℕ → ℕ → ℕ → List Entry → Sighting → Type 0

@@ -18,3 +18,4 @@ pub mod First
 pub mod Fits
 pub mod Replies
 pub mod Strikes
+pub mod Illegals

@@ -4,3 +4,4 @@ pub mod Walks
 pub mod Codes
 pub mod Streams
 pub mod Slots
+pub mod Items

@@ -9,12 +9,6 @@ map_set f [] i x = refl
 map_set f (y ∷ xs) zero x = refl
 map_set f (y ∷ xs) (suc i) x = ap (λ ys. f y ∷ ys) (map_set f xs i x)
 
--- what is read of the item at a place
-pub map_item : {X Y : Type 0} (f : X → Y) (xs : List X) (i : ℕ) (d : X) (e : Y) → i < length xs → f (item_or xs i d) ≡ item_or (map f xs) i e
-map_item f [] i d e lt = absurd (omega arith)
-map_item f (x ∷ xs) zero d e lt = refl
-map_item f (x ∷ xs) (suc i) d e lt = map_item f xs i d e (omega arith)
-
 pub length_set : {X : Type 0} (xs : List X) (i : ℕ) (x : X) → length (slice_set xs i x) ≡ length xs
 length_set [] i x = refl
 length_set (y ∷ xs) zero x = refl
@@ -29,10 +23,6 @@ each_set P (y ∷ xs) (suc i) x each new = (each.0, each_set P xs i x each.1 new
 pub map_more : {X Y : Type 0} (f : X → Y) (xs : List X) (x : X) → map f (xs ++ x ∷ []) ≡ map f xs ++ f x ∷ []
 map_more f [] x = refl
 map_more f (y ∷ xs) x = ap (λ ys. f y ∷ ys) (map_more f xs x)
-
-pub map_length : {X Y : Type 0} (f : X → Y) (xs : List X) → length (map f xs) ≡ length xs
-map_length f [] = refl
-map_length f (x ∷ xs) = ap suc (map_length f xs)
 
 -- an item before the one that is one more, and that one
 pub item_before : {X : Type 0} (xs : List X) (x : X) (i : ℕ) (d : X) → i < length xs → item_or (xs ++ x ∷ []) i d ≡ item_or xs i d

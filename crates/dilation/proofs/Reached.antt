@@ -1,18 +1,21 @@
 -- Reached: what the calls of a dilation find and leave, by its fields.
 use Rattle.std.proofs.Common.{◌≡◌, ℕ, ◌+◌, ◌<◌, List, [], ◌∷◌, ◌++◌, length-append, sym, ap, ◌∙◌, arith, inl, inr, get_or, subst, length, refl}
 use Rattle.std.proofs.lemmas.Bool.{cases_eq, cases_lt}
+use Rattle.std.proofs.lemmas.List.{length-map}
 use Rattle.std.specs.Prelude.{IsTrue, map, slice_set}
 use Rattle.definitions.specs.declared.world.Cell.{Cell}
+use Rattle.definitions.specs.declared.world.Seat.{Seat}
 use Rattle.definitions.specs.Lists.{item_or}
 use Rattle.definitions.specs.World.{Game, no_seat, seat_of, players_of, is_open}
 use Rattle.definitions.specs.Walk.{reach_of}
+use Rattle.definitions.proofs.Items.{map_item}
 use Rattle.grid_world.specs.Sessions.{IsSession}
 use Rattle.cell_set.specs.Regions.{Region}
 use Rattle.dilation.specs.declared.growth.Kept.{Kept}
 use Rattle.dilation.specs.Dilated.{Dilated, starts_of, cell_of, kept_of, none_kept, kept_set}
 use Rattle.dilation.specs.Following.{IsKept, AreKept, IsDilated, AreFresh, no_kept}
-use Rattle.dilation.proofs.Seats.{first_starts, first_length, start_more, item_read, starts_length, starts_open}
-use Rattle.dilation.proofs.Items.{map_set, map_more, map_item, map_length, length_set, item_before, item_last, item_set, item_set_other, each_set}
+use Rattle.dilation.proofs.Seats.{first_starts, first_length, start_more, item_read, starts_open}
+use Rattle.dilation.proofs.Items.{map_set, map_more, length_set, item_before, item_last, item_set, item_set_other, each_set}
 
 -- for how many turns each player was followed
 abbrev pub turns_of : List Kept → List ℕ
@@ -116,7 +119,7 @@ seen_set game cells kept s i q cell new seen is turns =
 pub turns_grown : (game : Game) (cells : List Cell) (kept : List Kept) (i q n : ℕ) (new : Kept) → IsDilated game cells kept → i ≡ q → q < players_of game → new.turns ≡ n →
     kept_of (turns_of (slice_set kept i new)) q ≡ n
 turns_grown game cells kept i q n new facts is lt turns =
-    ap (λ ks. kept_of ks q) (turns_set kept i q n new is turns) ∙ item_set (turns_of kept) q n 0 (omega (arith, facts.one_each, map_length (λ (k : Kept). k.turns) kept))
+    ap (λ ks. kept_of ks q) (turns_set kept i q n new is turns) ∙ item_set (turns_of kept) q n 0 (omega (arith, facts.one_each, length-map kept (λ (k : Kept). k.turns)))
 
 -- the set that was read has the cells that the player can be at
 pub kept_set_is : (game : Game) (cells : List Cell) (kept : List Kept) (s : Dilated) (i q : ℕ) (k : Kept) → IsDilated game cells kept → seen_as game cells kept ≡ s → i ≡ q → q < players_of game →
@@ -125,7 +128,7 @@ kept_set_is game cells kept s i q k facts seen is lt at =
     let here : k ≡ get_or kept q k = at ∙ ap (λ n. get_or kept n k) is in
     let known = kept_here game cells kept q k facts lt here in
     let turns : k.turns ≡ kept_of (turns_of kept) q
-    = ap (λ (n : Kept). n.turns) (item_read kept q k k (omega (arith, facts.one_each)) here) ∙ map_item (λ (n : Kept). n.turns) kept q k 0 (omega (arith, facts.one_each)) in
+    = ap (λ (n : Kept). n.turns) (item_read kept q k k (omega (arith, facts.one_each)) here) ∙ sym (map_item (λ (n : Kept). n.turns) kept q k 0 (omega (arith, facts.one_each))) in
     let sized : ℕ → ℕ → List Cell → Region = λ w h cs. record { width = w; height = h; cells = cs } in
     ap (λ w. sized w k.reached.height k.reached.cells) known.followed.size.width
     ∙ ap (λ h. sized game.grid.width h k.reached.cells) known.followed.size.height
@@ -169,7 +172,7 @@ fresh_more game n kept after k lt fresh new none more =
 pub dilated_starts : (game copy : Game) (cells : List Cell) (kept : List Kept) → IsSession game → copy ≡ game → cells ≡ starts_of game → AreFresh game (starts_of game) kept → IsDilated copy cells kept
 dilated_starts game copy cells kept facts same starts fresh =
     subst (λ (g : Game). IsDilated g cells kept) (sym same) (subst (λ (cs : List Cell). IsDilated game cs kept) (sym starts) (record {
-      seen = record { session = facts; one_each = starts_length game.seats; each_open = starts_open (λ c. IsTrue (is_open game.grid c)) game.seats facts.starts };
-      one_each = fresh.one_each ∙ starts_length game.seats;
+      seen = record { session = facts; one_each = length-map game.seats (λ (s : Seat). s.start); each_open = starts_open (λ c. IsTrue (is_open game.grid c)) game.seats facts.starts };
+      one_each = fresh.one_each ∙ length-map game.seats (λ (s : Seat). s.start);
       each_kept = fresh.each_kept;
     }))

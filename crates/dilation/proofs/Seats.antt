@@ -1,6 +1,7 @@
 -- Seats: where the players start, one after another, and what holds of the cells at which they were last seen.
 use Rattle.std.proofs.Common.{◌≡◌, ℕ, zero, suc, ◌+◌, ◌<◌, ◌≤◌, List, [], ◌∷◌, ◌++◌, length, take, refl, sym, ap, ◌∙◌, arith, get_or}
 use Rattle.std.specs.Prelude.{map}
+use Rattle.std.proofs.lemmas.List.{take_all}
 use Rattle.definitions.specs.declared.world.Cell.{Cell}
 use Rattle.definitions.specs.declared.world.Seat.{Seat}
 use Rattle.definitions.specs.Lists.{EachIs, item_or}
@@ -32,18 +33,10 @@ pub start_more : (game : Game) (n : ℕ) (start : Cell) (before after : List Cel
 start_more game n start before after lt is so_far more =
     more ∙ ap (λ (cs : List Cell). cs ++ start ∷ []) so_far ∙ ap (λ (c : Cell). first_starts game n ++ c ∷ []) is ∙ starts_more game.seats n lt
 
-take_all : (seats : List Seat) → take (length seats) seats ≡ seats
-take_all [] = refl
-take_all (s ∷ seats) = ap (λ (ss : List Seat). s ∷ ss) (take_all seats)
-
 pub starts_all : (game : Game) (n : ℕ) → n ≡ players_of game → first_starts game n ≡ starts_of game
-starts_all game n e = ap (first_starts game) e ∙ ap (map (λ (s : Seat). s.start)) (take_all game.seats)
+starts_all game n e = ap (first_starts game) e ∙ ap (map (λ (s : Seat). s.start)) (take_all (length game.seats) game.seats (omega arith))
 
--- as many starts as there are players, each of them an open cell
-pub starts_length : (seats : List Seat) → length (map (λ s. s.start) seats) ≡ length seats
-starts_length [] = refl
-starts_length (s ∷ seats) = ap suc (starts_length seats)
-
+-- each start is an open cell
 pub starts_open : (P : Cell → Type 0) (seats : List Seat) → EachIs (λ s. P s.start) seats → EachIs P (map (λ s. s.start) seats)
 starts_open P [] each = tt
 starts_open P (s ∷ seats) each = (each.0, starts_open P seats each.1)

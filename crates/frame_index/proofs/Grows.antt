@@ -9,6 +9,7 @@ use Rattle.definitions.specs.Logs.{turn_of}
 use Rattle.definitions.specs.Findings.{Sighting}
 use Rattle.definition_laws.specs.Members.{Has}
 use Rattle.definition_laws.specs.Spots.{IsSighting}
+use Rattle.definition_laws.proofs.Listing.{slice_get_last}
 use Rattle.frame_index.specs.declared.seen.Seen.{Seen}
 use Rattle.frame_index.specs.Keeps.{Keeps, IsFirstOf, sighting_of}
 use Rattle.frame_index.specs.Appended.{with_entry}
@@ -28,10 +29,6 @@ stays : {X : Type 0} (xs : List X) (e x : X) (n : ℕ) → slice_get xs n ≡ So
 stays [] e x n h = absurd (let none : None ≡ Some x = h in cc)
 stays (y ∷ ys) e x zero h = h
 stays (y ∷ ys) e x (suc n) h = stays ys e x n h
-
-at_end : {X : Type 0} (xs : List X) (e : X) → slice_get (xs ++ e ∷ []) (length xs) ≡ Some e
-at_end [] e = refl
-at_end (y ∷ ys) e = at_end ys e
 
 within : {X : Type 0} (xs : List X) (n : ℕ) (x : X) → slice_get xs n ≡ Some x → n < length xs
 within [] n x h = absurd (let none : None ≡ Some x = h in cc)
@@ -115,7 +112,7 @@ module _ (game : Game) (q : ℕ) (logs : List (List Entry)) (h : List Entry) (ke
   new_sighting = record {
     log = h ++ Got q s.frame ∷ [];
     there = own_after logs s.spot.log (Got q s.frame) h there;
-    got = ap (slice_get (h ++ Got q s.frame ∷ [])) last ∙ at_end h (Got q s.frame);
+    got = ap (slice_get (h ++ Got q s.frame ∷ [])) last ∙ slice_get_last h (Got q s.frame);
     turn = refl;
   }
 

@@ -6,7 +6,6 @@ use Rattle.std.proofs.lemmas.Bool.{false≢true, and_parts, cases_lt, eqb-true, 
 use Rattle.std.proofs.lemmas.Option.{slice_get_past, slice_get_within}
 use Rattle.definitions.specs.declared.findings.Spot.{Spot}
 use Rattle.definitions.specs.declared.findings.Kind.TheVariants.{Illegal}
-use Rattle.definitions.specs.declared.world.Move.{Move}
 use Rattle.definitions.specs.declared.world.Track.{Track}
 use Rattle.definitions.specs.declared.openings.Digest.{Digest}
 use Rattle.definitions.specs.declared.frames.TurnFrame.{TurnFrame}
@@ -17,8 +16,10 @@ use Rattle.definitions.specs.Moves.{is_legal, track_after}
 use Rattle.definitions.specs.Logs.{digest_eq, got_of}
 use Rattle.definitions.specs.Held.{Known, commit_of, digest_of, first_commit}
 use Rattle.definitions.specs.Findings.{finding_at, got_known, is_commit, is_illegal_after, is_illegal_at, opens}
+use Rattle.definition_laws.specs.Illegals.{is_illegal_from}
 use Rattle.definition_laws.specs.Members.{Has}
 use Rattle.definition_laws.proofs.Grows.{IsBeginning}
+use Rattle.definition_laws.proofs.LegalMoves.{illegal_after_track}
 use Rattle.definition_laws.proofs.Listing.{slice_get_front, take_front}
 use Rattle.grid_world.specs.Sessions.{IsSession}
 use Rattle.move_rules.specs.Verdicts.{verdict}
@@ -38,15 +39,6 @@ use Rattle.frame_index.proofs.InLog.{first_in_log}
 use Rattle.frame_index.proofs.Judging.{least_alike}
 use Rattle.frame_index.proofs.OfTurn.{commit_turn}
 use Rattle.frame_index.proofs.Wrong.{item_is, none_without_commit, none_without_wrong, wrong_found, wrong_none}
-
--- the move isn't legal from the track
-abbrev wrong_from : Game → ℕ → Track → TurnFrame → Bool
-wrong_from game q track (Commit p u d) = false
-wrong_from game q track (Reveal p u m n) = not (is_legal game q track m)
-
-after_is : (game : Game) (q : ℕ) (before : List Move) (f : TurnFrame) → is_illegal_after game q before f ≡ wrong_from game q (track_after game q before) f
-after_is game q before (Commit p u d) = refl
-after_is game q before (Reveal p u m n) = refl
 
 and_none : (b : Bool) → (b && false) ≡ false
 and_none true = refl
@@ -86,9 +78,9 @@ module _ (game : Game) (q t : ℕ) (h : List Entry) (s : Stream) (is : IsSession
 
   -- where the stream has come to the turn, a frame is illegal where it opens the digest held and is not legal from the track
   here : (d : Digest) → s.resolved ≡ t → t < s.commits → first_commit (got_of q h) t ≡ Some d → (f : TurnFrame) →
-      is_illegal_at game q t all f ≡ (digest_eq (digest_of game f) d && wrong_from game q s.track f)
+      is_illegal_at game q t all f ≡ (digest_eq (digest_of game f) d && is_illegal_from game q s.track f)
   here d came lt first f = (λ i. (reached i && opens game f (digest i)) && is_illegal_after game q (moves i) f)
-      ∙ ap (λ (b : Bool). digest_eq (digest_of game f) d && b) (after_is game q front.moves f ∙ ap (λ (x : Track). wrong_from game q x f) (sym track))
+      ∙ ap (λ (b : Bool). digest_eq (digest_of game f) d && b) (illegal_after_track game q front.moves f ∙ ap (λ (x : Track). is_illegal_from game q x f) (sym track))
     where
       long : t ≡ length front.moves
       long = sym came ∙ resolved
@@ -135,7 +127,7 @@ module _ (game : Game) (q t : ℕ) (h : List Entry) (s : Stream) (is : IsSession
     bad_is : (f : TurnFrame) → is_bad game q t logs log f ≡ is_illegal_at game q t all f
     bad_is f = ap (λ (g : List Entry). is_illegal_at game q t (got_known game q g) f) (item_is logs log h there)
 
-    wrong_by : (from : Track) (d e : Digest) (f : TurnFrame) → e ≡ digest_of game f → option_map_or is_err (judged_by game q from (digest_eq e d) f) false ≡ (digest_eq (digest_of game f) d && wrong_from game q from f)
+    wrong_by : (from : Track) (d e : Digest) (f : TurnFrame) → e ≡ digest_of game f → option_map_or is_err (judged_by game q from (digest_eq e d) f) false ≡ (digest_eq (digest_of game f) d && is_illegal_from game q from f)
     wrong_by from d e (Commit p u c) same = sym (and_none _)
     wrong_by from d e (Reveal p u m n) same = ap (λ (x : Digest). option_map_or is_err (if digest_eq x d then Some (verdict game q from m) else None) false) same ∙ go (digest_eq (digest_of game (Reveal p u m n)) d)
       where

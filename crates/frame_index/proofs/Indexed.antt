@@ -11,17 +11,12 @@ use Rattle.definitions.specs.World.{Game}
 use Rattle.definitions.specs.Held.{digest_of}
 use Rattle.definitions.specs.Logs.{player_of, turn_of}
 use Rattle.definition_laws.specs.Members.{Has}
-use Rattle.definition_laws.proofs.Members.{Has_flat_map, flat_map_Has}
+use Rattle.definition_laws.proofs.Members.{Has_flat_map, flat_map_Has, map_Has}
 use Rattle.frame_index.specs.declared.seen.Seen.{Seen}
 use Rattle.frame_index.specs.Keeps.{Keeps}
 use Rattle.frame_index.specs.Appended.{with_entry}
 use Rattle.frame_index.specs.Frames.{digest_or}
 use Rattle.frame_index.proofs.Grows.{keeps_grown, keeps_other}
-
-map_Has : {X Y : Type 0} (f : X → Y) (xs : List X) (y : Y) → Has (map f xs) y → (x : X) × Has xs x × (f x ≡ y)
-map_Has f [] y h = absurd h
-map_Has f (x ∷ xs) y (inl e) = (x, inl refl, e)
-map_Has f (x ∷ xs) y (inr h) = let r = map_Has f xs y h in (r.0, inr r.1, r.2)
 
 Has_map : {X Y : Type 0} (f : X → Y) (xs : List X) (x : X) → Has xs x → Has (map f xs) (f x)
 Has_map {X} {Y} f (y ∷ ys) x (inl e) = inl (ap f e)

@@ -1,16 +1,15 @@
 -- Joined: the findings of a turn one kind after the other, and of one turn more.
-use Rattle.std.proofs.Common.{List, None, Some, [], ◌∷◌, ap, arith, suc, sym, zero, zero-add, ℕ, ◌++◌, ◌+◌, ◌∙◌, ◌≡◌, Option, append_assoc}
+use Rattle.std.proofs.Common.{List, None, Some, [], ◌∷◌, ap, sym, ℕ, ◌++◌, ◌+◌, ◌∙◌, ◌≡◌, Option, append_assoc}
 use Rattle.std.specs.Prelude.{flat_map}
 use Rattle.std.specs.List.{cons_option, range_with_len}
 use Rattle.std.specs.Option.{option_to_list}
 use Rattle.std.proofs.lemmas.List.{append-nil}
-use Rattle.std.proofs.Math.Nat.{add-zero}
 use Rattle.definitions.specs.declared.findings.Kind.TheVariants.{TwoCommits, BadOpening, Collision, Illegal}
 use Rattle.definitions.specs.declared.findings.Finding.{Finding}
 use Rattle.definitions.specs.declared.logs.Entry.{Entry}
 use Rattle.definitions.specs.World.{Game}
 use Rattle.definitions.specs.Findings.{finding_at, findings_in}
-use Rattle.definition_laws.proofs.Listing.{flat_map_append}
+use Rattle.plain_lemmas.proofs.Lists.{flat_more}
 
 push_one : (out : List Finding) (o : Option Finding) (xs : List Finding) → (out ++ option_to_list o) ++ xs ≡ out ++ cons_option o xs
 push_one out None xs = ap (λ (ys : List Finding). ys ++ xs) (append-nil out)
@@ -31,20 +30,6 @@ unfolding findings_in
 four_kinds game logs q t out a b c d w x y z e f g h i j k l =
     l ∙ ap (λ (xs : List Finding). xs ++ option_to_list z) (k ∙ ap (λ (xs : List Finding). xs ++ option_to_list y) (j ∙ ap (λ (xs : List Finding). xs ++ option_to_list x) i))
     ∙ push_four out w x y z ∙ (λ n. out ++ cons_option (e n) (cons_option (f n) (cons_option (g n) (cons_option (h n) []))))
-
-pub range_more : (a n : ℕ) → range_with_len a (n + 1) ≡ range_with_len a n ++ (a + n) ∷ []
-range_more a zero = ap (λ n. n ∷ []) (sym (add-zero a))
-range_more a (suc n) =
-    let ih = range_more (a + 1) n in
-    let e : (a + 1) + n ≡ a + suc n = omega arith in
-    let f : suc n + 1 ≡ suc (n + 1) = omega arith in
-    rw (f, ← e) (ap (λ xs. a ∷ xs) ih)
-
--- with one number more
-pub flat_more : {X : Type 0} (f : ℕ → List X) (n : ℕ) → flat_map f (range_with_len 0 (n + 1)) ≡ flat_map f (range_with_len 0 n) ++ f n
-flat_more f n =
-    ap (flat_map f) (range_more 0 n) ∙ flat_map_append f (range_with_len 0 n) ((0 + n) ∷ [])
-    ∙ ap (λ k. flat_map f (range_with_len 0 n) ++ (f k ++ [])) (zero-add n) ∙ ap (λ xs. flat_map f (range_with_len 0 n) ++ xs) (append-nil (f n))
 
 pub joined_more : (f : ℕ → List Finding) (n : ℕ) (out a b : List Finding) → a ≡ out ++ flat_map f (range_with_len 0 n) → b ≡ a ++ f n → b ≡ out ++ flat_map f (range_with_len 0 (n + 1))
 joined_more f n out a b e g =

@@ -16,7 +16,8 @@ use Rattle.definition_laws.proofs.Sighted.{seen_is_sighting}
 use Rattle.definition_laws.proofs.Least.{least_is_finding}
 use Rattle.frame_index.specs.declared.seen.Seen.{Seen}
 use Rattle.frame_index.specs.Keeps.{Keeps, IsFirstOf, IsLeastOf, NotAfter, finding_by, sighting_of}
-use Rattle.frame_index.proofs.Lowest.{spot_from, not_after_trans, before_trans}
+use Rattle.definition_laws.proofs.Sighted.{spot_from}
+use Rattle.frame_index.proofs.Lowest.{not_after_trans, before_trans}
 
 -- where one spot has two sightings, they have one frame
 pub one_frame : (logs : List (List Entry)) (q t : ℕ) (a b : Sighting) → IsSighting logs q t a → IsSighting logs q t b → a.spot ≡ b.spot → a.frame ≡ b.frame

@@ -1,5 +1,5 @@
 -- Lowest: the one that is found has the least spot.
-use Rattle.std.proofs.Common.{Bool, List, None, Some, [], ap, arith, false, inl, inr, refl, subst, sym, true, ℕ, ◌++◌, ◌<◌, ◌∙◌, ◌∷◌, ◌≡◌, ◌≤◌, ◌⊎◌, Option, append_assoc}
+use Rattle.std.proofs.Common.{Bool, List, None, Some, [], ap, arith, false, inl, inr, refl, subst, sym, true, ◌++◌, ◌<◌, ◌∙◌, ◌∷◌, ◌≡◌, ◌≤◌, ◌⊎◌, Option, append_assoc}
 use Rattle.std.specs.Prelude.{◌==◌, ◌&&◌, ◌||◌, nat_lt}
 use Rattle.std.proofs.lemmas.Bool.{false≢true, or_parts, and_parts, and_cases, ltb-true, ltb-false, eqb-true, eqb-false, cases_lt}
 use Rattle.std.proofs.lemmas.List.{append-nil}
@@ -7,15 +7,10 @@ use Rattle.definitions.specs.declared.findings.Spot.{Spot}
 use Rattle.definition_laws.specs.Members.{Has}
 use Rattle.definition_laws.specs.Spots.{SpotBefore}
 use Rattle.definition_laws.proofs.Members.{Has_append, Has_front, Has_back}
+use Rattle.definition_laws.proofs.Sighted.{spot_from}
 use Rattle.frame_index.specs.declared.seen.Seen.{Seen}
 use Rattle.frame_index.specs.Wants.{is_before, lower, least_from}
 use Rattle.frame_index.specs.Keeps.{NotAfter, IsLeast}
-
-pub spot_from : (s t : Spot) → s.log ≡ t.log → s.entry ≡ t.entry → s ≡ t
-spot_from s t a b =
-    let at_log : ℕ → Spot = λ n. record { log = n; entry = s.entry } in
-    let at_entry : ℕ → Spot = λ n. record { log = t.log; entry = n } in
-    ap at_log a ∙ ap at_entry b
 
 pub before_true : (s t : Spot) → is_before s t ≡ true → SpotBefore s t
 before_true s t h = go (nat_lt s.log t.log) refl h

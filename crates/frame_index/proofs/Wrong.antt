@@ -22,7 +22,8 @@ use Rattle.frame_index.specs.InLog.{takes, InOne}
 use Rattle.frame_index.specs.Keeps.{Keeps, IsFirstOf, IsLeast, NotAfter, finding_by, sighting_of}
 use Rattle.frame_index.specs.Wants.{is_before}
 use Rattle.frame_index.specs.Pairs.{in_order}
-use Rattle.frame_index.proofs.Lowest.{before_false, before_true, spot_from, not_after_trans, before_trans}
+use Rattle.definition_laws.proofs.Sighted.{spot_from}
+use Rattle.frame_index.proofs.Lowest.{before_false, before_true, not_after_trans, before_trans}
 use Rattle.frame_index.proofs.Lifted.{first_not_after, no_pair, one_frame}
 use Rattle.frame_index.proofs.InSight.{NoCommit, first_at, none_first}
 

@@ -5,11 +5,11 @@ ghost use Rattle.definition_laws.specs.Members.{Has};
 ghost use Rattle.frame_index.specs.Clashes as C;
 ghost use Rattle.frame_index.specs.declared.seen.Seen.{Seen};
 
-use crate::least::is_commit;
 use crate::seen::Seen;
 use definitions::{Digest, TurnFrame};
 use indexmap::IndexMap;
 use std::alloc::{AllocError, Global};
+use streams::is_commit;
 
 /// Whether another reveal stands in the table under the digest of this one; if not, this one does.
 fn clashes(table: &mut IndexMap<Digest, TurnFrame>, one: &Seen) -> Result<bool, AllocError>

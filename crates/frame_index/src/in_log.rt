@@ -11,21 +11,8 @@ ghost use Rattle.frame_index.specs.Wants as W;
 
 use crate::least::lower;
 use crate::seen::Seen;
-use definitions::{Digest, Turn, TurnFrame};
-
-/// The digest that the frame commits the turn to.
-fn commit_of(frame: &TurnFrame, turn: Turn) -> Option<Digest>
-    ensures { result ≡ H.commit_of turn frame.now }
-{
-    match *frame {
-        TurnFrame::Commit {
-            turn: of,
-            digest,
-            ..
-        } => { if of == turn { Some(digest) } else { None } }
-        TurnFrame::Reveal { .. } => None,
-    }
-}
+use definitions::{Digest, Turn};
+use streams::commit_of;
 
 /// Whether it stands in the log and commits the turn.
 fn commits_in(one: &Seen, log: u32, turn: Turn) -> bool

@@ -17,8 +17,9 @@ use definitions::{Digest, MoveFault, PlayerId, Track, TurnFrame};
 use grid_world::Session;
 use move_rules::Walker;
 
-/// What the move of the reveal leads to, where it opens the digest; None where it doesn't, or is no reveal.
-fn judged(
+/// What the move of the reveal leads to from the player's track, or why it isn't legal, where it opens the digest; None where it
+/// doesn't, or is no reveal.
+pub fn judged(
     session: &Session,
     walker: &mut Walker,
     player: PlayerId,
@@ -41,8 +42,8 @@ fn judged(
     }
 }
 
-/// Whether it stands in the log, opens the digest, and is legal.
-fn is_good(
+/// Whether it stands in the log of this number, opens the digest, and is legal from the player's track.
+pub fn is_good(
     session: &Session,
     walker: &mut Walker,
     player: PlayerId,
@@ -87,8 +88,9 @@ fn is_wrong(
     }
 }
 
-/// The first good reveal of the log.
-fn least_good(
+/// The one with the least spot of those that stand in the log of this number, open the digest, and are legal from the player's
+/// track; None where there is none.
+pub fn least_good(
     session: &Session,
     walker: &mut Walker,
     player: PlayerId,

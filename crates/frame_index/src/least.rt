@@ -1,22 +1,12 @@
 //! The least spot of the frames that are looked for.
 
 ghost use Rattle.std.specs.Prelude.{◌≡◌, None};
-ghost use Rattle.definitions.specs.Findings as D;
 ghost use Rattle.frame_index.specs.Pairs as P;
 ghost use Rattle.frame_index.specs.Wants as W;
 
 use crate::seen::{Seen, Wanted};
-use definitions::{Spot, TurnFrame};
-
-/// Whether the frame is a commitment.
-pub(crate) fn is_commit(frame: &TurnFrame) -> bool
-    ensures { result ≡ D.is_commit frame.now }
-{
-    match *frame {
-        TurnFrame::Commit { .. } => true,
-        TurnFrame::Reveal { .. } => false,
-    }
-}
+use definitions::Spot;
+use streams::is_commit;
 
 /// Whether the frame is looked for.
 fn is_wanted(wanted: &Wanted, one: &Seen) -> bool
@@ -35,8 +25,8 @@ fn is_wanted(wanted: &Wanted, one: &Seen) -> bool
     }
 }
 
-/// Whether the first spot is lower.
-fn is_before(one: &Spot, other: &Spot) -> bool
+/// Whether the first spot is lower: by the number of its log, or by its entry in the same one.
+pub fn is_before(one: &Spot, other: &Spot) -> bool
     ensures { result ≡ W.is_before one.now other.now }
 {
     one.log < other.log || one.log == other.log && one.entry < other.entry
@@ -53,8 +43,9 @@ pub(crate) fn in_order(one: &Seen, other: &Seen) -> (Spot, Spot)
     }
 }
 
-/// The lower of the one that is there and one more, if that is looked for.
-pub(crate) fn lower(found: bool, best: Option<Seen>, one: &Seen) -> Option<Seen>
+/// Which of the best so far and one more stands lower: the one more is taken where it is looked for, as `found` says, and no
+/// other is there or its spot is lower; else the best stays.
+pub fn lower(found: bool, best: Option<Seen>, one: &Seen) -> Option<Seen>
     ensures { result ≡ W.lower found best one.now }
 {
     if !found {

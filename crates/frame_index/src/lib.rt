@@ -10,6 +10,9 @@
 //! A frame is taken in time that doesn't grow with what is kept. An index keeps the allocator that it was made with, and takes
 //! from it the memory for what it keeps; all other calls say in their parameters where memory comes from. A want of memory
 //! changes nothing that the index promises. Nothing outside is touched.
+//!
+//! What looks through the frames that are kept of a turn stands open in [`least`] and [`judged`], for callers who keep such frames
+//! themselves.
 #![tactic(auto)]
 
 mod clashes;
@@ -17,8 +20,8 @@ mod frames;
 mod heads;
 mod illegal;
 mod in_log;
-mod judged;
-mod least;
+pub mod judged;
+pub mod least;
 mod limits;
 mod listing;
 mod pairs;

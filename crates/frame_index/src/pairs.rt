@@ -9,10 +9,11 @@ ghost use Rattle.frame_index.specs.Keeps.{Keeps, finding_by};
 ghost use Rattle.frame_index.specs.Pairs as P;
 
 use crate::clashes::are_apart;
-use crate::least::{in_order, is_commit, least, least_rivalled};
+use crate::least::{in_order, least, least_rivalled};
 use crate::seen::{Seen, Wanted};
 use definitions::Spot;
 use std::alloc::{AllocError, Global};
+use streams::is_commit;
 
 /// The least pair of commitments with different digests.
 #[tactic(auto, unfolding(crate::specs::Pairs::two_commits))]

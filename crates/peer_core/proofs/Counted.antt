@@ -26,7 +26,8 @@ use Rattle.playout.specs.declared.standing.Standing.{Standing}
 use Rattle.playout.specs.Hits.{between_known, move_of, own_score, plus}
 use Rattle.playout.specs.Playing.{Played, after_own_turn, fresh, no_standing, seated, standing_of}
 use Rattle.playout.proofs.Counting.{own_alike}
-use Rattle.playout.proofs.Items.{item_is, map_item, map_length}
+use Rattle.std.proofs.lemmas.List.{length-map}
+use Rattle.definitions.proofs.Items.{item_is, map_item}
 use Rattle.playout.specs.Lockstep.{lockstep}
 use Rattle.peer_window.specs.Windows.{Seen}
 use Rattle.peer_core.specs.Others.{AreOthers, Known as Others}
@@ -145,7 +146,7 @@ counted_fresh game copy me h p same none my is =
     let IsPlay : Played → Type 0 = λ x. IsCounted game me [] x in
     subst IsGame (sym same) (subst IsLog (sym none) (subst IsPlay (sym is)
     (counting_ends game me [] (fresh game) (record {
-      players = map_length (seated game) game.seats;
+      players = length-map game.seats (seated game);
       few = omega arith;
       settled = λ t lt. absurd (omega arith);
       score = ap (λ (s : Standing). s.score) (map_item (seated game) game.seats me no_seat no_standing my);
@@ -192,7 +193,7 @@ counted_turn game me t h p q new o own shown all counting left is move view turn
     ∙ ap (plus (standing_of p me).score) (shown_score game me p.turns h own shown move (long ∙ all.count) (λ r lt other. ap (λ ms. item_or ms r None) shows_it ∙ item r lt other)))
   where
     long : length shown ≡ length o.windows
-    long = ap (λ (ms : List (Option Move)). length ms) shows_it ∙ map_length (shows t) o.windows
+    long = ap (λ (ms : List (Option Move)). length ms) shows_it ∙ length-map o.windows (shows t)
 
     item : (r : ℕ) → r < players_of game → (r ≡ me → ⊥) → item_or (map (shows t) o.windows) r None ≡ resolved game me h r p.turns
     item r lt other =

@@ -31,11 +31,8 @@ use Rattle.peer_core.specs.Views.{PeerState}
 use Rattle.peer_core.specs.Resuming.{first_not_replayed, with_allowed, HasReplayed, IsFirstBreach}
 
 -- what is allowed is added, and nothing else
-pub added : (game : Game) (me : ℕ) (h : List Entry) (e : Entry) → allowed game me h e ≡ true → h ++ e ∷ [] ≡ with_allowed game me h e
-added game me h e t = let P : Bool → List Entry = λ b. if b then (h ++ e ∷ []) else h in ap P (sym t)
-
-pub left_out : (game : Game) (me : ℕ) (h : List Entry) (e : Entry) → allowed game me h e ≡ false → h ≡ with_allowed game me h e
-left_out game me h e t = let P : Bool → List Entry = λ b. if b then (h ++ e ∷ []) else h in ap P (sym t)
+pub added_if : (game : Game) (me : ℕ) (h : List Entry) (e : Entry) (may : Bool) → allowed game me h e ≡ may → (if may then h ++ e ∷ [] else h) ≡ with_allowed game me h e
+added_if game me h e may is = let P : Bool → List Entry = λ b. if b then (h ++ e ∷ []) else h in ap P (sym is)
 
 -- ---- choices
 

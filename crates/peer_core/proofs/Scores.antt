@@ -8,7 +8,7 @@ use Rattle.std.proofs.lemmas.List.FromFn.{get_or-map-range_with_len}
 use Rattle.definitions.specs.declared.world.Cell.{Cell}
 use Rattle.definitions.specs.declared.world.Move.{Move}
 use Rattle.definitions.specs.declared.logs.Entry.{Entry}
-use Rattle.definitions.specs.Lists.{EachIs, item_or}
+use Rattle.definitions.specs.Lists.{item_or}
 use Rattle.definitions.specs.World.{Game, players_of}
 use Rattle.definitions.specs.Held.{known, resolved, resolved_count}
 use Rattle.definitions.specs.Meets.{meets}
@@ -17,7 +17,7 @@ use Rattle.definitions.specs.Settled.{is_settled}
 use Rattle.definition_laws.specs.Strikes.{GoesOn, Strikes}
 use Rattle.definition_laws.proofs.Behind.{Has_others}
 use Rattle.definition_laws.proofs.Grows.{known_grows}
-use Rattle.definition_laws.proofs.Listing.{none_past, slice_get_front}
+use Rattle.definition_laws.proofs.Listing.{none_past, slice_get_front, take_front}
 use Rattle.definition_laws.proofs.Members.{list_all_Has}
 use Rattle.definition_laws.proofs.Nexts.{known_are_legal, resolved_stays}
 use Rattle.definition_laws.proofs.Settling.{revealed_is_resolved}
@@ -27,7 +27,9 @@ use Rattle.playout.specs.Hits.{between, between_known, move_of, no_move, no_scor
 use Rattle.playout.specs.Laws.{IsThereOrApart}
 use Rattle.playout.specs.Lockstep.{AreLegalMoves, lockstep, moves_of, turn_moves}
 use Rattle.playout.proofs.Counting.{missing_turn_alike, own_alike, same_score}
-use Rattle.playout.proofs.Items.{item_is, map_item, map_length}
+use Rattle.playout.proofs.Standings.{each_long}
+use Rattle.std.proofs.lemmas.List.{length-map}
+use Rattle.definitions.proofs.Items.{item_is, map_item}
 use Rattle.peer_core.specs.Scoring.{Completes, moves_in, own_move, score_in, score_to}
 use Rattle.peer_core.specs.Settling.{AreSettled}
 
@@ -57,18 +59,9 @@ item_front [] ys t d lt = absurd (omega arith)
 item_front (x ∷ xs) ys zero d lt = refl
 item_front (x ∷ xs) ys (suc t) d lt = item_front xs ys t d (omega arith)
 
-take_front : {X : Type 0} (xs ys : List X) → take (length xs) (xs ++ ys) ≡ xs
-take_front [] ys = refl
-take_front (x ∷ xs) ys = ap (λ zs. x ∷ zs) (take_front xs ys)
-
 range_length : (a n : ℕ) → length (range_with_len a n) ≡ n
 range_length a zero = refl
 range_length a (suc n) = ap suc (range_length (a + 1) n)
-
-each_long : (all : List (List Move)) (n q : ℕ) → q < length all → EachIs (λ own. length own ≡ n) all → length (moves_of all q) ≡ n
-each_long [] n q lt each = absurd (omega arith)
-each_long (own ∷ all) n zero lt each = each.0
-each_long (own ∷ all) n (suc q) lt each = each_long all n q (omega arith) each.1
 
 -- ---- whom a strike can't hit
 
@@ -117,7 +110,7 @@ settled_revealed game me t h d i settled = revealed_is_resolved game me t h d i 
 -- ---- the moves that are there
 
 pub moves_length : (game : Game) (me : ℕ) (h : List Entry) (t : ℕ) → length (moves_in game me h t) ≡ players_of game
-moves_length game me h t = map_length (λ q. resolved game me h q t) (range_with_len 0 (players_of game)) ∙ range_length 0 (players_of game)
+moves_length game me h t = length-map (range_with_len 0 (players_of game)) (λ q. resolved game me h q t) ∙ range_length 0 (players_of game)
 
 pub moves_item : (game : Game) (me : ℕ) (h : List Entry) (t q : ℕ) → q < players_of game → item_or (moves_in game me h t) q None ≡ resolved game me h q t
 moves_item game me h t q lt =
@@ -139,7 +132,7 @@ settled_turn game me t h all d i my settled within goes =
     moves = turn_moves all t
 
     one_each : length moves ≡ players_of game
-    one_each = map_length (λ (own : List Move). move_of own t) all ∙ played.one_each
+    one_each = length-map all (λ (own : List Move). move_of own t) ∙ played.one_each
 
     revealed : t < resolved_count game me h me
     revealed = settled_revealed game me t h d i settled

@@ -1,5 +1,5 @@
 -- Tables: what a peer keeps of the other players, as the log grows.
-use Rattle.std.proofs.Common.{◌≡◌, ℕ, zero, suc, ◌+◌, ◌<◌, List, [], ◌∷◌, ◌++◌, refl, Bool, true, false, sym, ◌∙◌, ap, subst, arith, length, get_or, set, length-set, get_or-set_same, get_or-set_other, replicate}
+use Rattle.std.proofs.Common.{◌≡◌, ℕ, ◌+◌, ◌<◌, List, [], ◌∷◌, ◌++◌, refl, Bool, true, false, sym, ◌∙◌, ap, subst, arith, length, get_or, set, length-set, get_or-set_same, get_or-set_other, replicate}
 use Rattle.std.specs.Prelude.{◌==◌, if◌then◌else◌}
 use Rattle.std.proofs.lemmas.List.{get_or-replicate, length-replicate}
 use Rattle.std.proofs.lemmas.Bool.{eqb-true, eqb-false, ne_eqb, false≢true}
@@ -17,6 +17,7 @@ use Rattle.definitions.specs.Findings.{findings, is_clean}
 use Rattle.definitions.specs.Answers.{got_answer, is_of_another}
 use Rattle.definitions.specs.Steps.{is_taken_in}
 use Rattle.definitions.specs.declared.world.Track.{Track}
+use Rattle.definitions.proofs.Items.{item_is}
 use Rattle.definitions.specs.Logs.{got_of}
 use Rattle.definitions.specs.Held.{Known as Shown, known, places_in}
 use Rattle.definition_laws.proofs.ForPeers.{known_without_got}
@@ -42,13 +43,6 @@ use Rattle.peer_core.proofs.Answering.{logged_is, caught_dirty}
 use Rattle.definition_laws.proofs.Tracks.{known_open}
 use Rattle.definition_laws.proofs.Room.{other_player}
 use Rattle.grid_world.proofs.Facts.{seat_open}
-
--- an item is the one that the list has at its place
-item_get : {X : Type 0} (xs : List X) (n : ℕ) (d : X) → item_or xs n d ≡ get_or xs n d
-item_get [] zero d = refl
-item_get [] (suc n) d = refl
-item_get (x ∷ xs) zero d = refl
-item_get (x ∷ xs) (suc n) d = item_get xs n d
 
 -- what a window shows is what the log shows
 pub window_known : (game : Game) (me q : ℕ) (h : List Entry) (w : Seen) → IsWindowOf game me h q w → w.known ≡ known game me h q
@@ -261,7 +255,7 @@ others_views game me h o a q lt other = view q lt other
     view q lt other =
         let w = get_or o.windows q blank in
         let at : item_or o.views q no_view ≡ of_known (known game me h q) =
-        item_get o.views q no_view ∙ a.views_are q blank no_view lt other ∙ ap of_known (window_known game me q h w (a.each q blank lt other)) in
+        sym (item_is o.views q no_view) ∙ a.views_are q blank no_view lt other ∙ ap of_known (window_known game me q h w (a.each q blank lt other)) in
         subst (λ (v : View). IsView game me h q v) (sym at) (record { resolved_is = refl; next_is = refl; commits_is = refl })
 
 -- what a window tells of its player
@@ -276,15 +270,6 @@ window_view game me q h w o =
 pub record AreOpening (game : Game) (n : ℕ) (ws : List Seen) : Type 0 where
   pub count : length ws ≡ n
   pub each : (q : ℕ) (d : Seen) → q < n → IsOpened game q (get_or ws q d)
-
-at_front : {X : Type 0} (xs ys : List X) (n : ℕ) (d : X) → n < length xs → get_or (xs ++ ys) n d ≡ get_or xs n d
-at_front [] ys n d lt = absurd (omega arith)
-at_front (x ∷ xs) ys zero d lt = refl
-at_front (x ∷ xs) ys (suc n) d lt = at_front xs ys n d (omega arith)
-
-at_seam : {X : Type 0} (xs : List X) (y d : X) → get_or (xs ++ y ∷ []) (length xs) d ≡ y
-at_seam [] y d = refl
-at_seam (x ∷ xs) y d = at_seam xs y d
 
 -- the entries that a window was offered stand below the log's next
 pub offered_below : (game : Game) (me q : ℕ) (h : List Entry) (w : Seen) → IsWindowOf game me h q w → EachIs (λ r. r.entry < length h) w.frames

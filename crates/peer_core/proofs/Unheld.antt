@@ -13,6 +13,7 @@ use Rattle.definitions.specs.Held.{known, resolved, resolved_count}
 use Rattle.definitions.specs.Meets.{cell_before, meets}
 use Rattle.definitions.specs.Honest.{lets_commit, others}
 use Rattle.dilation.specs.Dilated.{cell_of}
+use Rattle.dilation.proofs.Items.{map_set}
 use Rattle.definition_laws.specs.Distances.{last_cell}
 use Rattle.wait_rule.specs.declared.views.View.{View}
 use Rattle.wait_rule.specs.declared.views.Stage.{Stage}
@@ -27,11 +28,6 @@ map_item : {X Y : Type 0} (f : X → Y) (xs : List X) (i : ℕ) (d : X) → item
 map_item f [] i d = refl
 map_item f (x ∷ xs) zero d = refl
 map_item f (x ∷ xs) (suc i) d = map_item f xs i d
-
-map_set : {X Y : Type 0} (f : X → Y) (xs : List X) (i : ℕ) (x : X) → map f (slice_set xs i x) ≡ slice_set (map f xs) i (f x)
-map_set f [] i x = refl
-map_set f (y ∷ xs) zero x = refl
-map_set f (y ∷ xs) (suc i) x = ap (λ ys. f y ∷ ys) (map_set f xs i x)
 
 map_same : {X Y : Type 0} (f : X → Y) (n : ℕ) (x : X) → map f (replicate n x) ≡ replicate n (f x)
 map_same f zero x = refl

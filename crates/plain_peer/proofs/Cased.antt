@@ -5,7 +5,6 @@ use Rattle.std.proofs.lemmas.Bool.{le-leb, lt-leb, cases_lt, cond-true, cond-fal
 use Rattle.definitions.specs.declared.world.Move.{Move}
 use Rattle.definitions.specs.declared.openings.Digest.{Digest}
 use Rattle.definitions.specs.declared.frames.TurnFrame.{TurnFrame}
-use Rattle.definitions.specs.declared.frames.TurnFrame.TheVariants.{Commit, Reveal}
 use Rattle.definitions.specs.declared.logs.Entry.{Entry}
 use Rattle.definitions.specs.World.{Game, players_of, is_open}
 use Rattle.definitions.specs.Moves.{track_after}
@@ -22,7 +21,9 @@ use Rattle.grid_world.specs.Sessions.{IsSession}
 use Rattle.streams.specs.declared.stream.Stream.{Stream}
 use Rattle.plain_peer.specs.declared.cases.Case.{Case}
 use Rattle.streams.specs.Streams.{places_of, stream_of}
-use Rattle.plain_peer.specs.Cases.{IsCase, commit_entry, due_for, is_illegal_from}
+use Rattle.definition_laws.specs.Illegals.{is_illegal_from}
+use Rattle.definition_laws.proofs.LegalMoves.{illegal_after_track}
+use Rattle.plain_peer.specs.Cases.{IsCase, commit_entry, due_for}
 use Rattle.streams.proofs.Shown.{known_open, read_known}
 
 -- what is known of more places begins with what is known of fewer
@@ -41,10 +42,6 @@ known_stays game q fs n m le lacks =
       | inr stuck ↦ let more : m - n + n ≡ m = omega arith in sym (ap (known_to game q fs) more) ∙ known_to_stuck game q fs n (m - n) stuck
     ]
 
-after_track : (game : Game) (q : ℕ) (ms : List Move) (f : TurnFrame) → is_illegal_after game q ms f ≡ is_illegal_from game q (track_after game q ms) f
-after_track game q ms (Commit p u d) = refl
-after_track game q ms (Reveal p u m n) = refl
-
 -- the test by what is known in the end, where it agrees with what was known at the turn
 illegal_from_parts : (game : Game) (q t : ℕ) (k : Known) (o : Option Digest) (ms : List Move) (f : TurnFrame) → t ≤ length k.moves → slice_get k.digests t ≡ o → take t k.moves ≡ ms →
     is_illegal_at game q t k f ≡ (opens game f o && is_illegal_from game q (track_after game q ms) f)
@@ -52,7 +49,7 @@ illegal_from_parts game q t k o ms f le due moves =
     ap (λ (b : Bool). b && opens game f (slice_get k.digests t) && is_illegal_after game q (take t k.moves) f) (le-leb _ _ le)
     ∙ ap (λ (x : Option Digest). opens game f x && is_illegal_after game q (take t k.moves) f) due
     ∙ ap (λ (xs : List Move). opens game f o && is_illegal_after game q xs f) moves
-    ∙ ap (λ (b : Bool). opens game f o && b) (after_track game q ms f)
+    ∙ ap (λ (b : Bool). opens game f o && b) (illegal_after_track game q ms f)
 
 -- a turn that is not come to
 illegal_never : (game : Game) (q t : ℕ) (k : Known) (f : TurnFrame) → length k.moves < t → is_illegal_at game q t k f ≡ false

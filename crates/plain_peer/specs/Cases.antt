@@ -1,17 +1,15 @@
 -- Cases: a turn of a player, and what two frames show of it by what is known of the turns before.
-use Rattle.std.specs.Prelude.{◌≡◌, ℕ, Bool, false, not, ◌&&◌, ◌||◌, List, [], ◌∷◌, Option, Some, None, length, slice_get, ◌==◌, if◌then◌else◌, option_map, find, IsTrue}
-use Rattle.definitions.specs.declared.world.Track.{Track}
+use Rattle.std.specs.Prelude.{◌≡◌, ℕ, Bool, false, ◌&&◌, ◌||◌, List, [], ◌∷◌, Option, Some, None, length, slice_get, ◌==◌, if◌then◌else◌, option_map, find, IsTrue}
 use Rattle.definitions.specs.declared.frames.TurnFrame.{TurnFrame}
-use Rattle.definitions.specs.declared.frames.TurnFrame.TheVariants.{Commit, Reveal}
 use Rattle.definitions.specs.declared.logs.Entry.{Entry}
 use Rattle.definitions.specs.declared.findings.Kind.{Kind}
 use Rattle.definitions.specs.declared.findings.Kind.TheVariants.{TwoCommits, BadOpening, Collision, Illegal}
 use Rattle.definitions.specs.declared.findings.Spot.{Spot}
 use Rattle.definitions.specs.World.{Game, is_open}
-use Rattle.definitions.specs.Moves.{is_legal}
 use Rattle.definitions.specs.Held.{Known}
 use Rattle.definitions.specs.Findings.{Sighting, sightings_from, is_commit, are_two_commits, are_bad_opening, are_collision, opens, is_illegal_at, got_known}
 use Rattle.definitions.specs.declared.openings.Digest.{Digest}
+use Rattle.definition_laws.specs.Illegals.{is_illegal_from}
 use Rattle.plain_peer.specs.declared.sights.Seen.{Seen}
 use Rattle.plain_peer.specs.declared.cases.Case.{Case}
 
@@ -32,11 +30,6 @@ due_for k t = if length k.moves == t then slice_get k.digests t else None
 abbrev pub is_entry : Option ℕ → ℕ → Bool
 is_entry None n = false
 is_entry (Some m) n = m == n
-
--- the reveal's move is not legal from the track
-abbrev pub is_illegal_from : Game → ℕ → Track → TurnFrame → Bool
-is_illegal_from game q track (Commit p u d) = false
-is_illegal_from game q track (Reveal p u m n) = not (is_legal game q track m)
 
 -- the first is the turn's first commitment, and the second opens the digest due and is not legal
 abbrev pub illegal_by : Game → Case → Sighting → Sighting → Bool

@@ -6,15 +6,16 @@ ghost use Rattle.definitions.specs.Places.{reveal_place};
 ghost use Rattle.definitions.specs.Logs.{frames_of};
 ghost use Rattle.definitions.specs.Held.{known_to};
 ghost use Rattle.definitions.specs.Findings as D;
+ghost use Rattle.definition_laws.specs.Illegals as I;
 ghost use Rattle.streams.specs.Streams.{stream_of};
 ghost use Rattle.plain_peer.specs.Cases as C;
 
-use crate::sights::{Seen, first_commitment, is_commit};
+use crate::sights::{Seen, first_commitment};
 use definitions::{Digest, Entry, Kind, PlayerId, Track, Turn, TurnFrame};
 use grid_world::Session;
 use move_rules::Walker;
 use reveal_check::{frame_digest, same_digest};
-use streams::{Stream, held};
+use streams::{Stream, held, is_commit};
 
 /// What two frames of a player's turn are judged by: the entry of the turn's first commitment, the digest that the turn's
 /// reveal has to open, if the turns before are resolved and the commitment is held, and the track after them.
@@ -94,7 +95,7 @@ fn is_illegal_from(
 ) -> bool
     requires player { q < players_of session.now }
     requires track { IsTrue (is_open session.now.grid track.now.at) }
-    ensures { result ≡ C.is_illegal_from session.now q track.now frame.now }
+    ensures { result ≡ I.is_illegal_from session.now q track.now frame.now }
 {
     match *frame {
         TurnFrame::Commit { .. } => false,

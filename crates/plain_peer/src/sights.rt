@@ -6,22 +6,13 @@ ghost use Rattle.definitions.specs.Findings as D;
 ghost use Rattle.plain_peer.specs.Cases as C;
 
 use definitions::{Entry, PlayerId, Turn, TurnFrame};
+use streams::is_commit;
 
 /// A frame that was got, and the number of its entry.
 #[derive(Clone, Copy)]
 pub(crate) struct Seen {
     pub entry: usize,
     pub frame: TurnFrame,
-}
-
-/// Whether the frame is a commitment.
-pub(crate) fn is_commit(frame: &TurnFrame) -> bool
-    ensures { result ≡ D.is_commit frame.now }
-{
-    match *frame {
-        TurnFrame::Commit { .. } => true,
-        TurnFrame::Reveal { .. } => false,
-    }
 }
 
 /// The frame of this player and turn that the entry of this number got, if it got one.

@@ -10,7 +10,7 @@ use Rattle.definitions.specs.World.{Game, distance, is_inside, is_wall, seat_of}
 use Rattle.definitions.specs.Walk.{in_reach}
 use Rattle.definitions.specs.Moves.{IsLegal, is_legal, are_legal_from, next_track, strike_fault, track_from}
 use Rattle.playout.specs.Hits.{move_of, no_move}
-use Rattle.playout.proofs.Items.{item_is}
+use Rattle.definitions.proofs.Items.{item_is}
 
 -- the last of three causes doesn't stand
 last_passes : (a b c : Bool) (x y z : MoveFault) (o : Option MoveFault) → is_none (if a then Some x else if b then Some y else if c then Some z else o) ≡ true → is_none o ≡ true

@@ -1,7 +1,7 @@
 -- Standings: each player's track and score, one after another, and in lockstep.
 use Rattle.std.proofs.Common.{◌≡◌, ℕ, zero, suc, ◌+◌, ◌*◌, ◌<◌, ◌≤◌, List, [], ◌∷◌, ◌++◌, length, take, drop, refl, sym, ap, ◌∙◌, arith, subst, get_or, append_assoc, inl, inr}
 use Rattle.std.specs.Prelude.{map, slice_set}
-use Rattle.std.proofs.lemmas.List.{drop_more, drop-set-lt, take_more_set}
+use Rattle.std.proofs.lemmas.List.{drop_more, drop-set-lt, length-map, take_all, take_more_set}
 use Rattle.std.proofs.lemmas.Bool.{cases_lt}
 use Rattle.definitions.specs.declared.world.Move.{Move}
 use Rattle.definitions.specs.declared.world.Seat.{Seat}
@@ -10,12 +10,13 @@ use Rattle.definitions.specs.declared.limits.TheConstants.{MOST_TURNS}
 use Rattle.definitions.specs.Lists.{EachIs, item_or}
 use Rattle.definitions.specs.World.{Game, no_seat, players_of}
 use Rattle.definitions.specs.Moves.{IsLegal, next_track, start_track, track_after}
+use Rattle.definitions.proofs.Items.{map_item}
 use Rattle.playout.specs.declared.standing.Standing.{Standing}
 use Rattle.playout.specs.Hits.{no_move, move_of}
 use Rattle.playout.specs.Lockstep.{AreLegalMoves, at_start, lockstep, moves_of, standing_after, turn_moves}
 use Rattle.playout.specs.Playing.{AreLegalNow, IsLockstep, Played, after_turn, all_after, fresh, no_standing, seated, standing_of}
 use Rattle.playout.specs.Bounds.{IsBelow, IsCounted}
-use Rattle.playout.proofs.Items.{item_past, map_item, map_length, map_more, take_all}
+use Rattle.playout.proofs.Items.{item_past, map_more}
 use Rattle.playout.proofs.Counting.{among_few}
 use Rattle.playout.proofs.Legal.{legal_then, track_more}
 
@@ -31,12 +32,12 @@ seated_more game n s before after lt is so_far more =
     more ∙ ap (λ (ss : List Standing). ss ++ s ∷ []) so_far ∙ ap (λ (x : Standing). first_seated game n ++ x ∷ []) is ∙ map_more (seated game) game.seats n no_seat lt
 
 pub seated_all : (game : Game) (n : ℕ) → n ≡ players_of game → first_seated game n ≡ map (seated game) game.seats
-seated_all game n e = ap (first_seated game) e ∙ ap (map (seated game)) (take_all game.seats)
+seated_all game n e = ap (first_seated game) e ∙ ap (map (seated game)) (take_all (length game.seats) game.seats (omega arith))
 
 pub fresh_lockstep : (game : Game) (moves : List (List Move)) → IsLockstep game moves (fresh game)
 unfolding lockstep
 fresh_lockstep game moves = record {
-  one_each = map_length (seated game) game.seats;
+  one_each = length-map game.seats (seated game);
   each = λ q lt. map_item (seated game) game.seats q no_seat no_standing lt;
 }
 
@@ -105,7 +106,7 @@ fresh_counted game ss is = record {
   few = omega arith;
   below = λ q. subst (λ (xs : List Standing). IsBelow 1 (item_or xs q no_standing)) (sym is) (elim (cases_lt q (length game.seats)) [
     | inl lt ↦ subst (IsBelow 1) (sym (map_item (seated game) game.seats q no_seat no_standing lt)) (seated_below game (item_or game.seats q no_seat))
-    | inr le ↦ subst (IsBelow 1) (sym (item_past (map (seated game) game.seats) q no_standing (omega (arith, map_length (seated game) game.seats)))) (none_below 0)
+    | inr le ↦ subst (IsBelow 1) (sym (item_past (map (seated game) game.seats) q no_standing (omega (arith, length-map game.seats (seated game))))) (none_below 0)
   ]);
 }
 
@@ -139,14 +140,14 @@ stands_by_moves game all (suc n) q lt le =
     ∙ ap (next_track game (track_after game q (take n (moves_of all q)))) (move_there all n q lt)
     ∙ track_more game (start_track game q) (moves_of all q) n (omega arith)
 
-each_long : (all : List (List Move)) (most q : ℕ) → q < length all → EachIs (λ own. length own ≡ most) all → length (moves_of all q) ≡ most
+pub each_long : (all : List (List Move)) (most q : ℕ) → q < length all → EachIs (λ own. length own ≡ most) all → length (moves_of all q) ≡ most
 each_long [] most q lt each = absurd (omega arith)
 each_long (own ∷ all) most zero lt each = each.0
 each_long (own ∷ all) most (suc q) lt each = each_long all most q (omega arith) each.1
 
 pub legal_played : (game : Game) (all : List (List Move)) (most : ℕ) (p : Played) → AreLegalMoves game all most → IsLockstep game all p → p.turns < most → AreLegalNow game p (turn_moves all p.turns)
 legal_played game all most p are so_far few = record {
-  one_each = map_length (λ (own : List Move). move_of own p.turns) all ∙ are.one_each;
+  one_each = length-map all (λ (own : List Move). move_of own p.turns) ∙ are.one_each;
   legal = λ q lt.
       let here : q < length all = omega (arith, are.one_each) in
       let long : length (moves_of all q) ≡ most = each_long all most q here are.each_long in

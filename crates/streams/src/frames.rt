@@ -6,6 +6,7 @@ ghost use Rattle.definitions.specs.Moves.{next_track};
 ghost use Rattle.definitions.specs.Logs.{frames_of};
 ghost use Rattle.definitions.specs.Lists.{first_of};
 ghost use Rattle.definitions.specs.Held as H;
+ghost use Rattle.definitions.specs.Findings as D;
 ghost use Rattle.streams.specs.Frames as F;
 
 use definitions::{Digest, Entry, PlayerId, Track, Turn, TurnFrame};
@@ -30,8 +31,18 @@ pub(crate) fn frame_in(entry: &Entry, me: PlayerId, q: PlayerId) -> Option<TurnF
     }
 }
 
-/// The digest to which the frame commits the turn.
-fn commit_of(frame: &TurnFrame, turn: Turn) -> Option<Digest>
+/// Whether the frame is a commitment.
+pub fn is_commit(frame: &TurnFrame) -> bool
+    ensures { result ≡ D.is_commit frame.now }
+{
+    match *frame {
+        TurnFrame::Commit { .. } => true,
+        TurnFrame::Reveal { .. } => false,
+    }
+}
+
+/// The digest to which the frame commits the turn; None where it is a reveal, or commits another turn.
+pub fn commit_of(frame: &TurnFrame, turn: Turn) -> Option<Digest>
     ensures { result ≡ H.commit_of turn frame.now }
 {
     match *frame {

@@ -15,6 +15,7 @@ use Rattle.definitions.specs.Held.{known, held, resolved, resolved_count}
 use Rattle.definitions.specs.Meets.{meets, cell_before}
 use Rattle.definitions.specs.Honest.{others, lets_commit, lets_reveal}
 use Rattle.definitions.specs.Needs as N
+use Rattle.definitions.proofs.Items.{item_is}
 use Rattle.dilation.specs.Dilated.{cell_of}
 use Rattle.wait_rule.specs.declared.views.View.{View}
 use Rattle.wait_rule.specs.declared.views.Stage.{Stage}
@@ -24,7 +25,8 @@ use Rattle.definition_laws.specs.Distances.{last_cell}
 use Rattle.wait_rule.specs.Shown.{IsView, AreViews, AreLastCells, slot_of, StandsThere, IsStageOf}
 use Rattle.wait_rule.specs.declared.meeting.Meeting.{Meeting}
 use Rattle.wait_rule.specs.Spheres.{Stays}
-use Rattle.wait_rule.proofs.Lists.{steps_are, steps_more, step_few, item_same}
+use Rattle.plain_lemmas.proofs.Lists.{flat_more}
+use Rattle.wait_rule.proofs.Lists.{steps_are, step_few}
 
 some_is : {X : Type 0} (xs : List X) (t : ℕ) → is_some (slice_get xs t) ≡ nat_lt t (length xs)
 some_is [] t = sym (le-ltb t 0 (omega arith))
@@ -157,10 +159,10 @@ pub need_more : (game : Game) (me q i : ℕ) (stage : Stage) (views : List View)
     new ≡ flat_map (need_in game me stage views cells) (range_with_len 0 (q + 1))
 need_more game me q i stage views cells seen so_far new at same before is =
     is ∙ ap (λ (n : ℕ). so_far ++ need_if game me stage q (get_or views n no_view) (cell_of seen q)) at
-    ∙ ap (λ (v : View). so_far ++ need_if game me stage q v (cell_of seen q)) (item_same views q no_view)
+    ∙ ap (λ (v : View). so_far ++ need_if game me stage q v (cell_of seen q)) (item_is views q no_view)
     ∙ ap (λ (cs : List Cell). so_far ++ need_if game me stage q (item_or views q no_view) (cell_of cs q)) same
     ∙ ap (λ (ns : List Need). ns ++ need_in game me stage views cells q) before
-    ∙ sym (steps_more (need_in game me stage views cells) q)
+    ∙ sym (flat_more (need_in game me stage views cells) q)
 
 -- at most one need of each player
 pub few_more : (game : Game) (me q : ℕ) (stage : Stage) (v : View) (from : Cell) (so_far new : List Need) → new ≡ so_far ++ need_if game me stage q v from → length so_far ≤ q → length new ≤ q + 1

@@ -1,32 +1,9 @@
 -- Lists of needs, player by player.
-use Rattle.std.proofs.Common.{◌≡◌, ℕ, zero, suc, ◌+◌, ◌<◌, ◌≤◌, Bool, true, false, List, [], ◌∷◌, ◌++◌, length, zero-add, add-zero, append-nil, refl, sym, ap, ◌∙◌, arith, get_or}
+use Rattle.std.proofs.Common.{◌≡◌, ℕ, zero, suc, ◌+◌, ◌<◌, ◌≤◌, Bool, true, false, List, [], ◌∷◌, ◌++◌, length, refl, sym, ap, ◌∙◌, arith}
 use Rattle.std.specs.Prelude.{map, filter, flat_map, not, ◌==◌, if◌then◌else◌}
 use Rattle.std.specs.List.{range_with_len}
 use Rattle.std.proofs.lemmas.Bool.{eq-eqb, false≢true}
-use Rattle.definition_laws.proofs.Listing.{flat_map_append}
 use Rattle.definitions.specs.declared.answers.Need.{Need}
-use Rattle.definitions.specs.Lists.{item_or}
-
--- an item by its place, in two words
-pub item_same : {X : Type 0} (xs : List X) (i : ℕ) (d : X) → get_or xs i d ≡ item_or xs i d
-item_same [] i d = refl
-item_same (x ∷ xs) zero d = refl
-item_same (x ∷ xs) (suc i) d = item_same xs i d
-
--- one number more
-pub range_more : (a n : ℕ) → range_with_len a (n + 1) ≡ range_with_len a n ++ (a + n) ∷ []
-range_more a zero = ap (λ n. n ∷ []) (sym (add-zero a))
-range_more a (suc n) =
-    let ih = range_more (a + 1) n in
-    let e : (a + 1) + n ≡ a + suc n = omega arith in
-    let f : suc n + 1 ≡ suc (n + 1) = omega arith in
-    rw (f, ← e) (ap (λ xs. a ∷ xs) ih)
-
--- the needs of one player more
-pub steps_more : (step : ℕ → List Need) (n : ℕ) → flat_map step (range_with_len 0 (n + 1)) ≡ flat_map step (range_with_len 0 n) ++ step n
-steps_more step n =
-    ap (flat_map step) (range_more 0 n) ∙ flat_map_append step (range_with_len 0 n) ((0 + n) ∷ []) ∙
-    ap (λ k. flat_map step (range_with_len 0 n) ++ (step k ++ [])) (zero-add n) ∙ ap (λ xs. flat_map step (range_with_len 0 n) ++ xs) (append-nil (step n))
 
 -- a need is added, or none
 abbrev pub step_of : Bool → Bool → Need → List Need

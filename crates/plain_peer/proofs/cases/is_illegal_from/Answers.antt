@@ -1,6 +1,6 @@
 use Rattle.std.proofs.Common.{◌∙◌, ap, sym}
 use Rattle.std.specs.Prelude.{is_err}
-use Rattle.plain_peer.specs.Cases.{is_illegal_from}
+use Rattle.definition_laws.specs.Illegals.{is_illegal_from}
 use Rattle.streams.proofs.Opened.{refused_illegal}
 use Rattle.plain_peer.proofs.cases.is_illegal_from.Goals as goal
 

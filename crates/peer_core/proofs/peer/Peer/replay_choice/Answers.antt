@@ -8,7 +8,7 @@ use Rattle.definitions.specs.Logs.{chosen}
 use Rattle.peer_core.specs.declared.views.Choice.{Choice}
 use Rattle.peer_core.specs.Views.{PeerState}
 use Rattle.grid_world.proofs.Reveals.{ahead_least}
-use Rattle.peer_core.proofs.Replaying.{added, left_out, other_turn, this_turn}
+use Rattle.peer_core.proofs.Replaying.{added_if, other_turn, this_turn}
 use Rattle.peer_core.proofs.peer.Peer.replay_choice.Goals as goal
 
 -- a choice of another turn may not come
@@ -38,7 +38,7 @@ returns-then-turn-choice-clause-allowed c = sym (other c)
 pub returns-then-turn-choice-clause-log : goal.returns-then-turn-choice-clause-log
 returns-then-turn-choice-clause-log c =
     let with_log : List Entry → PeerState = λ h. record { game = c.args.self.now.game; me = c.args.self.now.me; entries = h } in
-    ap with_log (left_out c.args.self.now.game c.args.self.now.me c.args.self.now.entries (Chose c.args.turn c.args.mv c.args.nonce) (other c))
+    ap with_log (added_if c.args.self.now.game c.args.self.now.me c.args.self.now.entries (Chose c.args.turn c.args.mv c.args.nonce) false (other c))
 
 pub returns-in-Ok-clause-allowed : goal.returns-in-Ok-clause-allowed
 returns-in-Ok-clause-allowed c = sym (taken c)
@@ -48,7 +48,7 @@ returns-in-Ok-clause-log c =
     let turn : c.args.turn ≡ length (chosen c.args.self.now.me c.args.self.now.entries) = c.if-turn-choice.false ∙ ap (λ (k : Choice). k.turn) c.choice.ensures in
     let with_log : List Entry → PeerState = λ h. record { game = c.args.self.now.game; me = c.args.self.now.me; entries = h } in
     let with_turn : ℕ → PeerState = λ n. with_log (c.args.self.now.entries ++ Chose n c.args.mv c.args.nonce ∷ []) in
-    c.in-Ok.ensures.chosen ∙ ap with_turn (sym turn) ∙ ap with_log (added c.args.self.now.game c.args.self.now.me c.args.self.now.entries (Chose c.args.turn c.args.mv c.args.nonce) (taken c))
+    c.in-Ok.ensures.chosen ∙ ap with_turn (sym turn) ∙ ap with_log (added_if c.args.self.now.game c.args.self.now.me c.args.self.now.entries (Chose c.args.turn c.args.mv c.args.nonce) true (taken c))
 
 pub returns-in-Err-clause-allowed : goal.returns-in-Err-clause-allowed
 returns-in-Err-clause-allowed c = sym (refused c)
@@ -56,4 +56,4 @@ returns-in-Err-clause-allowed c = sym (refused c)
 pub returns-in-Err-clause-log : goal.returns-in-Err-clause-log
 returns-in-Err-clause-log c =
     let with_log : List Entry → PeerState = λ h. record { game = c.args.self.now.game; me = c.args.self.now.me; entries = h } in
-    c.in-Err.ensures.refused ∙ ap with_log (left_out c.args.self.now.game c.args.self.now.me c.args.self.now.entries (Chose c.args.turn c.args.mv c.args.nonce) (refused c))
+    c.in-Err.ensures.refused ∙ ap with_log (added_if c.args.self.now.game c.args.self.now.me c.args.self.now.entries (Chose c.args.turn c.args.mv c.args.nonce) false (refused c))
