@@ -8,3 +8,4 @@ pub mod Feeds
 pub mod Unread
 pub mod Pieces
 pub mod FedWell
+pub mod ReadSo

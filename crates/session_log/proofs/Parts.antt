@@ -347,23 +347,19 @@ is_compared : (game : Game) (me : ℕ) (p q : Part) (chain held hash : List ℕ)
 is_compared game me p q chain held hash same come is =
     ap (bytes_eq p.digest) (sym (is.hashed (chain ++ come.text) come.hashed)) ∙ ap (λ (r : Part). bytes_eq r.digest hash) (sym is.others) ∙ sym is.compared
 
--- the digest is another one, or the text longer than any entry's, or all is there
-pub not_chained : (game : Game) (me : ℕ) (p q : Part) (chain held hash : List ℕ) (same : Bool) → HasCome game me p chain held → IsCompared p q hash same → same ≡ false → BadChain ≡ entry_at game me chain held
-not_chained game me p q chain held hash same come is differs =
-    let e : bytes_eq p.digest (chained chain come.text) ≡ false = is_compared game me p q chain held hash same come is ∙ differs in
+-- what is found, by whether the digest is the same
+pub by_digest : (game : Game) (me : ℕ) (p q : Part) (chain held hash : List ℕ) (same b : Bool) (come : HasCome game me p chain held) → IsCompared p q hash same → same ≡ b →
+    (if not b then BadChain else owned_by game me (entry_of come.text) (p.text_len + 32) p.digest) ≡ entry_at game me chain held
+by_digest game me p q chain held hash same b come is so =
+    let e : bytes_eq p.digest (chained chain come.text) ≡ b = is_compared game me p q chain held hash same come is ∙ so in
     sym (come.found ∙ ap (λ t. if not t then BadChain else owned_by game me (entry_of come.text) (p.text_len + 32) p.digest) e)
 
-is_chained : (game : Game) (me : ℕ) (p q : Part) (chain held hash : List ℕ) (same : Bool) (come : HasCome game me p chain held) → IsCompared p q hash same → same ≡ true →
-    owned_by game me (entry_of come.text) (p.text_len + 32) p.digest ≡ entry_at game me chain held
-is_chained game me p q chain held hash same come is agrees =
-    let e : bytes_eq p.digest (chained chain come.text) ≡ true = is_compared game me p q chain held hash same come is ∙ agrees in
-    sym (come.found ∙ ap (λ t. if not t then BadChain else owned_by game me (entry_of come.text) (p.text_len + 32) p.digest) e)
-
+-- with the same digest the text is longer than any entry's, or all is there
 pub too_long : (game : Game) (me : ℕ) (p q : Part) (chain held hash : List ℕ) (same : Bool) → HasCome game me p chain held → IsCompared p q hash same → same ≡ true → 64 < p.text_len →
     BadEntry ≡ entry_at game me chain held
 too_long game me p q chain held hash same come is agrees long =
     let n = come.len in
-    ap (λ o. owned_by game me o (p.text_len + 32) p.digest) (sym (entry_of-long come.text (omega arith))) ∙ is_chained game me p q chain held hash same come is agrees
+    ap (λ o. owned_by game me o (p.text_len + 32) p.digest) (sym (entry_of-long come.text (omega arith))) ∙ by_digest game me p q chain held hash same true come is agrees
 
 pub read_whole : (game : Game) (me : ℕ) (p q : Part) (chain held hash : List ℕ) (same : Bool) → HasCome game me p chain held → IsCompared p q hash same → same ≡ true → p.text_len ≤ 64 →
     owned_by game me (entry_of (take p.text_len q.kept)) (p.text_len + 32) q.digest ≡ entry_at game me chain held
@@ -371,7 +367,7 @@ read_whole game me p q chain held hash same come is agrees few =
     let n = come.len in
     let text : take p.text_len p.kept ≡ come.text = come.kept ∙ take_all 64 come.text (omega arith) in
     ap (λ (r : Part). owned_by game me (entry_of (take p.text_len r.kept)) (p.text_len + 32) r.digest) is.others
-    ∙ ap (λ xs. owned_by game me (entry_of xs) (p.text_len + 32) p.digest) text ∙ is_chained game me p q chain held hash same come is agrees
+    ∙ ap (λ xs. owned_by game me (entry_of xs) (p.text_len + 32) p.digest) text ∙ by_digest game me p q chain held hash same true come is agrees
 
 pub none_held : (p : Part) (chain : List ℕ) → p.text_len ≡ 0 → p.digest_len ≡ 0 → Holds256 p.hasher chain → HoldsPart p chain []
 none_held p chain text digest hashed = record {

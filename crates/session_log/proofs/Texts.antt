@@ -14,7 +14,7 @@ use Rattle.definitions.specs.declared.logs.Entry.{Entry}
 use Rattle.definitions.specs.declared.logs.Entry.TheVariants.{Chose, Made, Got}
 use Rattle.definitions.specs.Openings.{cell_bytes, move_bytes}
 use Rattle.commitment.specs.Spelling.{frame_bytes, has_head, turn_frame_of, FitsFrame}
-use Rattle.commitment.proofs.Reading.{spelled_read, read_spelled}
+use Rattle.commitment.proofs.Reading.{frame_short, spelled_read, read_spelled}
 use Rattle.session_log.specs.Spelling.{kind_of, body_of, entry_text, FitsEntry}
 use Rattle.session_log.specs.Entries.{choice_of, as_reveal, chose_of, made_of, got_of, entry_by, told_len, entry_of}
 use Rattle.session_log.specs.Laws.{AreBytes}
@@ -74,16 +74,6 @@ body_read : (e : Entry) → FitsEntry e → entry_by (kind_of e) (body_of e) ≡
 body_read (Chose t m n) h = chose_read t m n h
 body_read (Made f) h = made_read f h
 body_read (Got q f) h = got_read q f h.1
-
-reveal_short : (p t : ℕ) (to : Cell) (strike : Option Cell) (n : Nonce) → length n.bytes ≡ 32 → length (frame_bytes (Reveal p t (record { to = to; strike = strike }) n)) ≤ 49
-unfolding frame_bytes move_bytes cell_bytes
-reveal_short p t to None n h = omega arith
-reveal_short p t to (Some c) n h = omega arith
-
-frame_short : (f : TurnFrame) → FitsFrame f → length (frame_bytes f) ≤ 49
-unfolding frame_bytes
-frame_short (Commit p t d) h = omega (arith, h.2)
-frame_short (Reveal p t m n) h = reveal_short p t m.to m.strike n h.4
 
 chose_short : (t : ℕ) (to : Cell) (strike : Option Cell) (n : Nonce) → length n.bytes ≡ 32 → length (body_of (Chose t (record { to = to; strike = strike }) n)) ≤ 50
 unfolding body_of move_bytes cell_bytes

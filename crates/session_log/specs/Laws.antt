@@ -1,6 +1,8 @@
 -- Laws of logs: what is written is read again, and what is read was written so.
 use Rattle.std.specs.Prelude.{ℕ, ◌≡◌, ◌≤◌, ◌<◌, ◌+◌, ◌⊎◌, List, [], ◌∷◌, ◌++◌, length, flat_map, nat_lt, Option, Some, None, if◌then◌else◌, slice_index}
 use Rattle.definitions.specs.declared.logs.Entry.{Entry}
+use Rattle.definitions.specs.declared.logs.Entry.TheVariants.{Chose, Made, Got}
+use Rattle.commitment.specs.Spelling.{FitsFrame, frame_bytes}
 use Rattle.definitions.specs.Lists.{EachIs}
 use Rattle.definitions.specs.Entries.{AreWellFormed}
 use Rattle.definitions.specs.World.{Game, players_of}
@@ -93,3 +95,17 @@ pub record IsReadOf (game : Game) (bytes : List ℕ) (g : LogGiven) : Type 0 whe
 -- in whatever pieces a log comes, it is read as it is whole
 abbrev pub LogPiecesDoNotMatter : Type 0
 LogPiecesDoNotMatter = (game : Game) (pieces : List (List ℕ)) → IsReadOf game (flat_map (λ piece. piece) pieces) (given_over game (feed_at_start game.id) pieces)
+
+-- what is read of a log, whatever its bytes, is what its owner may have written, honest or not
+abbrev pub ReadEntriesAreWellFormed : Type 0
+ReadEntriesAreWellFormed = (game : Game) (bytes : List ℕ) (me : ℕ) → owner_in game bytes ≡ Some me → AreWellFormed game me (read_log game bytes).entries
+
+-- a frame that was got fits its fields, and is bytes
+abbrev pub GotFrameFits : Entry → Type 0
+GotFrameFits (Chose t m n) = Unit {0}
+GotFrameFits (Made f) = Unit {0}
+GotFrameFits (Got q f) = FitsFrame f × AreBytes (frame_bytes f)
+
+-- every frame that is read of bytes as one that was got does
+abbrev pub GotFramesFit : Type 0
+GotFramesFit = (game : Game) (bytes : List ℕ) → AreBytes bytes → EachIs GotFrameFits (read_log game bytes).entries

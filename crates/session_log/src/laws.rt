@@ -1,6 +1,6 @@
 //! Laws of logs: functions that do nothing, whose clauses are proved.
 
-ghost use Rattle.session_log.specs.Laws.{EntriesAreRead, EntriesAreSpelled, WritersWriteLogs, LogsAreRead, LogsEndSo, LogPiecesDoNotMatter};
+ghost use Rattle.session_log.specs.Laws.{EntriesAreRead, EntriesAreSpelled, WritersWriteLogs, LogsAreRead, LogsEndSo, LogPiecesDoNotMatter, GotFramesFit, ReadEntriesAreWellFormed};
 
 /// An entry is read from its text, and an entry that is read has the text.
 pub fn entries_are_read()
@@ -26,4 +26,14 @@ pub fn logs_are_read()
 /// the owner is their first byte where that is a player's.
 pub fn log_pieces_do_not_matter()
     ensures { LogPiecesDoNotMatter }
+{}
+
+/// What is read of a log before its first fault, whatever its bytes, is what its owner may have written, honest or not.
+pub fn read_entries_are_well_formed()
+    ensures { ReadEntriesAreWellFormed }
+{}
+
+/// Each frame that is read of a log as one that was got fits its fields.
+pub fn got_frames_fit()
+    ensures { GotFramesFit }
 {}

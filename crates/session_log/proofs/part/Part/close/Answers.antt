@@ -1,10 +1,10 @@
-use Rattle.std.proofs.Common.{◌∙◌, arith}
-use Rattle.session_log.proofs.Parts.{has_come, next_held, not_chained, read_whole, too_long}
+use Rattle.std.proofs.Common.{◌∙◌, false, arith}
+use Rattle.session_log.proofs.Parts.{by_digest, has_come, next_held, read_whole, too_long}
 use Rattle.session_log.proofs.part.Part.close.Goals as goal
 
 pub returns-then-not-same_digest-clause-found : goal.returns-then-not-same_digest-clause-found
 returns-then-not-same_digest-clause-found c = λ chain held part.
-    not_chained c.args.session.now c.args.owner c.args.self.now c.hash_anew-hash.new.self chain held c.hash_anew-hash.result c.same_digest.result
+    by_digest c.args.session.now c.args.owner c.args.self.now c.hash_anew-hash.new.self chain held c.hash_anew-hash.result c.same_digest.result false
     (has_come c.args.session.now c.args.owner c.args.self.now chain held (omega arith) c.requires part)
     (record { hashed = c.hash_anew-hash.ensures.hash; others = c.hash_anew-hash.ensures.others; compared = c.same_digest.ensures }) c.if-not-same_digest.true
 
