@@ -1,6 +1,6 @@
 //! An exhibit is judged.
 
-ghost use Rattle.std.specs.Prelude.{◌≡◌, Ok};
+ghost use Rattle.std.specs.Prelude.{◌≡◌, Ok, false};
 ghost use Rattle.run_frame.specs.Frame.{Ran};
 ghost use Rattle.judge_command.specs.Judge.{judge_answer, verdict_answer};
 
@@ -14,7 +14,7 @@ use std::alloc::Global;
 
 /// Tells whether the frames show what they are to show.
 fn tell<O: Sink>(shown: bool, out: &mut O) -> Status
-    ensures { Ran (O.state out.old) (O.state out.new) (verdict_answer shown) ⊥ ⊥ result }
+    ensures { Ran (O.state out.old) (O.state out.new) (verdict_answer shown) false ⊥ ⊥ result }
 {
     let text: &[u8] = if shown { b"yes\n" } else { b"no\n" };
     match put(out, text) {
@@ -30,7 +30,7 @@ pub fn judge_exhibit<O: Sink>(
     exhibit: &Exhibit,
     out: &mut O,
 ) -> Status
-    ensures { Ran (O.state out.old) (O.state out.new) (judge_answer (Ok (session.now, exhibit.now))) ⊥ ⊥ result }
+    ensures { Ran (O.state out.old) (O.state out.new) (judge_answer (Ok (session.now, exhibit.now))) false ⊥ ⊥ result }
 {
     let Ok(mut walker) = Walker::new(alloc, session.grid()) else {
         return Status::NoMemory;

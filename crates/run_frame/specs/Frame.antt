@@ -31,13 +31,24 @@ Ends before now due NoMemory = ⊥
 Ends before now due OutputFault = CutShort before now due.body
 Ends before now due status = (now ≡ after_bytes before due.body) × (status ≡ due.status)
 
+-- What may have been written of this text where memory is wanting: nothing, where all memory is taken before the first byte; else a
+-- front of it. `late` says that memory is taken behind the first byte too.
+abbrev pub MayBeFront : (late : Bool) → (text front : List ℕ) → Type 0
+MayBeFront false text front = front ≡ []
+MayBeFront true text front = (rest : List ℕ) × (text ≡ front ++ rest)
+
+-- Memory was wanting: what may have been written then was written.
+abbrev pub Lacked : (late : Bool) → (before now : SinkState) → (text : List ℕ) → Type 0
+Lacked false before now text = now ≡ before
+Lacked true before now text = (front : List ℕ) × MayBeFront true text front × (now ≡ after_bytes before front)
+
 -- A command has ended with this status, but for the line of a refusal. Before its first byte memory may be wanting, or the
--- shelf may fail: nothing is written in either case. `source` and `shelf` say that they failed.
-abbrev pub Ran : (before now : SinkState) → Answer → (source shelf : Type 0) → Status → Type 0
-Ran before now due source shelf NoMemory = now ≡ before
-Ran before now due source shelf InputFault = (shelf × (now ≡ before)) ⊎ (source × (InputFault ≡ due.status) × (now ≡ after_bytes before due.body))
-Ran before now due source shelf OutputFault = CutShort before now due.body
-Ran before now due source shelf status = (now ≡ after_bytes before due.body) × (status ≡ due.status)
+-- shelf may fail: nothing is written in either case, unless memory is taken late. `source` and `shelf` say that they failed.
+abbrev pub Ran : (before now : SinkState) → Answer → (late : Bool) → (source shelf : Type 0) → Status → Type 0
+Ran before now due late source shelf NoMemory = Lacked late before now due.body
+Ran before now due late source shelf InputFault = (shelf × (now ≡ before)) ⊎ (source × (InputFault ≡ due.status) × (now ≡ after_bytes before due.body))
+Ran before now due late source shelf OutputFault = CutShort before now due.body
+Ran before now due late source shelf status = (now ≡ after_bytes before due.body) × (status ≡ due.status)
 
 -- whether the status tells of a fault of the source or the shelf
 abbrev pub is_input_fault : Status → Bool

@@ -1,6 +1,6 @@
 //! A session's text in version 2.
 
-ghost use Rattle.std.specs.Prelude.{◌≡◌, IfOk, Ok};
+ghost use Rattle.std.specs.Prelude.{◌≡◌, IfOk, Ok, false};
 ghost use Rattle.grid_world.specs.Text as T;
 ghost use Rattle.run_frame.specs.Frame.{Ran};
 ghost use Rattle.upgrade_command.specs.Upgrade.{upgrade_answer};
@@ -21,7 +21,7 @@ fn upgraded_text(alloc: Global, session: &Session) -> Result<Vec<u8>, AllocError
 
 /// Prints the session's text in version 2. Nothing is written where memory is wanting.
 pub fn upgrade<O: Sink>(alloc: Global, session: &Session, out: &mut O) -> Status
-    ensures { Ran (O.state out.old) (O.state out.new) (upgrade_answer (Ok session.now)) ⊥ ⊥ result }
+    ensures { Ran (O.state out.old) (O.state out.new) (upgrade_answer (Ok session.now)) false ⊥ ⊥ result }
 {
     let Ok(text) = upgraded_text(alloc, session) else {
         return Status::NoMemory;
