@@ -1,5 +1,5 @@
 -- Audits: for which logs an auditor stands.
-use Rattle.std.specs.Prelude.{◌≡◌, ℕ, Bool, true, List, Option, None, Some, length, map, slice_get, slice_index, ◌==◌}
+use Rattle.std.specs.Prelude.{◌≡◌, ℕ, ◌-◌, Bool, true, List, [], ◌++◌, Option, None, Some, length, map, replicate, slice_get, slice_index, ◌==◌}
 use Rattle.definitions.specs.declared.logs.Entry.{Entry}
 use Rattle.definitions.specs.declared.logs.Entry.TheVariants.{Chose, Made, Got}
 use Rattle.definitions.specs.World.{Game}
@@ -33,6 +33,10 @@ crossed (Got q f) = Made f
 abbrev pub crossed_logs : List (List Entry) → List (List Entry)
 crossed_logs logs = map (map crossed) logs
 
+-- the logs, and as many empty ones behind them
+abbrev pub padded : List (List Entry) → ℕ → List (List Entry)
+padded logs k = logs ++ replicate k []
+
 -- the auditor is of this session, and what it keeps stands for these logs
 pub record IsAuditOf (game : Game) (logs : List (List Entry)) (a : Auditor) : Type 0 where
   pub session : a.session ≡ game
@@ -40,3 +44,9 @@ pub record IsAuditOf (game : Game) (logs : List (List Entry)) (a : Auditor) : Ty
   pub index : IsIndex game logs a.index
   pub made : IsIndex game (crossed_logs logs) a.made
   pub counted : (i : ℕ) (h : List Entry) → slice_get logs i ≡ Some h → slice_get a.counts i ≡ Some (length h)
+
+-- the auditor is of this session, and stands for these logs, each of this owner if one is known, and for no others
+pub record StandsFor (game : Game) (owners : List (Option ℕ)) (logs : List (List Entry)) (a : Auditor) : Type 0 where
+  pub audit : IsAuditOf game (padded logs (MOST_LOGS - length logs)) a
+  pub owners_are : (i : ℕ) → owner_in a i ≡ item_or owners i None
+  pub each : length owners ≡ length logs

@@ -29,8 +29,8 @@ enum PieceTurn {
     Fault(FrontFault),
 }
 
-/// A buffer for pieces.
-fn buffer(alloc: Global) -> Result<Vec<u8>, AllocError>
+/// A buffer for pieces of files, of 65,536 bytes. An error comes where memory is wanting.
+pub fn piece_buffer(alloc: Global) -> Result<Vec<u8>, AllocError>
     ensures { IfOk result (λ buf. 0 < length buf.items) }
 {
     vec![in alloc; 0u8; CHUNK]
@@ -62,7 +62,7 @@ pub fn read_front<H: Shelf>(
     ensures { ReadsFront (H.state shelf.old) (H.state shelf.new) name.now limit (front_bytes (λ text. text.items) result) }
 {
     let mut text = Vec::new(alloc);
-    let Ok(mut chunk) = buffer(alloc) else {
+    let Ok(mut chunk) = piece_buffer(alloc) else {
         return Err(FrontFault::NoMemory);
     };
     'chunks: while text.len() < limit {

@@ -13,6 +13,6 @@ pub mod lines;
 pub mod texts;
 
 pub use bytes::{ByteReader, NextByte};
-pub use fronts::{FrontFault, read_front};
+pub use fronts::{FrontFault, piece_buffer, read_front};
 pub use lines::{LineReader, NextLine};
 pub use texts::{Written, put};

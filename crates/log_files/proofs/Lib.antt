@@ -1,3 +1,4 @@
 pub mod Calls
 pub mod Reached
 pub mod Ended
+pub mod OneMore

@@ -1,3 +1,4 @@
 pub mod Logs
 pub mod Pieces
 pub mod Taken
+pub mod Several
