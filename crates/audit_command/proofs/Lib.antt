@@ -1,4 +1,5 @@
 mod Players
 mod Reported
 mod Printed
-mod Told
+mod Padded
+pub mod Told

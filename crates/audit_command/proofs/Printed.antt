@@ -1,5 +1,7 @@
 -- Printed: a text that is written piece by piece, where memory may be wanting before a piece.
-use Rattle.std.proofs.Common.{◌≡◌, ℕ, zero, suc, ◌+◌, ◌<◌, List, [], ◌∷◌, ◌++◌, length, drop, drop-cons, get_or, ap, sym, arith, refl, subst, ◌∙◌}
+use Rattle.std.proofs.Common.{◌≡◌, ℕ, zero, suc, ◌+◌, ◌<◌, List, [], ◌∷◌, ◌++◌, length, drop, take, drop-cons, get_or, true, ap, append_assoc, sym, arith, refl, subst, ◌∙◌}
+use Rattle.std.proofs.lemmas.List.{take-append-drop, take-append-le}
+use Rattle.std.proofs.Math.Seq.{drop-append_seam, take-append_seam}
 use Rattle.definitions.specs.declared.findings.Kind.TheVariants.{TwoCommits}
 use Rattle.definitions.specs.Lists.{EachIs}
 use Rattle.std.specs.Prelude.{Result, Err}
@@ -9,10 +11,10 @@ use Rattle.definitions.specs.World.{Game}
 use Rattle.station.specs.Sinks.{SinkState, after_bytes}
 use Rattle.line_io.specs.Texts.{Puts, Underway}
 use Rattle.line_io.specs.declared.texts.Written.{Written}
-use Rattle.run_frame.specs.Frame.{Answer}
+use Rattle.run_frame.specs.Frame.{Answer, Lacked, Ran}
 use Rattle.line_io.proofs.Writing.{bytes_both, underway_on}
 use Rattle.audit_command.specs.Audit.{all_found_text, found_text, status_by}
-use Rattle.audit_command.specs.Audits.{Audits, IsBegun, Prints}
+use Rattle.audit_command.specs.Printing.{IsBegun, Prints}
 
 -- nothing is written yet
 pub begun_none : (s : SinkState) (text : List ℕ) → IsBegun s s text
@@ -29,6 +31,22 @@ begun_on a b c text rest piece more u e w =
       longer = u.longer;
       whole = sym (bytes_both c rest more) ∙ ap (λ s. after_bytes s more) u.whole ∙ bytes_both b t more;
     }
+
+-- what was written of it is a front of it
+pub begun_lacked : (before now : SinkState) (text : List ℕ) → IsBegun before now text → Lacked true before now text
+begun_lacked before now text (rest, u) =
+    let n : ℕ = length before.held in
+    let front : List ℕ = drop n now.held in
+    let whole : now.held ++ rest ≡ before.held ++ text = ap (λ (s : SinkState). s.held) u.whole in
+    let begins : take n now.held ≡ before.held = sym (take-append-le n now.held rest u.longer) ∙ ap (take n) whole ∙ take-append_seam before.held text in
+    let held : now.held ≡ before.held ++ front = sym (take-append-drop n now.held) ∙ ap (λ x. x ++ front) begins in
+    let goes_on : before.held ++ (front ++ rest) ≡ before.held ++ text = sym (append_assoc before.held front rest) ∙ ap (λ x. x ++ rest) (sym held) ∙ whole in
+    let parts : text ≡ front ++ rest = sym (drop-append_seam before.held text) ∙ ap (drop n) (sym goes_on) ∙ drop-append_seam before.held (front ++ rest) in (
+      front,
+      (rest, parts),
+      ap (λ h. let s : SinkState = record { held = h; faults = now.faults } in s) held ∙
+          ap (λ f. let s : SinkState = record { held = before.held ++ front; faults = f } in s) (ap (λ (s : SinkState). s.faults) u.whole),
+    )
 
 -- what stands past the end of a list of findings
 abbrev pub no_finding : Finding
@@ -56,7 +74,7 @@ unfolding all_found_text
 found_none game logs = refl
 
 -- the command's end, by the findings
-pub ended : (before now : SinkState) (due : Answer) (fs : List Finding) → now ≡ after_bytes before due.body → status_by fs ≡ due.status → Audits before now due (status_by fs)
+pub ended : (before now : SinkState) (due : Answer) (fs : List Finding) → now ≡ after_bytes before due.body → status_by fs ≡ due.status → Ran before now due true ⊥ ⊥ (status_by fs)
 ended before now due [] e s = (e, s)
 ended before now due (f ∷ fs) e s = (e, s)
 

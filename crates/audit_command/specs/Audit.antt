@@ -1,7 +1,8 @@
 -- Audit: what is written of the logs of a session, by the session, the owners and the logs alone.
-use Rattle.std.specs.Prelude.{ℕ, Bool, List, [], ◌∷◌, ◌++◌, Option, flat_map, is_some, if◌then◌else◌}
+use Rattle.std.specs.Prelude.{◌≡◌, ℕ, Bool, false, List, [], ◌∷◌, ◌++◌, Option, flat_map, is_some, if◌then◌else◌}
 use Rattle.definitions.specs.declared.logs.Entry.{Entry}
 use Rattle.definitions.specs.declared.findings.Finding.{Finding}
+use Rattle.definitions.specs.Lists.{is_empty}
 use Rattle.definitions.specs.World.{Game, players_of}
 use Rattle.definitions.specs.Findings.{findings}
 use Rattle.evidence.specs.declared.exhibit.Exhibit.{Exhibit}
@@ -14,7 +15,7 @@ use Rattle.auditor.specs.Reports.{agreed_by, found_in, world_by}
 use Rattle.report_lines.specs.Lines.{end_line_text}
 use Rattle.run_frame.specs.Frame.{Answer}
 use Rattle.run_frame.specs.declared.statuses.Status.{Status}
-use Rattle.run_frame.specs.declared.statuses.Status.TheVariants.{Caught, Done}
+use Rattle.run_frame.specs.declared.statuses.Status.TheVariants.{Caught, Done, NoMemory, OutputFault}
 use Rattle.audit_command.specs.Lines.{agreed_lines, finding_line, no_world_line, world_lines}
 
 -- the exhibit of a finding in the logs
@@ -63,3 +64,11 @@ audit_answer game owners logs = record { body = audit_text game owners logs; sta
 -- what is written by a report of the logs
 abbrev pub report_text : Game → List (List Entry) → Report → List ℕ
 report_text game logs r = all_found_text game logs (found_in r) ++ rest_text game (agreed_by r) (is_some (world_by r 0)) (world_by r)
+
+-- Why a run that has logs may end so: by the findings. Want of memory and faults have their causes outside.
+abbrev pub AuditCause : List Finding → Status → Type 0
+AuditCause fs Caught = is_empty fs ≡ false
+AuditCause fs Done = fs ≡ []
+AuditCause fs NoMemory = Unit {0}
+AuditCause fs OutputFault = Unit {0}
+AuditCause fs status = ⊥

@@ -85,3 +85,10 @@ DifferentMovesAreTold = (game : Game) (owners : List (Option ℕ)) (logs : List 
     IsSession game → EachIs (IsLogOf game) logs → AllFitText logs → q < players_of game →
     slice_get logs i ≡ Some g → slice_get logs j ≡ Some h → slice_get (got_known game q g).moves t ≡ Some m → slice_get (got_known game q h).moves t ≡ Some k →
     (m ≡ k → ⊥) → TellsTwoFaces game owners logs q t
+
+-- What is behind the text of an audit of these logs: it shows two faces of each player of whom two of the logs resolve one turn by
+-- different moves.
+pub record TellsAudit (game : Game) (owners : List (Option ℕ)) (logs : List (List Entry)) (text : List ℕ) : Type 0 where
+  pub text_is : text ≡ audit_text game owners logs
+  pub faces : (i j q t : ℕ) (g h : List Entry) (m k : Move) → q < players_of game → slice_get logs i ≡ Some g → slice_get logs j ≡ Some h →
+      slice_get (got_known game q g).moves t ≡ Some m → slice_get (got_known game q h).moves t ≡ Some k → (m ≡ k → ⊥) → TellsTwoFaces game owners logs q t

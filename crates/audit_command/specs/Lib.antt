@@ -1,5 +1,5 @@
 pub mod Words
 pub mod Lines
 pub mod Audit
-pub mod Audits
+pub mod Printing
 pub mod Laws

@@ -1,11 +1,11 @@
 //! What the logs of a session show is printed.
 
-ghost use Rattle.std.specs.Prelude.{◌≡◌, List};
+ghost use Rattle.std.specs.Prelude.{◌≡◌, ℕ, List, Option, true};
 ghost use Rattle.definitions.specs.declared.logs.Entry.{Entry};
 ghost use Rattle.auditor.specs.Agreed.{AreOwned};
-ghost use Rattle.auditor.specs.Audits.{IsAuditOf};
+ghost use Rattle.auditor.specs.Audits.{StandsFor};
 ghost use Rattle.audit_command.specs.Audit as A;
-ghost use Rattle.audit_command.specs.Audits.{Audits};
+ghost use Rattle.run_frame.specs.Frame.{Ran};
 
 use crate::printing::put_report;
 use auditor::Auditor;
@@ -38,7 +38,7 @@ pub fn put_audit<O: Sink>(
     session: &Session,
     out: &mut O,
 ) -> Status
-    ensures { (logs : List (List Entry)) → IsAuditOf session.now logs auditor.now → AreOwned session.now auditor.now.owners logs → Audits (O.state out.old) (O.state out.new) (A.audit_answer session.now auditor.now.owners logs) result }
+    ensures { (owners : List (Option ℕ)) (logs : List (List Entry)) → StandsFor session.now owners logs auditor.now → AreOwned session.now owners logs → Ran (O.state out.old) (O.state out.new) (A.audit_answer session.now owners logs) true ⊥ ⊥ result }
 {
     session.facts();
     let Ok(report) = auditor.report(alloc) else {

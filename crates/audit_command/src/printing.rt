@@ -12,7 +12,7 @@ ghost use Rattle.auditor.specs.Audits.{IsAuditOf};
 ghost use Rattle.auditor.specs.Reports.{agreed_by, found_in, world_by};
 ghost use Rattle.audit_command.specs.Lines as L;
 ghost use Rattle.audit_command.specs.Audit as A;
-ghost use Rattle.audit_command.specs.Audits.{Prints};
+ghost use Rattle.audit_command.specs.Printing.{Prints};
 
 use crate::lines::{agreed_line, finding_line, world_line};
 use auditor::{Auditor, Report};

@@ -1,5 +1,5 @@
 -- Alone: a run of a command that leaves its input alone.
-use Rattle.std.proofs.Common.{◌≡◌, inl, inr, [], Some, refl, ap, sym, ◌∙◌, subst}
+use Rattle.std.proofs.Common.{◌≡◌, inl, inr, ℕ, Bool, false, true, List, [], Some, refl, ap, sym, ◌∙◌, subst}
 use Rattle.station.specs.Outside.{Rose, faults_behind}
 use Rattle.station.specs.Shelves.{ShelfState}
 use Rattle.station.specs.Since.{grows_none}
@@ -7,11 +7,11 @@ use Rattle.station.specs.Sinks.{SinkState, after_bytes}
 use Rattle.station.specs.Sources.{SourceState}
 use Rattle.line_io.specs.Inputs.{AtEnd, Input, input_of}
 use Rattle.line_io.proofs.Writing.{bytes_none}
-use Rattle.run_frame.specs.Frame.{Answer, OnDone, Ran, bare_answer, is_input_fault}
+use Rattle.run_frame.specs.Frame.{Answer, Lacked, OnDone, Ran, bare_answer, is_input_fault}
 use Rattle.run_frame.specs.declared.statuses.Status.{Status}
-use Rattle.run_frame.specs.declared.statuses.Status.TheVariants.{BadLine, BadSession, Done, InputFault, NoMemory, OutputFault}
-use Rattle.peer_cli.specs.Commands.{ReadsFor, ReadsThrough, answer_of}
-use Rattle.peer_cli.specs.Files.{AreContents, Calls, Contents}
+use Rattle.run_frame.specs.declared.statuses.Status.TheVariants.{BadLine, BadLog, BadSession, Done, InputFault, NoMemory, OutputFault}
+use Rattle.peer_cli.specs.Commands.{ReadsFor, ReadsThrough, answer_of, takes_late}
+use Rattle.line_io.specs.Files.{AreContents, Calls, Contents}
 use Rattle.peer_cli.specs.Outside.{CountsFaults}
 use Rattle.peer_cli.specs.Runs.{Works}
 use Rattle.peer_cli.specs.Words.{Command}
@@ -24,12 +24,21 @@ on_done Done = tt
 on_done s = tt
 
 -- where neither the source nor the shelf can have failed, it is as if they could
-ran_weaker : (a b : SinkState) (due : Answer) (source shelf : Type 0) (s : Status) → Ran a b due ⊥ ⊥ s → Ran a b due source shelf s
-ran_weaker a b due source shelf NoMemory r = r
-ran_weaker a b due source shelf InputFault (inl r) = absurd r.0
-ran_weaker a b due source shelf InputFault (inr r) = absurd r.0
-ran_weaker a b due source shelf OutputFault r = r
-ran_weaker a b due source shelf s r = r
+ran_weaker : (a b : SinkState) (due : Answer) (late : Bool) (source shelf : Type 0) (s : Status) → Ran a b due late ⊥ ⊥ s → Ran a b due late source shelf s
+ran_weaker a b due late source shelf NoMemory r = r
+ran_weaker a b due late source shelf InputFault (inl r) = absurd r.0
+ran_weaker a b due late source shelf InputFault (inr r) = absurd r.0
+ran_weaker a b due late source shelf OutputFault r = r
+ran_weaker a b due late source shelf s r = r
+
+-- want of memory is no fault of the sink, and where nothing is written yet nothing was
+lacked_counts : (late : Bool) (a b : SinkState) (text : List ℕ) → Lacked late a b text → b.faults ≡ a.faults
+lacked_counts false a b text l = ap (λ (s : SinkState). s.faults) l
+lacked_counts true a b text l = ap (λ (s : SinkState). s.faults) l.2
+
+lacked_none : (late : Bool) (a : SinkState) (text : List ℕ) → Lacked late a a text
+lacked_none false a text = refl
+lacked_none true a text = ([], (text, refl), sym (bytes_none a))
 
 -- The answer is this refusal, which is told before anything is written; of want of memory and of a fault of the shelf nothing is said.
 abbrev pub IsRefused : Answer → Status → Type 0
@@ -37,23 +46,25 @@ IsRefused due NoMemory = Unit {0}
 IsRefused due InputFault = Unit {0}
 IsRefused due (BadSession line what) = due ≡ bare_answer (BadSession line what)
 IsRefused due (BadLine text line) = due ≡ bare_answer (BadLine text line)
+IsRefused due (BadLog log at why) = due ≡ bare_answer (BadLog log at why)
 IsRefused due status = ⊥
 
 module _ (i : SourceState) (a b : SinkState) (h h' : ShelfState) where
-  ran_counts : (due : Answer) (s : Status) → h'.faults ≡ h.faults → Ran a b due ⊥ ⊥ s →
+  ran_counts : (due : Answer) (late : Bool) (s : Status) → h'.faults ≡ h.faults → Ran a b due late ⊥ ⊥ s →
       CountsFaults (record { input = i; output = a; shelf = h }) (record { input = i; output = b; shelf = h' }) s
-  ran_counts due NoMemory f r = (record { source = refl; files = f }, ap (λ (s : SinkState). s.faults) r)
-  ran_counts due InputFault f (inl r) = absurd r.0
-  ran_counts due InputFault f (inr r) = absurd r.0
-  ran_counts due OutputFault f r = (inl (record { source = refl; files = f }), r.rose)
-  ran_counts due s f r = (record { source = refl; files = f }, ap (λ (s : SinkState). s.faults) r.0)
+  ran_counts due late NoMemory f r = (record { source = refl; files = f }, lacked_counts late a b due.body r)
+  ran_counts due late InputFault f (inl r) = absurd r.0
+  ran_counts due late InputFault f (inr r) = absurd r.0
+  ran_counts due late OutputFault f r = (inl (record { source = refl; files = f }), r.rose)
+  ran_counts due late s f r = (record { source = refl; files = f }, ap (λ (s : SinkState). s.faults) r.0)
 
-  refused_ran : (due : Answer) (source shelf : Type 0) (s : Status) → IsRefused due s → (s ≡ InputFault → shelf) → Ran a a due source shelf s
-  refused_ran due source shelf NoMemory d c = refl
-  refused_ran due source shelf InputFault d c = inl (c refl, refl)
-  refused_ran due source shelf (BadSession line what) d c = (sym (bytes_none a) ∙ ap (λ (x : Answer). after_bytes a x.body) (sym d), ap (λ (x : Answer). x.status) (sym d))
-  refused_ran due source shelf (BadLine text line) d c = (sym (bytes_none a) ∙ ap (λ (x : Answer). after_bytes a x.body) (sym d), ap (λ (x : Answer). x.status) (sym d))
-  refused_ran due source shelf s d c = absurd d
+  refused_ran : (due : Answer) (late : Bool) (source shelf : Type 0) (s : Status) → IsRefused due s → (s ≡ InputFault → shelf) → Ran a a due late source shelf s
+  refused_ran due late source shelf NoMemory d c = lacked_none late a due.body
+  refused_ran due late source shelf InputFault d c = inl (c refl, refl)
+  refused_ran due late source shelf (BadSession line what) d c = (sym (bytes_none a) ∙ ap (λ (x : Answer). after_bytes a x.body) (sym d), ap (λ (x : Answer). x.status) (sym d))
+  refused_ran due late source shelf (BadLine text line) d c = (sym (bytes_none a) ∙ ap (λ (x : Answer). after_bytes a x.body) (sym d), ap (λ (x : Answer). x.status) (sym d))
+  refused_ran due late source shelf (BadLog log at why) d c = (sym (bytes_none a) ∙ ap (λ (x : Answer). after_bytes a x.body) (sym d), ap (λ (x : Answer). x.status) (sym d))
+  refused_ran due late source shelf s d c = absurd d
 
   refused_counts : (due : Answer) (s : Status) → IsRefused due s → h'.faults ≡ faults_behind (is_input_fault s) h.faults →
       CountsFaults (record { input = i; output = a; shelf = h }) (record { input = i; output = a; shelf = h' }) s
@@ -61,6 +72,7 @@ module _ (i : SourceState) (a b : SinkState) (h h' : ShelfState) where
   refused_counts due InputFault d e = (inr (refl, e), refl)
   refused_counts due (BadSession line what) d e = (record { source = refl; files = e }, refl)
   refused_counts due (BadLine text line) d e = (record { source = refl; files = e }, refl)
+  refused_counts due (BadLog log at why) d e = (record { source = refl; files = e }, refl)
   refused_counts due s d e = absurd d
 
 refused_done : (due : Answer) (s : Status) (P : Type 0) → IsRefused due s → OnDone s P
@@ -69,20 +81,29 @@ refused_done due s P d = tt
 
 module _ (command : Command) (i : SourceState) (a : SinkState) (h h' : ShelfState) (alone : Type 0) (left : alone) (calls : Calls) (files : ReadsFor (Some command) h h' calls) where
   -- the answer is told
-  pub told_works : (b : SinkState) (due : Answer) (s : Status) → ((contents : Contents) (input : Input) → AreContents contents calls → answer_of (Some command) contents input ≡ due) →
-      h'.faults ≡ h.faults → Ran a b due ⊥ ⊥ s → OnDone s (ReadsThrough (Some command) i.ended) →
+  pub told_works : (b : SinkState) (s : Status) → h'.faults ≡ h.faults →
+      ((contents : Contents) (input : Input) → AreContents contents calls → Ran a b (answer_of (Some command) contents input) (takes_late (Some command)) ⊥ ⊥ s) → OnDone s (ReadsThrough (Some command) i.ended) →
       Works (record { command = Some command; before = record { input = i; output = a; shelf = h }; after = record { input = i; output = b; shelf = h' } }) alone s
-  told_works b due s is f r over = record {
-    calls = calls;
-    files = files;
-    input = record { same = refl; grows = grows_none i.seen };
-    text = λ contents behind m.
-        subst (λ (d : Answer). Ran a b d (Rose i.faults i.faults) (Rose h.faults h'.faults × alone) s) (sym (is contents _ m.given)) (ran_weaker a b due (Rose i.faults i.faults) (Rose h.faults h'.faults × alone) s r);
-    usage = no_command command _;
-    faults = ran_counts i a b h h' due s f r;
-    untouched = record { over = λ contents behind m over. left; no_memory = where_no_memory s alone left };
-    over = over;
-  }
+  told_works b s f ran over =
+      let some : Contents = some_contents calls in
+      let none : Input = input_of AtEnd [] in
+      let answer : Answer = answer_of (Some command) some none in
+      record {
+        calls = calls;
+        files = files;
+        input = record { same = refl; grows = grows_none i.seen };
+        text = λ contents behind m. ran_weaker a b (answer_of (Some command) contents _) (takes_late (Some command)) _ _ s (ran contents _ m.given);
+        usage = no_command command _;
+        faults = ran_counts i a b h h' answer (takes_late (Some command)) s f (ran some none (contents_fit (Some command) h h' calls files));
+        untouched = record { over = λ contents behind m over. left; no_memory = where_no_memory s alone left };
+        over = over;
+      }
+
+  -- the answer is one that is due for all contents
+  pub told_so : (b : SinkState) (due : Answer) (s : Status) → ((contents : Contents) (input : Input) → AreContents contents calls → answer_of (Some command) contents input ≡ due) →
+      h'.faults ≡ h.faults → Ran a b due (takes_late (Some command)) ⊥ ⊥ s → OnDone s (ReadsThrough (Some command) i.ended) →
+      Works (record { command = Some command; before = record { input = i; output = a; shelf = h }; after = record { input = i; output = b; shelf = h' } }) alone s
+  told_so b due s is f r over = told_works b s f (λ contents input given. subst (λ (d : Answer). Ran a b d (takes_late (Some command)) ⊥ ⊥ s) (sym (is contents input given)) r) over
 
   -- the run is refused
   pub refused_works : (s : Status) → ((contents : Contents) (input : Input) → AreContents contents calls → IsRefused (answer_of (Some command) contents input) s) →
@@ -94,7 +115,7 @@ module _ (command : Command) (i : SourceState) (a : SinkState) (h h' : ShelfStat
         calls = calls;
         files = files;
         input = record { same = refl; grows = grows_none i.seen };
-        text = λ contents behind m. refused_ran i a a h h' _ _ _ s (is contents _ m.given) (λ e. (f ∙ ap (λ x. faults_behind x h.faults) (ap is_input_fault e), left));
+        text = λ contents behind m. refused_ran i a a h h' _ (takes_late (Some command)) _ _ s (is contents _ m.given) (λ e. (f ∙ ap (λ x. faults_behind x h.faults) (ap is_input_fault e), left));
         usage = no_command command _;
         faults = refused_counts i a a h h' _ s some f;
         untouched = record { over = λ contents behind m over. left; no_memory = where_no_memory s alone left };

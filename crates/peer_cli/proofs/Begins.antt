@@ -1,5 +1,5 @@
 -- Begins: what is written by a run that begins with a peer, or with none.
-use Rattle.std.proofs.Common.{ap, inl, inr, refl, subst, sym, ℕ, ◌∙◌, ◌≡◌}
+use Rattle.std.proofs.Common.{ap, false, inl, inr, refl, subst, sym, ℕ, ◌∙◌, ◌≡◌}
 use Rattle.std.specs.Prelude.{Err, Result}
 use Rattle.station.specs.Sinks.{SinkState, after_bytes}
 use Rattle.run_frame.specs.Frame.{Answer, Ends, OnNoMemory, Ran, bare_answer}
@@ -17,7 +17,7 @@ memory_taken P before now due NoMemory e = absurd e
 memory_taken P before now due s e = tt
 
 -- a run over its input that ended is a command that ran
-ended_ran : (source shelf : Type 0) (before now : SinkState) (due : Answer) (s : Status) → Ends before now due s → (s ≡ InputFault → source) → Ran before now due source shelf s
+ended_ran : (source shelf : Type 0) (before now : SinkState) (due : Answer) (s : Status) → Ends before now due s → (s ≡ InputFault → source) → Ran before now due false source shelf s
 ended_ran source shelf before now due NoMemory e c = absurd e
 ended_ran source shelf before now due InputFault e c = inr (c refl, e.1, e.0)
 ended_ran source shelf before now due OutputFault e c = e
@@ -26,12 +26,12 @@ ended_ran source shelf before now due s e c = e
 -- a run that begins with this peer
 pub begun_ran : (source shelf : Type 0) (before now : SinkState) (s : Status) (player : ℕ) (due : Result Beginning Status) (r : Resumed) (input : Input) → IsPeerFor player due r →
     Ends before now (begun_answer r.peer.me (record { game = r.peer.game; first = r.peer.entries; dropped = r.dropped }) input) s → (s ≡ InputFault → source) →
-    Ran before now (drive_answer player due input) source shelf s
+    Ran before now (drive_answer player due input) false source shelf s
 begun_ran source shelf before now s player due r input p e c =
     let b : Beginning = record { game = r.peer.game; first = r.peer.entries; dropped = r.dropped } in
     let same : drive_answer player due input ≡ begun_answer r.peer.me b input =
     ap (λ (d : Result Beginning Status). drive_answer player d input) p.due_is ∙ ap (λ me. begun_answer me b input) (sym p.player_is) in
-    subst (λ (a : Answer). Ran before now a source shelf s) (sym same) (ended_ran source shelf before now _ s e c)
+    subst (λ (a : Answer). Ran before now a false source shelf s) (sym same) (ended_ran source shelf before now _ s e c)
 
 -- a run that begins with none
 module _ (source shelf : Type 0) (held : SinkState) (player : ℕ) (due : Result Beginning Status) (input : Input) where
@@ -40,7 +40,7 @@ module _ (source shelf : Type 0) (held : SinkState) (player : ℕ) (due : Result
       let same : drive_answer player due input ≡ bare_answer s = ap (λ (d : Result Beginning Status). drive_answer player d input) e in
       (sym (bytes_none held) ∙ ap (λ (a : Answer). after_bytes held a.body) (sym same), ap (λ (a : Answer). a.status) (sym same))
 
-  pub unbegun_ran : (s : Status) → IsStartFor player due (Err s) → (s ≡ InputFault → shelf) → Ran held held (drive_answer player due input) source shelf s
+  pub unbegun_ran : (s : Status) → IsStartFor player due (Err s) → (s ≡ InputFault → shelf) → Ran held held (drive_answer player due input) false source shelf s
   unbegun_ran NoMemory d c = refl
   unbegun_ran InputFault d c = inl (c refl, refl)
   unbegun_ran Usage d c = bare_ran Usage d

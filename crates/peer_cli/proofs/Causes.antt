@@ -1,6 +1,6 @@
 -- Causes: each status has its cause, and each answer what it means.
 use Rattle.std.proofs.Common.{Bool, List, [], ◌∷◌, None, Option, Some, ap, arith, false, inl, inr, refl, subst, sym, true, ℕ, ◌∙◌, ◌≡◌, ◌≤◌, ◌⊎◌}
-use Rattle.std.specs.Prelude.{Err, Ok, Result, nat_lt, option_map, if◌then◌else◌}
+use Rattle.std.specs.Prelude.{Err, Ok, Result, length, nat_lt, option_map, if◌then◌else◌}
 use Rattle.std.proofs.lemmas.Bool.{lt-ltb, ltb-true}
 use Rattle.station.specs.Outside.{Rose}
 use Rattle.station.specs.Sinks.{SinkState}
@@ -30,13 +30,21 @@ use Rattle.evidence.specs.declared.exhibit.Exhibit.{Exhibit}
 use Rattle.evidence.specs.Reading.{exhibit_at}
 use Rattle.judge_command.specs.Judge.{JudgeCause, is_shown, judge_answer, verdict_answer}
 use Rattle.judge_command.specs.Words.{Judging}
+use Rattle.definitions.specs.declared.findings.Finding.{Finding}
+use Rattle.definitions.specs.Findings.{findings}
+use Rattle.definitions.specs.Lists.{is_empty}
+use Rattle.audit_command.specs.Audit.{audit_answer, status_by}
+use Rattle.audit_command.specs.Words.{Auditing}
+use Rattle.log_files.specs.Several.{LogFault, behind_first, first_fault, logs_in, owners_in}
+use Rattle.peer_cli.specs.Audits.{audit_by, audit_for}
 use Rattle.peer_cli.specs.Exhibits.{case_for, evidence_front_of, exhibit_by, exhibit_in, with_exhibit}
-use Rattle.peer_cli.specs.Causes.{HasCause, IsCase, IsGood, IsMeant, IsSeated, IsSet}
+use Rattle.peer_cli.specs.Causes.{AreAudited, HasCause, IsCase, IsGood, IsMeant, IsSeated, IsSet}
 use Rattle.peer_cli.specs.Commands.{answer_of, begins_with}
-use Rattle.peer_cli.specs.Files.{Contents, content}
+use Rattle.line_io.specs.Files.{Contents, content}
 use Rattle.peer_cli.specs.Games.{begun, empty_beginning, ended_by, front_of, log_front_of, old_beginning, session_in, with_old, with_player}
 use Rattle.peer_cli.specs.Outside.{CountsFaults, OneFailed, Outside}
-use Rattle.peer_cli.specs.Words.{Command, Drive, Judge, Upgrade}
+use Rattle.peer_cli.specs.Words.{Audit, Command, Drive, Judge, Upgrade}
+use Rattle.peer_cli.proofs.AuditMeant.{two_faces}
 use Rattle.peer_cli.proofs.Begun.{begun_honest}
 
 -- the answer where a run begins with this
@@ -138,12 +146,35 @@ judge_read j contents input (Ok game) f = judge_exhibit j contents input game f 
 judge_read j contents input (Err Memory) f = tt
 judge_read j contents input (Err (At line what)) f = fault_said (front_of (content contents 0)) (At line what) f
 
+-- The command to audit.
+audit_caused : (a : Auditing) (contents : Contents) (input : Input) (game : Game) → game_at (front_of (content contents 0)) ≡ Ok game → (f : Option LogFault) →
+    first_fault game (behind_first contents) 0 (length a.logs) ≡ f → HasCause (Some (Audit a)) contents input (audit_by f game (behind_first contents) (length a.logs)).status
+audit_caused a contents input game read (Some fault) e = record { game = game; read = read; fault_is = e }
+audit_caused a contents input game read None e = go (findings game (logs_in game (behind_first contents) (length a.logs))) refl
+  where
+    go : (fs : List Finding) → findings game (logs_in game (behind_first contents) (length a.logs)) ≡ fs → HasCause (Some (Audit a)) contents input (status_by fs)
+    go [] is = record { game = game; files = record { read = read; sound = e }; cause = is }
+    go (f ∷ fs) is = record { game = game; files = record { read = read; sound = e }; cause = ap is_empty is }
+
+audit_read : (a : Auditing) (contents : Contents) (input : Input) (r : Result Game SessionFault) → game_at (front_of (content contents 0)) ≡ r →
+    HasCause (Some (Audit a)) contents input (audit_for (ended_by r) (behind_first contents) (length a.logs)).status
+audit_read a contents input (Ok game) f = audit_caused a contents input game f (first_fault game (behind_first contents) 0 (length a.logs)) refl
+audit_read a contents input (Err Memory) f = tt
+audit_read a contents input (Err (At line what)) f = fault_said (front_of (content contents 0)) (At line what) f
+
+audit_answer_is : (a : Auditing) (contents : Contents) (game : Game) → AreAudited contents (length a.logs) game →
+    audit_for (session_in (content contents 0)) (behind_first contents) (length a.logs) ≡ audit_answer game (owners_in game (behind_first contents) (length a.logs)) (logs_in game (behind_first contents) (length a.logs))
+audit_answer_is a contents game is =
+    ap (λ (r : Result Game SessionFault). audit_for (ended_by r) (behind_first contents) (length a.logs)) is.read ∙
+    ap (λ (f : Option LogFault). audit_by f game (behind_first contents) (length a.logs)) is.sound
+
 -- Each command.
 pub caused : (command : Option Command) (contents : Contents) (input : Input) → ending_of input ≡ AtEnd → HasCause command contents input (answer_of command contents input).status
 caused None contents input ends = tt
 caused (Some (Drive d)) contents input ends = read d contents input ends (game_at (front_of (content contents 0))) refl
 caused (Some (Upgrade session)) contents input ends = upgrade_read session contents input (game_at (front_of (content contents 0))) refl
 caused (Some (Judge j)) contents input ends = judge_read j contents input (game_at (front_of (content contents 0))) refl
+caused (Some (Audit a)) contents input ends = audit_read a contents input (game_at (front_of (content contents 0))) refl
 
 -- where all is good, the end of the command is due
 pub good_done : (command : Option Command) (contents : Contents) (input : Input) → ending_of input ≡ AtEnd → IsGood command contents input → (answer_of command contents input).status ≡ Done
@@ -152,6 +183,7 @@ good_done (Some (Drive d)) contents input ends (b, set, played) =
     ap (λ (a : Answer). a.status) (set_answer d contents input b set) ∙ drive_done d.player b input ends played
 good_done (Some (Upgrade session)) contents input ends good = ap (λ (a : Answer). a.status) (upgrade_answer_is contents good.game good.read)
 good_done (Some (Judge j)) contents input ends (case, is, none) = ap (λ (a : Answer). a.status) (case_answer contents case is) ∙ ap (λ (b : Bool). (verdict_answer b).status) none
+good_done (Some (Audit a)) contents input ends (game, is, none) = ap (λ (x : Answer). x.status) (audit_answer_is a contents game is) ∙ ap status_by none
 
 -- what is behind the answer
 pub meant : (command : Option Command) (contents : Contents) (input : Input) → IsMeant command contents input
@@ -164,17 +196,21 @@ meant (Some (Drive d)) contents input = λ b set.
 meant (Some (Upgrade session)) contents input = λ game read.
     subst (λ (a : Answer). TellsUpgrade game a.body) (sym (upgrade_answer_is contents game read)) (upgrade_tells game _ (game_found _ game read))
 meant (Some (Judge j)) contents input = tt
+meant (Some (Audit a)) contents input = λ game is bytes. record {
+  text_is = ap (λ (x : Answer). x.body) (audit_answer_is a contents game is);
+  faces = two_faces game (behind_first contents) (length a.logs) (game_found _ game is.read).session bytes;
+}
 
 -- what holds of the status that is due, of want of memory and of faults holds of the status that comes
-module _ (before now : SinkState) (whole cut : Answer) (source shelf : Type 0) where
-  pub finished_cause : (P : Status → Type 0) (s : Status) → Finished before now whole cut source shelf s → P whole.status → P NoMemory → P InputFault → P OutputFault → P s
+module _ (before now : SinkState) (whole cut : Answer) (late : Bool) (source shelf : Type 0) where
+  pub finished_cause : (P : Status → Type 0) (s : Status) → Finished before now whole cut late source shelf s → P whole.status → P NoMemory → P InputFault → P OutputFault → P s
   finished_cause P NoMemory f p m i o = m
   finished_cause P InputFault f p m i o = i
   finished_cause P OutputFault f p m i o = o
   finished_cause P s f p m i o = subst P (sym f.0) p
 
   -- a run that nothing outside cuts short comes to what is due, unless memory is wanting
-  pub completed : (b a : Outside) (s : Status) → Finished before now whole cut source shelf s → CountsFaults b a s →
+  pub completed : (b a : Outside) (s : Status) → Finished before now whole cut late source shelf s → CountsFaults b a s →
       ¬ Rose b.input.faults a.input.faults → ¬ Rose b.shelf.faults a.shelf.faults → ¬ Rose b.output.faults a.output.faults → (s ≡ whole.status) ⊎ (s ≡ NoMemory)
   completed b a NoMemory f c i h o = inr refl
   completed b a InputFault f c i h o = absurd (neither c.0)

@@ -12,8 +12,8 @@ use Rattle.station.specs.Since.{since}
 use Rattle.run_frame.specs.Ends.{Finished}
 use Rattle.line_io.specs.Inputs.{AtEnd, AtFault, MayFollow, input_of}
 use Rattle.run_frame.specs.declared.statuses.Status.{Status}
-use Rattle.peer_cli.specs.Commands.{ReadsFor, answer_of, contents_of, names_of}
-use Rattle.peer_cli.specs.Files.{AreContents, AreReadings, Calls}
+use Rattle.peer_cli.specs.Commands.{ReadsFor, answer_of, contents_of, names_of, takes_late}
+use Rattle.line_io.specs.Files.{AreContents, AreReadings, Calls}
 use Rattle.peer_cli.specs.Memory.{WritesInMemory}
 use Rattle.peer_cli.specs.Runs.{ReadsOn, Runs}
 use Rattle.peer_cli.specs.Words.{Command}
@@ -61,6 +61,6 @@ ran_in_memory command i i' a b h h' s r =
       read = read;
       input_is = is;
       text = subst (λ (x : List ℕ). Finished (sink_state a) (sink_state b) (answer_of command (contents_of command (content_in h.files)) (input_of AtEnd x))
-          (answer_of command (contents_of command (content_in h.files)) (input_of AtFault read))
+          (answer_of command (contents_of command (content_in h.files)) (input_of AtFault read)) (takes_late command)
           (Rose i.plan.faults i'.plan.faults) (Rose h.plan.faults h'.plan.faults × (i' ≡ i)) s) (sym is) due;
     }

@@ -15,7 +15,8 @@ use Rattle.judge_command.specs.Judge.{judge_answer}
 use Rattle.judge_command.specs.Words.{Judging}
 use Rattle.peer_cli.specs.Commands.{ReadsFor}
 use Rattle.peer_cli.specs.Exhibits.{IsCaseDue, IsExhibitDue, exhibit_in, with_exhibit}
-use Rattle.peer_cli.specs.Files.{OpensCase, OpensExhibit, OpensSession, content}
+use Rattle.line_io.specs.Files.{content}
+use Rattle.peer_cli.specs.Files.{OpensCase, OpensExhibit, OpensSession}
 use Rattle.peer_cli.specs.Games.{IsDue, is_shelf_fault}
 use Rattle.peer_cli.specs.Words.{Judge}
 use Rattle.peer_cli.proofs.Alone.{IsRefused}

@@ -1,3 +1,4 @@
+pub mod AuditMeant
 pub mod Causes
 pub mod Begun
 pub mod Begins
@@ -8,3 +9,5 @@ pub mod InMemory
 pub mod Alone
 pub mod Upgrades
 pub mod Judged
+pub mod AuditOpened
+pub mod Rooms

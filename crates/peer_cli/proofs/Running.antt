@@ -24,8 +24,9 @@ use Rattle.run_frame.proofs.Finish.{finished}
 use Rattle.drive_command.specs.Begin.{Beginning, NeedsNoInput, begun_answer}
 use Rattle.drive_command.specs.Words.{Driving}
 use Rattle.peer_cli.specs.Causes.{HasCause}
-use Rattle.peer_cli.specs.Commands.{ReadsFor, answer_of, begins_with, names_of}
-use Rattle.peer_cli.specs.Files.{AreContents, AreReadings, Calls, Contents, OpensPeer, content, log_names}
+use Rattle.peer_cli.specs.Commands.{ReadsFor, answer_of, begins_with, names_of, takes_late}
+use Rattle.line_io.specs.Files.{AreContents, AreReadings, Calls, Contents, content}
+use Rattle.peer_cli.specs.Files.{OpensPeer, log_names}
 use Rattle.peer_cli.specs.Games.{IsStartFor}
 use Rattle.peer_cli.specs.Outside.{CountsFaults, Outside}
 use Rattle.peer_cli.specs.Runs.{MayBe, Run, Runs, Works, Writes, read_by}
@@ -142,7 +143,7 @@ module _ (command : Option Command) (before : Outside) (i' : SourceState) (mid n
 
   module _ (w : Works worked alone s) (r : Refuses mid now s result) where
     text : (contents : Contents) (behind : List ℕ) → MayBe over w.calls contents behind → Writes over alone result contents behind
-    text contents behind m = finished before.output mid now (read_by over) behind (answer_of command contents) _ _ result s (w.text contents behind (before_line m)) r
+    text contents behind m = finished before.output mid now (read_by over) behind (answer_of command contents) (takes_late command) _ _ result s (w.text contents behind (before_line m)) r
 
     faults : CountsFaults before over.after result
     faults = refused_counts before.input i' before.output mid now before.shelf h' s result r w.faults
@@ -160,7 +161,7 @@ module _ (command : Option Command) (before : Outside) (i' : SourceState) (mid n
       text = text;
       caused = record {
         cause = λ contents behind m.
-            finished_cause _ _ _ _ _ _ (HasCause command contents (input_of AtEnd (read_by over ++ behind))) result (text contents behind m) (caused command contents _ (ends_at_end (read_by over ++ behind))) tt tt tt;
+            finished_cause _ _ _ _ _ _ _ (HasCause command contents (input_of AtEnd (read_by over ++ behind))) result (text contents behind m) (caused command contents _ (ends_at_end (read_by over ++ behind))) tt tt tt;
         usage = λ e. usage_stays mid now s result r (w.usage e);
       };
       faults = faults;
@@ -170,7 +171,7 @@ module _ (command : Option Command) (before : Outside) (i' : SourceState) (mid n
       };
       complete = record {
         done = λ contents behind m good ni ns no.
-            done_or_memory _ _ (good_done command contents _ (ends_at_end (read_by over ++ behind)) good) (completed _ _ _ _ _ _ before over.after result (text contents behind m) faults ni ns no);
+            done_or_memory _ _ (good_done command contents _ (ends_at_end (read_by over ++ behind)) good) (completed _ _ _ _ _ _ _ before over.after result (text contents behind m) faults ni ns no);
         over = done_stays _ mid now s result r w.over;
       };
       meant = meant command;

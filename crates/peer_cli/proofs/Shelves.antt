@@ -16,7 +16,8 @@ use Rattle.run_frame.specs.declared.statuses.Status.TheVariants.{NoMemory, Input
 use Rattle.grid_world.specs.Reading.{game_at}
 use Rattle.definitions.specs.declared.limits.TheConstants.{EVIDENCE_FRONT, LOG_FRONT, SESSION_FRONT}
 use Rattle.peer_cli.specs.Exhibits.{evidence_front_of}
-use Rattle.peer_cli.specs.Files.{AreContents, AreReadings, BeginsPeer, Calls, Contents, FetchesLog, HasPlayer, OpensPeer, OpensSession, content, in_turn, log_names}
+use Rattle.line_io.specs.Files.{AreContents, AreReadings, Calls, Contents, content, in_turn}
+use Rattle.peer_cli.specs.Files.{BeginsPeer, FetchesLog, HasPlayer, OpensPeer, OpensSession, log_names}
 use Rattle.peer_cli.specs.Games.{IsDue, IsStartFor, ended_by, front_of, is_shelf_fault, log_front_of, with_old, with_player}
 
 -- the bytes that are read of a file, by its front

@@ -9,7 +9,8 @@ use Rattle.run_frame.specs.declared.statuses.Status.{Status}
 use Rattle.run_frame.specs.declared.statuses.Status.TheVariants.{BadSession, InputFault, NoMemory}
 use Rattle.upgrade_command.specs.Upgrade.{upgrade_answer}
 use Rattle.peer_cli.specs.Commands.{ReadsFor}
-use Rattle.peer_cli.specs.Files.{Calls, OpensSession}
+use Rattle.line_io.specs.Files.{Calls}
+use Rattle.peer_cli.specs.Files.{OpensSession}
 use Rattle.peer_cli.specs.Games.{IsDue}
 use Rattle.peer_cli.specs.Words.{Upgrade}
 use Rattle.peer_cli.proofs.Alone.{IsRefused}

@@ -1,5 +1,5 @@
 -- Causes: why the program ends as it does, status by status, and what is behind its answers.
-use Rattle.std.specs.Prelude.{◌≡◌, ℕ, ◌<◌, ◌≤◌, List, Option, Some, None, Ok, false, option_map}
+use Rattle.std.specs.Prelude.{◌≡◌, ℕ, ◌<◌, ◌≤◌, List, [], Option, Some, None, Ok, false, length, option_map}
 use Rattle.definitions.specs.declared.logs.LogWhy.{LogWhy}
 use Rattle.definitions.specs.World.{Game, players_of}
 use Rattle.line_io.specs.Inputs.{Input}
@@ -17,11 +17,17 @@ use Rattle.drive_command.specs.Causes.{DriveCause, IsPlayed}
 use Rattle.drive_command.specs.Words.{Driving}
 use Rattle.upgrade_command.specs.Upgrade.{TellsUpgrade, UpgradeCause}
 use Rattle.judge_command.specs.Judge.{JudgeCause, is_shown}
+use Rattle.definitions.specs.Findings.{findings}
+use Rattle.audit_command.specs.Audit.{AuditCause}
+use Rattle.audit_command.specs.Laws.{TellsAudit}
+use Rattle.log_files.specs.Several.{behind_first, first_fault, logs_in, owners_in}
+use Rattle.peer_cli.specs.Audits.{AreFiles}
 use Rattle.peer_cli.specs.Commands.{answer_of}
 use Rattle.peer_cli.specs.Exhibits.{evidence_front_of}
-use Rattle.peer_cli.specs.Files.{Contents, HasGame, content}
+use Rattle.line_io.specs.Files.{Contents, content}
+use Rattle.peer_cli.specs.Files.{HasGame}
 use Rattle.peer_cli.specs.Games.{begun, front_of, log_front_of}
-use Rattle.peer_cli.specs.Words.{Command, Drive, Judge, Upgrade}
+use Rattle.peer_cli.specs.Words.{Audit, Command, Drive, Judge, Upgrade}
 
 -- The session's file has this session, and the player is one of it.
 pub record IsSeated (d : Driving) (contents : Contents) (game : Game) : Type 0 where
@@ -65,6 +71,23 @@ pub record IsJudged (contents : Contents) (status : Status) : Type 0 where
   pub files : IsCase contents case
   pub cause : JudgeCause case.0 case.1 status
 
+-- The files have a session and so many logs of it.
+pub record AreAudited (contents : Contents) (many : ℕ) (game : Game) : Type 0 where
+  pub read : game_at (front_of (content contents 0)) ≡ Ok game
+  pub sound : first_fault game (behind_first contents) 0 many ≡ None
+
+-- A session is to be audited, and this is the first fault of its logs.
+pub record IsBadLog (contents : Contents) (many log at : ℕ) (why : LogWhy) : Type 0 where
+  pub game : Game
+  pub read : game_at (front_of (content contents 0)) ≡ Ok game
+  pub fault_is : first_fault game (behind_first contents) 0 many ≡ Some (record { log = log; at = at; why = why })
+
+-- The files have a session and logs, of whose findings the status tells.
+pub record IsAuditedSo (contents : Contents) (many : ℕ) (status : Status) : Type 0 where
+  pub game : Game
+  pub files : AreAudited contents many game
+  pub cause : AuditCause (findings game (logs_in game (behind_first contents) many)) status
+
 -- Why the program may end so with this command, these files and this input. Want of memory and faults have their causes outside.
 abbrev pub HasCause : Option Command → Contents → Input → Status → Type 0
 HasCause command contents input NoMemory = Unit {0}
@@ -81,6 +104,9 @@ HasCause (Some (Upgrade session)) contents input status = HasGame (content conte
 HasCause (Some (Judge j)) contents input (BadSession line what) = session_fault (front_of (content contents 0)) ≡ Some (At line what)
 HasCause (Some (Judge j)) contents input (BadLine Evidence line) = HasGame (content contents 0) × (exhibit_fault (evidence_front_of (content contents 1)) ≡ Some (text.At line))
 HasCause (Some (Judge j)) contents input status = IsJudged contents status
+HasCause (Some (Audit a)) contents input (BadSession line what) = session_fault (front_of (content contents 0)) ≡ Some (At line what)
+HasCause (Some (Audit a)) contents input (BadLog log at why) = IsBadLog contents (length a.logs) log at why
+HasCause (Some (Audit a)) contents input status = IsAuditedSo contents (length a.logs) status
 
 -- Words, files and input are such that the command can come to its end.
 abbrev pub IsGood : Option Command → Contents → Input → Type 0
@@ -88,6 +114,7 @@ IsGood None contents input = ⊥
 IsGood (Some (Drive d)) contents input = (b : Beginning) × IsSet d contents b × IsPlayed d.player b input None
 IsGood (Some (Upgrade session)) contents input = HasGame (content contents 0)
 IsGood (Some (Judge j)) contents input = (case : Game × Exhibit) × IsCase contents case × (is_shown case.0 case.1 ≡ false)
+IsGood (Some (Audit a)) contents input = (game : Game) × AreAudited contents (length a.logs) game × (findings game (logs_in game (behind_first contents) (length a.logs)) ≡ [])
 
 -- What is behind the answer.
 abbrev pub IsMeant : Option Command → Contents → Input → Type 0
@@ -95,3 +122,5 @@ IsMeant None contents input = Unit {0}
 IsMeant (Some (Drive d)) contents input = (b : Beginning) → IsSet d contents b → TellsPlay d.player b input (answer_of (Some (Drive d)) contents input).body
 IsMeant (Some (Upgrade session)) contents input = (game : Game) → game_at (front_of (content contents 0)) ≡ Ok game → TellsUpgrade game (answer_of (Some (Upgrade session)) contents input).body
 IsMeant (Some (Judge j)) contents input = Unit {0}
+IsMeant (Some (Audit a)) contents input = (game : Game) → AreAudited contents (length a.logs) game → AreFiles (behind_first contents) (length a.logs) →
+    TellsAudit game (owners_in game (behind_first contents) (length a.logs)) (logs_in game (behind_first contents) (length a.logs)) (answer_of (Some (Audit a)) contents input).body

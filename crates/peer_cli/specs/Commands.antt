@@ -1,6 +1,6 @@
 -- Commands: what a command reads of its files, what it answers to them and to its input, and when it leaves the input alone. A further
 -- command is a case of each definition here, and of `Words` and `Causes`.
-use Rattle.std.specs.Prelude.{◌≡◌, ℕ, Bool, true, List, [], ◌∷◌, map, Option, Some, None, Result, option_map}
+use Rattle.std.specs.Prelude.{◌≡◌, ℕ, Bool, true, false, List, [], ◌∷◌, map, Option, Some, None, Result, length, option_map}
 use Rattle.station.specs.Shelves.{ShelfState}
 use Rattle.line_io.specs.Inputs.{Input}
 use Rattle.run_frame.specs.Frame.{Answer, bare_answer}
@@ -9,11 +9,14 @@ use Rattle.run_frame.specs.declared.statuses.Status.TheVariants.{Usage}
 use Rattle.drive_command.specs.Begin.{Beginning, NeedsNoInput, drive_answer}
 use Rattle.drive_command.specs.Words.{Driving}
 use Rattle.upgrade_command.specs.Upgrade.{upgrade_answer}
-use Rattle.peer_cli.specs.Files.{Calls, Contents, IsLogDue, IsSecondDue, ReadsFiles, content, log_names}
+use Rattle.line_io.specs.Files.{Calls, Contents, ReadsFiles, content}
+use Rattle.peer_cli.specs.Files.{IsLogDue, IsSecondDue, log_names}
 use Rattle.judge_command.specs.Judge.{judge_answer}
+use Rattle.log_files.specs.Several.{behind_first}
+use Rattle.peer_cli.specs.Audits.{AreLogsDue, audit_for}
 use Rattle.peer_cli.specs.Exhibits.{case_for}
 use Rattle.peer_cli.specs.Games.{beginning_for, session_in}
-use Rattle.peer_cli.specs.Words.{Command, Drive, Judge, Upgrade}
+use Rattle.peer_cli.specs.Words.{Audit, Command, Drive, Judge, Upgrade}
 
 -- the files that a command names, in the order of its words
 abbrev pub names_of : Option Command → List (List ℕ)
@@ -21,6 +24,7 @@ names_of None = []
 names_of (Some (Drive d)) = d.session ∷ log_names d.old
 names_of (Some (Upgrade session)) = session ∷ []
 names_of (Some (Judge j)) = j.session ∷ j.evidence ∷ []
+names_of (Some (Audit a)) = a.session ∷ a.logs
 
 -- what they hold, where each file holds this
 abbrev pub contents_of : Option Command → (files : List ℕ → Option (List ℕ)) → Contents
@@ -32,6 +36,7 @@ ReadsWhatIsDue None before after calls = after ≡ before
 ReadsWhatIsDue (Some (Drive d)) before after calls = IsLogDue d.player calls
 ReadsWhatIsDue (Some (Upgrade session)) before after calls = Unit {0}
 ReadsWhatIsDue (Some (Judge j)) before after calls = IsSecondDue calls
+ReadsWhatIsDue (Some (Audit a)) before after calls = AreLogsDue calls
 
 -- What a command reads of its files.
 pub record ReadsFor (command : Option Command) (before after : ShelfState) (calls : Calls) : Type 0 where
@@ -48,6 +53,7 @@ answer_of None contents input = bare_answer Usage
 answer_of (Some (Drive d)) contents input = drive_answer d.player (begins_with d contents) input
 answer_of (Some (Upgrade session)) contents input = upgrade_answer (session_in (content contents 0))
 answer_of (Some (Judge j)) contents input = judge_answer (case_for (content contents 0) (content contents 1))
+answer_of (Some (Audit a)) contents input = audit_for (session_in (content contents 0)) (behind_first contents) (length a.logs)
 
 -- Nothing is due by the input, where its files hold this.
 abbrev pub IsOverAtFirst : Option Command → Contents → Type 0
@@ -55,6 +61,7 @@ IsOverAtFirst None contents = Unit {0}
 IsOverAtFirst (Some (Drive d)) contents = NeedsNoInput d.player (begins_with d contents)
 IsOverAtFirst (Some (Upgrade session)) contents = Unit {0}
 IsOverAtFirst (Some (Judge j)) contents = Unit {0}
+IsOverAtFirst (Some (Audit a)) contents = Unit {0}
 
 -- At its end a command that reads its input has read it to its end.
 abbrev pub ReadsThrough : Option Command → (ended : Bool) → Type 0
@@ -62,3 +69,12 @@ ReadsThrough None ended = Unit {0}
 ReadsThrough (Some (Drive d)) ended = ended ≡ true
 ReadsThrough (Some (Upgrade session)) ended = Unit {0}
 ReadsThrough (Some (Judge j)) ended = Unit {0}
+ReadsThrough (Some (Audit a)) ended = Unit {0}
+
+-- Whether a command takes memory behind its first byte too, so that a front of its text may stand before the line for want of memory.
+abbrev pub takes_late : Option Command → Bool
+takes_late None = false
+takes_late (Some (Drive d)) = false
+takes_late (Some (Upgrade session)) = false
+takes_late (Some (Judge j)) = false
+takes_late (Some (Audit a)) = true

@@ -4,7 +4,8 @@ use Rattle.station.specs.Outside.{faults_behind}
 use Rattle.station.specs.Pieces.{Piece, AllGive}
 use Rattle.station.specs.Shelves.{ShelfState}
 use Rattle.station.specs.Since.{since}
-use Rattle.line_io.specs.Fronts.{AllShown, Fetched, IsReading}
+use Rattle.line_io.specs.Files.{AreContents, Calls, Contents, ReadsFiles, content}
+use Rattle.line_io.specs.Fronts.{Fetched}
 use Rattle.run_frame.specs.declared.statuses.Status.{Status}
 use Rattle.definitions.specs.Lists.{item_or}
 use Rattle.definitions.specs.World.{Game, players_of}
@@ -13,42 +14,6 @@ use Rattle.old_log.specs.declared.resuming.Resumed.{Resumed}
 use Rattle.evidence.specs.declared.exhibit.Exhibit.{Exhibit}
 use Rattle.peer_cli.specs.Exhibits.{IsCaseDue, IsExhibitDue, case_for, exhibit_in}
 use Rattle.peer_cli.specs.Games.{IsDue, IsStartFor, beginning_for, front_of, is_shelf_fault, session_in, with_old, with_player}
-
--- the calls for each of the files that a command's words name, in their order, as they were answered
-abbrev pub Calls : Type 0
-Calls = List (List Piece)
-
--- what each of these files holds when it is read, in the same order, and none where it isn't there
-abbrev pub Contents : Type 0
-Contents = List (Option (List ℕ))
-
--- what the file of this number holds, counted from 0; where no word names it, nothing
-abbrev pub content : Contents → ℕ → Option (List ℕ)
-content contents n = item_or contents n None
-
--- all calls, one behind the other
-abbrev pub in_turn : Calls → List Piece
-in_turn calls = flat_map (λ pieces. pieces) calls
-
--- Files with these contents give what was answered.
-abbrev pub AreContents : Contents → Calls → Type 0
-AreContents contents calls = (n : ℕ) → AllGive (content contents n) (item_or calls n [])
-
--- Each file of these names was read by its calls, from its front on and no further behind its end or a fault; where the shelf shows its
--- files, what they give was answered.
-abbrev pub AreReadings : (files : Option (List ℕ → Option (List ℕ))) → (names : List (List ℕ)) → Calls → Type 0
-AreReadings files [] calls = calls ≡ []
-AreReadings files (name ∷ names) [] = ⊥
-AreReadings files (name ∷ names) (pieces ∷ calls) = IsReading name 0 pieces × AllShown files name pieces × AreReadings files names calls
-
--- The files of these names were read by these calls and no others, one file behind the other.
-pub record ReadsFiles (names : List (List ℕ)) (before after : ShelfState) (calls : Calls) : Type 0 where
-  -- the shelf has the files that it had
-  pub same : after.files ≡ before.files
-  -- these calls were answered
-  pub answered : after.pieces ≡ before.pieces ++ in_turn calls
-  -- each file is read on
-  pub readings : AreReadings before.files names calls
 
 -- the log's name, if one is named
 abbrev pub log_names : (old : Option (List ℕ)) → List (List ℕ)

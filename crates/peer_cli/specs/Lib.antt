@@ -3,6 +3,7 @@ pub mod Games
 pub mod Exhibits
 pub mod Cases
 pub mod Files
+pub mod Audits
 pub mod Commands
 pub mod Causes
 pub mod Outside

@@ -10,8 +10,8 @@ use Rattle.run_frame.specs.Turns.{input_by}
 use Rattle.run_frame.specs.declared.statuses.Status.{Status}
 use Rattle.run_frame.specs.declared.statuses.Status.TheVariants.{Done, NoMemory, OutputFault, Usage}
 use Rattle.peer_cli.specs.Words.{Command}
-use Rattle.peer_cli.specs.Files.{AreContents, Calls, Contents}
-use Rattle.peer_cli.specs.Commands.{IsOverAtFirst, ReadsFor, ReadsThrough, answer_of}
+use Rattle.line_io.specs.Files.{AreContents, Calls, Contents}
+use Rattle.peer_cli.specs.Commands.{IsOverAtFirst, ReadsFor, ReadsThrough, answer_of, takes_late}
 use Rattle.peer_cli.specs.Causes.{HasCause, IsGood, IsMeant}
 use Rattle.peer_cli.specs.Outside.{CountsFaults, Outside}
 
@@ -51,11 +51,12 @@ pub record IsPossible (run : Run) (calls : Calls) : Type 0 where
 
 -- What the run wrote, and how it ended: as is due for the files and for the bytes read of the input, whatever stands behind them.
 -- Where the source failed, it is what is due for the whole lines read before. Where a file failed, the input is left alone, and where
--- the sink failed, a front of all that was written: so nothing is written before that was read by which it is due.
+-- the sink failed, a front of all that was written: so nothing is written before that was read by which it is due. Where memory is
+-- wanting, nothing was written, or a front of what is due where the command takes memory late.
 abbrev pub Writes : Run → (alone : Type 0) → Status → Contents → (behind : List ℕ) → Type 0
 Writes run alone status contents behind =
     Finished run.before.output run.after.output
-    (answer_of run.command contents (input_of AtEnd (read_by run ++ behind))) (answer_of run.command contents (input_of AtFault (read_by run)))
+    (answer_of run.command contents (input_of AtEnd (read_by run ++ behind))) (answer_of run.command contents (input_of AtFault (read_by run))) (takes_late run.command)
     (Rose run.before.input.faults run.after.input.faults) (Rose run.before.shelf.faults run.after.shelf.faults × alone) status
 
 -- Why the run ended so.
@@ -109,7 +110,7 @@ pub record Works (run : Run) (alone : Type 0) (status : Status) : Type 0 where
   pub calls : Calls
   pub files : ReadsFor run.command run.before.shelf run.after.shelf calls
   pub input : ReadsOn run.before.input run.after.input
-  pub text : ForAny run calls (λ contents behind. Ran run.before.output run.after.output (answer_of run.command contents (input_by status (read_by run) behind))
+  pub text : ForAny run calls (λ contents behind. Ran run.before.output run.after.output (answer_of run.command contents (input_by status (read_by run) behind)) (takes_late run.command)
       (Rose run.before.input.faults run.after.input.faults) (Rose run.before.shelf.faults run.after.shelf.faults × alone) status)
   pub usage : run.command ≡ None → status ≡ Usage
   pub faults : CountsFaults run.before run.after status

@@ -1,10 +1,12 @@
 -- Words: the commands that the program's words say.
-use Rattle.std.specs.Prelude.{ℕ, Bool, false, not, ◌&&◌, List, [], ◌∷◌, Option, None, bytes_eq, ◌==◌, codes, option_map, if◌then◌else◌}
+use Rattle.std.specs.Prelude.{ℕ, ◌≤◌, length, Bool, false, not, ◌&&◌, List, [], ◌∷◌, Option, None, bytes_eq, ◌==◌, codes, option_map, if◌then◌else◌}
 use Rattle.std.specs.List.{list_all}
 use Rattle.std.specs.Str.{is_utf8}
 use Rattle.drive_command.specs.Words.{Driving, driving_in, driving_said}
 use Rattle.upgrade_command.specs.Words.{upgrading_in}
 use Rattle.judge_command.specs.Words.{Judging, judging_in, judging_said}
+use Rattle.frame_index.specs.declared.limits.TheConstants.{MOST_LOGS}
+use Rattle.audit_command.specs.Words.{Auditing, auditing_in, auditing_said}
 use Rattle.peer_cli.specs.declared.words.Command.{Command as CommandWords}
 use Rattle.peer_cli.specs.declared.words.Command.TheVariants as said
 
@@ -16,12 +18,15 @@ pub data Command : Type 0 where
   Upgrade : (session : List ℕ) → Command
   -- the exhibit of a file is judged in the session of another
   Judge : Judging → Command
+  -- what the logs of a session show is printed
+  Audit : Auditing → Command
 
 -- the command that the words say
 abbrev pub command_said : CommandWords → Command
 command_said (said.Drive driving) = Drive (driving_said driving)
 command_said (said.Upgrade session) = Upgrade session.now
 command_said (said.Judge judging) = Judge (judging_said judging)
+command_said (said.Audit auditing) = Audit (auditing_said auditing)
 
 -- the word begins with `-`
 abbrev pub begins_with_dash : List ℕ → Bool
@@ -38,6 +43,7 @@ command_named name words =
     if bytes_eq name (codes "drive") then option_map Drive (driving_in words)
     else if bytes_eq name (codes "upgrade") then option_map Upgrade (upgrading_in words)
     else if bytes_eq name (codes "judge") then option_map Judge (judging_in words)
+    else if bytes_eq name (codes "audit") then option_map Audit (auditing_in words)
     else None
 
 -- the command of these words: its name, and then its own words
@@ -48,3 +54,10 @@ command_in (name ∷ words) = command_named name words
 -- the command of the program's words
 unfoldable pub command_of : List (List ℕ) → Option Command
 command_of words = if list_all is_word words then command_in words else None
+
+-- A command has no more logs than an auditor has room for.
+abbrev pub HasRoom : Command → Type 0
+HasRoom (Drive d) = Unit {0}
+HasRoom (Upgrade session) = Unit {0}
+HasRoom (Judge j) = Unit {0}
+HasRoom (Audit a) = length a.logs ≤ MOST_LOGS

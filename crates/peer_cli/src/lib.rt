@@ -8,6 +8,8 @@
 //! answer, its causes, one function and its laws, as `drive_command` does. What `run` promises (`specs/Runs.antt`) names none of them.
 #![tactic(auto)]
 
+mod auditing;
+mod audits;
 mod driving;
 mod exhibits;
 mod judging;

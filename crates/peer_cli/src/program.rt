@@ -2,9 +2,10 @@
 
 ghost use Rattle.std.specs.Prelude.{◌≡◌, Some, map};
 ghost use Rattle.drive_command.specs.Laws.{DrivesAreRuns, LinesAreOneStream};
-ghost use Rattle.peer_cli.specs.Words.{command_of, command_said};
+ghost use Rattle.peer_cli.specs.Words.{HasRoom, command_of, command_said};
 ghost use Rattle.peer_cli.specs.Runs.{Runs, Works};
 
+use crate::auditing::audit_for;
 use crate::driving::drive_for;
 use crate::judging::judge_for;
 use crate::upgrading::upgrade_for;
@@ -21,6 +22,7 @@ fn obey<I: Source, O: Sink, H: Shelf>(
     out: &mut O,
     shelf: &mut H,
 ) -> Status
+    requires room { HasRoom (command_said command) }
     ensures { Works
         (record {
           command = Some (command_said command.entry);
@@ -33,6 +35,7 @@ fn obey<I: Source, O: Sink, H: Shelf>(
         Command::Drive(words) => drive_for(alloc, words, input, out, shelf),
         Command::Upgrade(session) => upgrade_for(alloc, session, input, out, shelf),
         Command::Judge(words) => judge_for(alloc, words, input, out, shelf),
+        Command::Audit(words) => audit_for(alloc, words, input, out, shelf),
     }
 }
 
@@ -61,7 +64,8 @@ fn work<I: Source, O: Sink, H: Shelf>(
 /// Does what the words ask for, which are those behind the program's name: `drive SESSION PLAYER` lets the input drive a peer
 /// for the player of the session in that file, and writes what the peer does; `drive SESSION PLAYER OLD` does so with a peer
 /// that goes on from the log in the file OLD; `upgrade SESSION` prints the session in version 2; `judge SESSION EVIDENCE` says whether
-/// the frames of the exhibit in the file EVIDENCE show what it says. The words are asked first, then the session, the player, the log, and then the
+/// the frames of the exhibit in the file EVIDENCE show what it says; `audit SESSION LOG..` prints what the logs in these files, from 1 to
+/// 16, show together. The words are asked first, then the session, the player, the log, and then the
 /// input line by line; the first that is refused decides.
 pub fn run<I: Source, O: Sink, H: Shelf>(
     alloc: Global,

@@ -5,6 +5,7 @@ ghost use Rattle.std.specs.List.{list_all};
 ghost use Rattle.std.specs.Str.{is_utf8};
 ghost use Rattle.peer_cli.specs.Words as W;
 
+use audit_command::{AuditWords, read_audit_words};
 use drive_command::{DriveWords, read_drive_words};
 use judge_command::{JudgeWords, read_judge_words};
 use std::str::from_utf8;
@@ -19,6 +20,8 @@ pub(crate) enum Command<'a> {
     Upgrade(&'a [u8]),
     /// The exhibit of a file is judged.
     Judge(JudgeWords<'a>),
+    /// What the logs of files show is printed.
+    Audit(AuditWords<'a>),
 }
 
 /// Whether the bytes are UTF-8.
@@ -70,6 +73,9 @@ fn read_named<'a>(name: &[u8], words: &'a [Vec<u8>]) -> Option<Command<'a>>
     } else if name == b"judge".as_slice() {
         let words = read_judge_words(words)?;
         Some(Command::Judge(words))
+    } else if name == b"audit".as_slice() {
+        let words = read_audit_words(words)?;
+        Some(Command::Audit(words))
     } else {
         None
     }

@@ -1,4 +1,4 @@
-use Rattle.std.proofs.Common.{◌≡◌, ◌<◌, ◌∙◌, ap, arith, subst, sym, List, ℕ}
+use Rattle.std.proofs.Common.{◌≡◌, ◌<◌, ◌∙◌, ap, arith, subst, sym, true, List, ℕ}
 use Rattle.definitions.specs.declared.findings.Finding.{Finding}
 use Rattle.definitions.specs.Findings.{findings}
 use Rattle.definitions.specs.Lists.{EachIs}
@@ -8,17 +8,20 @@ use Rattle.station.specs.Sinks.{after_bytes}
 use Rattle.line_io.specs.Texts.{CutShort}
 use Rattle.line_io.specs.declared.texts.Written.TheVariants.{All, Failed}
 use Rattle.run_frame.specs.declared.statuses.Status.{Status}
-use Rattle.audit_command.specs.Audit.{audit_answer, report_text, status_by}
-use Rattle.audit_command.specs.Audits.{Audits, IsBegun}
-use Rattle.audit_command.proofs.Printed.{begun_none, ended, puts_as}
+use Rattle.run_frame.specs.declared.statuses.Status.TheVariants as status
+use Rattle.audit_command.specs.Audit.{audit_answer, audit_text, report_text, status_by}
+use Rattle.audit_command.specs.Printing.{IsBegun}
+use Rattle.run_frame.specs.Frame.{Ran}
+use Rattle.audit_command.proofs.Printed.{begun_lacked, begun_none, ended, puts_as}
+use Rattle.audit_command.proofs.Padded.{audited}
 use Rattle.audit_command.proofs.Reported.{each_stands, reported}
 use Rattle.audit_command.proofs.auditing.put_audit.Goals as goal
 
 pub returns-in_default : goal.returns-in_default
-returns-in_default g c = λ logs w o. begun_none _ _
+returns-in_default g c = λ owners logs stands owned. audited (g.O.Sink.state c.args.out.now) (g.O.Sink.state c.args.out.now) c.args.session.now owners logs c.args.auditor.now status.NoMemory stands owned (λ all w o. begun_lacked _ _ _ (begun_none _ _))
 
 pub returns-in-Ok-All : goal.returns-in-Ok-All
-returns-in-Ok-All g c = λ logs w o.
+returns-in-Ok-All g c = λ owners' logs' stands owned. audited (g.O.Sink.state c.args.out.now) (g.O.Sink.state c.put_report.new.out) c.args.session.now owners' logs' c.args.auditor.now c.status_by.result stands owned (λ logs w o.
     let game = c.args.session.now in
     let owners = c.args.auditor.now.owners in
     let before = g.O.Sink.state c.args.out.now in
@@ -29,11 +32,11 @@ returns-in-Ok-All g c = λ logs w o.
     let each = subst (λ (fs : List Finding). EachIs (Has (findings game logs)) fs) (sym is.found) (each_stands (findings game logs)) in
     let wrote = puts_as before now (report_text game logs c.in-Ok.report) c.in-Ok-All.field-0 All c.in-Ok-All.field-0-is (c.in-Ok-All.ensures logs w each) in
     let whole = subst (λ (text : List ℕ). now ≡ after_bytes before text) (reported game owners logs c.in-Ok.report some o is) wrote in
-    subst (λ (s : Status). Audits before now (audit_answer game owners logs) s) (sym c.status_by.ensures)
-    (ended before now (audit_answer game owners logs) c.findings.result.now whole (ap status_by (c.findings.ensures ∙ is.found)))
+    subst (λ (s : Status). Ran before now (audit_answer game owners logs) true ⊥ ⊥ s) (sym c.status_by.ensures)
+    (ended before now (audit_answer game owners logs) c.findings.result.now whole (ap status_by (c.findings.ensures ∙ is.found))))
 
 pub returns-in-Ok-Failed : goal.returns-in-Ok-Failed
-returns-in-Ok-Failed g c = λ logs w o.
+returns-in-Ok-Failed g c = λ owners' logs' stands owned. audited (g.O.Sink.state c.args.out.now) (g.O.Sink.state c.put_report.new.out) c.args.session.now owners' logs' c.args.auditor.now status.OutputFault stands owned (λ logs w o.
     let game = c.args.session.now in
     let owners = c.args.auditor.now.owners in
     let before = g.O.Sink.state c.args.out.now in
@@ -43,10 +46,10 @@ returns-in-Ok-Failed g c = λ logs w o.
     let is = c.in-Ok.ensures game logs w in
     let each = subst (λ (fs : List Finding). EachIs (Has (findings game logs)) fs) (sym is.found) (each_stands (findings game logs)) in
     let wrote = puts_as before now (report_text game logs c.in-Ok.report) c.in-Ok-Failed.field-0 Failed c.in-Ok-Failed.field-0-is (c.in-Ok-Failed.ensures logs w each) in
-    subst (λ (text : List ℕ). CutShort before now text) (reported game owners logs c.in-Ok.report some o is) wrote
+    subst (λ (text : List ℕ). CutShort before now text) (reported game owners logs c.in-Ok.report some o is) wrote)
 
 pub returns : goal.returns
-returns g c = λ logs w o.
+returns g c = λ owners' logs' stands owned. audited (g.O.Sink.state c.args.out.now) (g.O.Sink.state c.put_report.new.out) c.args.session.now owners' logs' c.args.auditor.now status.NoMemory stands owned (λ logs w o.
     let game = c.args.session.now in
     let owners = c.args.auditor.now.owners in
     let before = g.O.Sink.state c.args.out.now in
@@ -55,4 +58,4 @@ returns g c = λ logs w o.
     let some : 0 < players_of game = omega (arith, players) in
     let is = c.in-Ok.ensures game logs w in
     let each = subst (λ (fs : List Finding). EachIs (Has (findings game logs)) fs) (sym is.found) (each_stands (findings game logs)) in
-    subst (λ (text : List ℕ). IsBegun before now text) (reported game owners logs c.in-Ok.report some o is) (c.in-Err.ensures logs w each)
+    begun_lacked before now (audit_text game owners logs) (subst (λ (text : List ℕ). IsBegun before now text) (reported game owners logs c.in-Ok.report some o is) (c.in-Err.ensures logs w each)))
