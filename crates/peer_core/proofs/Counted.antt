@@ -3,6 +3,7 @@ use Rattle.std.proofs.Common.{◌≡◌, ℕ, zero, suc, ◌+◌, ◌-◌, ◌<�
 use Rattle.std.specs.Prelude.{Option, Some, None, nat_lt, ◌&&◌, ◌||◌, map, if◌then◌else◌}
 use Rattle.std.specs.List.{list_all}
 use Rattle.std.proofs.lemmas.Bool.{le-ltb, lt-ltb, ltb-true, ltb-false}
+use Rattle.std.proofs.lemmas.List.{length-map}
 use Rattle.definitions.specs.declared.world.Move.{Move}
 use Rattle.definitions.specs.declared.openings.Opening.{Opening}
 use Rattle.definitions.specs.declared.frames.What.TheVariants as W
@@ -26,7 +27,6 @@ use Rattle.playout.specs.declared.standing.Standing.{Standing}
 use Rattle.playout.specs.Hits.{between_known, move_of, own_score, plus}
 use Rattle.playout.specs.Playing.{Played, after_own_turn, fresh, no_standing, seated, standing_of}
 use Rattle.playout.proofs.Counting.{own_alike}
-use Rattle.std.proofs.lemmas.List.{length-map}
 use Rattle.definitions.proofs.Items.{item_is, map_item}
 use Rattle.playout.specs.Lockstep.{lockstep}
 use Rattle.peer_window.specs.Windows.{Seen}

@@ -9,3 +9,5 @@ pub mod Peers
 pub mod Choices
 pub mod Replaying
 pub mod MadeFrames
+pub mod Cleared
+pub mod FirstEntries

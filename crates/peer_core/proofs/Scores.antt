@@ -5,6 +5,7 @@ use Rattle.std.specs.List.{range_with_len}
 use Rattle.std.proofs.lemmas.Bool.{and_parts, false≢true, leb-true, or_cases}
 use Rattle.std.proofs.lemmas.Option.{same_Some}
 use Rattle.std.proofs.lemmas.List.FromFn.{get_or-map-range_with_len}
+use Rattle.std.proofs.lemmas.List.{length-map}
 use Rattle.definitions.specs.declared.world.Cell.{Cell}
 use Rattle.definitions.specs.declared.world.Move.{Move}
 use Rattle.definitions.specs.declared.logs.Entry.{Entry}
@@ -28,7 +29,6 @@ use Rattle.playout.specs.Laws.{IsThereOrApart}
 use Rattle.playout.specs.Lockstep.{AreLegalMoves, lockstep, moves_of, turn_moves}
 use Rattle.playout.proofs.Counting.{missing_turn_alike, own_alike, same_score}
 use Rattle.playout.proofs.Standings.{each_long}
-use Rattle.std.proofs.lemmas.List.{length-map}
 use Rattle.definitions.proofs.Items.{item_is, map_item}
 use Rattle.peer_core.specs.Scoring.{Completes, moves_in, own_move, score_in, score_to}
 use Rattle.peer_core.specs.Settling.{AreSettled}

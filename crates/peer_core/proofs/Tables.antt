@@ -54,7 +54,7 @@ window_track game me q h w o =
     window.track ∙ ap (λ k. track_after game k w.known.moves) o.player ∙ ap (λ (k : Shown). track_after game q k.moves) (window_known game me q h w o)
 
 -- an opened window, beside a log without entries
-opened_of : (game : Game) (me q : ℕ) (w : Seen) → (q ≡ me → ⊥) → IsOpened game q w → IsWindowOf game me [] q w
+pub opened_of : (game : Game) (me q : ℕ) (w : Seen) → (q ≡ me → ⊥) → IsOpened game q w → IsWindowOf game me [] q w
 opened_of game me q w other o = record {
   window = o.window;
   player = o.player;
@@ -62,7 +62,7 @@ opened_of game me q w other o = record {
   still = λ c. o.still;
 }
 
-opened_view : (game : Game) (me q : ℕ) (w : Seen) → (q ≡ me → ⊥) → IsOpened game q w → no_view ≡ view_of w
+pub opened_view : (game : Game) (me q : ℕ) (w : Seen) → (q ≡ me → ⊥) → IsOpened game q w → no_view ≡ view_of w
 unfolding got_of
 opened_view game me q w other o =
     let none : w.known ≡ record { digests = []; moves = [] } = window_known game me q [] w (opened_of game me q w other o) ∙ known_without_got game me q [] other refl in

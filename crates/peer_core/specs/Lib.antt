@@ -8,3 +8,4 @@ pub mod Scoring
 pub mod Settling
 pub mod Inside
 pub mod Resuming
+pub mod Cutting

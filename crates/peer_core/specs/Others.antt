@@ -4,10 +4,12 @@ use Rattle.definitions.specs.declared.logs.Entry.{Entry}
 use Rattle.definitions.specs.World.{Game, players_of}
 use Rattle.definitions.specs.Held.{places_in}
 use Rattle.definitions.specs.Findings.{is_clean}
+use Rattle.dilation.specs.Dilated.{cell_of, starts_of}
 use Rattle.peer_window.specs.Windows.{Seen, IsWindow}
 use Rattle.peer_window.specs.Logged.{IsSeenIn}
 use Rattle.wait_rule.specs.declared.views.View.{View}
 use Rattle.wait_rule.specs.Shown.{Standing, AreLastCells}
+use Rattle.wait_rule.specs.Waiting.{no_view}
 
 -- the windows of all players, what the rule of waiting is told of them, and the rule
 pub record Known : Type 0 where
@@ -46,3 +48,14 @@ pub record AreOthers (game : Game) (me : ℕ) (h : List Entry) (o : Known) : Typ
   pub views_are : (q : ℕ) (d : Seen) (v : View) → q < players_of game → q ≢ me → get_or o.views q v ≡ view_of (get_or o.windows q d)
   pub game_is : o.rule.game ≡ game
   pub cells_are : AreLastCells game me h o.rule.cells
+
+-- each other player has a window, and of the first n nothing is known
+pub record AreCleared (game : Game) (me n : ℕ) (o : Known) : Type 0 where
+  pub count : length o.windows ≡ players_of game
+  pub count_views : length o.views ≡ players_of game
+  pub game_is : o.rule.game ≡ game
+  pub windows : (q : ℕ) (d : Seen) → q < players_of game → q ≢ me → IsWindow game (get_or o.windows q d)
+  pub players : (q : ℕ) (d : Seen) → q < players_of game → q ≢ me → (get_or o.windows q d).player ≡ q
+  pub opened : (q : ℕ) (d : Seen) → q < n → q ≢ me → IsOpened game q (get_or o.windows q d)
+  pub blank : (q : ℕ) (v : View) → q < n → q ≢ me → get_or o.views q v ≡ no_view
+  pub cells : (q : ℕ) → q < n → q ≢ me → cell_of o.rule.cells q ≡ cell_of (starts_of game) q

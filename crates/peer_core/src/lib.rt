@@ -8,6 +8,7 @@
 
 mod answers;
 mod choosing;
+mod cutting;
 mod following;
 mod frames;
 mod others;
@@ -20,6 +21,7 @@ mod stages;
 mod views;
 
 pub use answers::is_logged;
+pub use cutting::Cut;
 pub use definitions::{Entry, Finding, GotAnswer, Need, OwnFault, Place, Progress, What};
 pub use peer::Peer;
 pub use playout::Score;

@@ -12,7 +12,7 @@ ghost use Rattle.definitions.specs.Needs as N;
 ghost use Rattle.peer_window.specs.Logged.{answer_of_offer, finding_of_clash};
 ghost use Rattle.wait_rule.specs.Waiting.{no_view};
 ghost use Rattle.peer_core.specs.OwnTracks.{AreOwnTracks};
-ghost use Rattle.peer_core.specs.Others.{AreOthers, AreOpened, view_of};
+ghost use Rattle.peer_core.specs.Others.{AreOthers, AreOpened, AreCleared, view_of};
 ghost use Rattle.peer_core.specs.Settling.{unheld};
 ghost use Rattle.peer_core.specs.Views as V;
 
@@ -82,16 +82,18 @@ fn open_windows(alloc: Global, session: &Session) -> Result<Vec<Window>, AllocEr
     Ok(windows)
 }
 
-/// What the rule of waiting is told of players of whom nothing came.
+/// What the rule of waiting is told of a player of whom nothing came.
+const BLANK: View = View {
+    resolved: 0,
+    next: 0,
+    commits: 0,
+};
+
+/// The same of all players.
 fn blank_views(alloc: Global, session: &Session) -> Result<Vec<View>, AllocError>
     ensures { IfOk result (λ vs. vs.items ≡ replicate (players_of session.now) no_view) }
 {
-    let blank = View {
-        resolved: 0,
-        next: 0,
-        commits: 0,
-    };
-    vec![in alloc; blank; usize::from(session.players())]
+    vec![in alloc; BLANK; usize::from(session.players())]
 }
 
 /// The same of a player, as if no commitment to a turn that isn't resolved were held.
@@ -145,6 +147,34 @@ impl Others {
             bare,
             keeping: NeedList::new(),
         })
+    }
+
+    /// Forgets what came of one other player, where nothing is left of those before it.
+    fn clear_player(&mut self, session: &Session, _me: PlayerId, player: PlayerId)
+        requires player { player < players_of session.now }
+        requires other { player ≢ _me }
+        requires cleared { AreCleared session.now _me player self.old }
+        ensures cleared { AreCleared session.now _me (player + 1) self.new }
+    {
+        session.facts();
+        self.rule.facts();
+        let at = usize::from(player);
+        self.windows[at].clear(session);
+        self.views[at] = BLANK;
+        self.bare[at] = BLANK;
+        self.rule.resolved(player, session.start(player));
+    }
+
+    /// Forgets all that came, in the room that it had: the tables are as `new` gives them.
+    pub(crate) fn clear(&mut self, session: &Session, me: PlayerId, _entries: &[Entry])
+        requires others { AreOthers session.now me _entries.now self.old }
+        ensures others { AreOthers session.now me [] self.new }
+    {
+        for player in 0..session.players() {
+            if player != me {
+                self.clear_player(session, me, player);
+            }
+        }
     }
 
     /// Offers a frame of another player, which the log of player `_me` may get as its next entry.

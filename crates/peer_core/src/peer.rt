@@ -1,6 +1,6 @@
 //! A peer, and what it may do.
 
-ghost use Rattle.std.specs.Prelude.{◌≡◌, ◌<◌, ◌≤◌, ◌+◌, ◌*◌, [], ◌∷◌, ◌++◌, length, Some, None, not, IsTrue, IfOk, OnOk, OnErr, slice_get};
+ghost use Rattle.std.specs.Prelude.{◌≡◌, ◌<◌, ◌≤◌, ◌+◌, ◌*◌, [], ◌∷◌, ◌++◌, length, Some, None, not, IsTrue, IfOk, OnOk, OnErr, slice_get, take, drop};
 ghost use Rattle.definitions.specs.World.{players_of};
 ghost use Rattle.definitions.specs.Logs as L;
 ghost use Rattle.definitions.specs.Held as H;
@@ -16,11 +16,13 @@ ghost use Rattle.definitions.specs.Findings.{is_clean};
 ghost use Rattle.definitions.specs.Answers.{got_answer, is_of_another};
 ghost use Rattle.definition_laws.specs.First.{finding_of_log};
 ghost use Rattle.definitions.specs.Settled.{settled};
+ghost use Rattle.definitions.specs.Steps.{has_no_made};
 ghost use Rattle.peer_core.specs.Scoring as S;
 ghost use Rattle.peer_core.specs.Views as V;
 
 use crate::answers::{caught_in, is_logged, progress_of};
 use crate::choosing::{chooses, next_of};
+use crate::cutting::{count_chosen, hear_all};
 use crate::following::follow;
 use crate::others::Others;
 use crate::room::add;
@@ -285,6 +287,45 @@ impl Peer {
         let found = self.found;
         let count = self.make_all();
         progress_of(found, count, chooses, no_needs)
+    }
+
+    /// Goes back to the first entries of the log, behind which no own frame was made.
+    pub(crate) fn keep_first(&mut self, keep: usize)
+        requires few { keep ≤ length self.old.entries }
+        requires unmade { IsTrue (has_no_made (drop keep self.old.entries)) }
+        ensures { self.new ≡ record self.old { entries = take keep self.old.entries } }
+    {
+        self.session.facts();
+        if keep == self.entries.len() {
+            return;
+        }
+        let session = &self.session;
+        self.others.clear(session, self.me, self.entries.as_slice());
+        self.settling.restart(session);
+        self.entries.truncate(keep);
+        let entries = self.entries.as_slice();
+        let chosen = count_chosen(entries, self.me);
+        self.openings.truncate(chosen);
+        self.tracks.truncate(chosen + 1);
+        hear_all(
+            &mut self.others,
+            session,
+            &mut self.walker,
+            self.me,
+            entries,
+        );
+        self.found = None;
+        follow(
+            &mut self.others,
+            &mut self.settling,
+            session,
+            self.me,
+            entries,
+            self.openings.as_slice(),
+            self.frames.len() as u32,
+            self.tracks.as_slice(),
+            &mut self.needs,
+        );
     }
 
     /// Adds a choice that is allowed, after which the owner has this track.

@@ -10,7 +10,7 @@ use commitment::put_turn;
 use definitions::Entry;
 
 /// How many of the entries are frames that the log's owner made.
-fn count_made(entries: &[Entry]) -> usize
+pub(crate) fn count_made(entries: &[Entry]) -> usize
     ensures { result ≡ made_count entries.now }
 {
     let mut count = 0;

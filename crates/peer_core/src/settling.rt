@@ -52,6 +52,14 @@ impl Settling {
         Ok(Settling { playout, moves })
     }
 
+    /// Counts no turn any more: all is as `new` gives it.
+    pub(crate) fn restart(&mut self, session: &Session)
+        requires players { length self.old.standings ≡ players_of session.now }
+        ensures { self.new ≡ fresh session.now }
+    {
+        self.playout.restart(session);
+    }
+
     /// How many turns were counted.
     pub(crate) fn turns(&self) -> u32
         ensures { result ≡ self.now.turns }

@@ -60,6 +60,15 @@ fn empty_slots(alloc: Global, count: usize) -> Result<Vec<Option<Received>>, All
     vec![in alloc; None; count]
 }
 
+/// Empties the slots.
+fn empty(slots: &mut [Option<Received>])
+    ensures { slots.new ≡ replicate (length slots.old) None }
+{
+    for one in slots.iter_mut() {
+        *one = None;
+    }
+}
+
 /// The answer to a new frame, by the first clash that it makes, if it makes one.
 fn answer_of(clash: Option<Clash>, was_next: bool) -> Offer
     ensures { result ≡ new_answer clash was_next }
@@ -155,6 +164,25 @@ impl Window {
                 track: start_track(session, player),
             },
         })
+    }
+
+    /// Forgets all frames, in the room that they had: the window is as `new` gives it.
+    pub fn clear(&mut self, session: &Session)
+        requires window { IsWindow session.now self.old }
+        ensures window { IsWindow session.now self.new }
+        ensures player { self.new.player ≡ self.old.player }
+        ensures empty { self.new.frames ≡ [] }
+        ensures open_still { self.new.closed ≡ false }
+    {
+        session.facts();
+        empty(&mut self.slots);
+        self.rival = None;
+        self.closed = false;
+        self.reach = Reach {
+            commits: 0,
+            resolved: 0,
+            track: start_track(session, self.player),
+        };
     }
 
     /// Offers a frame of the player, whose log entry would have this number.

@@ -3,6 +3,7 @@
 ghost use Rattle.std.specs.Prelude.{◌≡◌, ◌+◌, ◌*◌, ◌<◌, ◌≤◌, ◌^◌, ℕ, IfSome, IfOk, length, map, slice_set};
 ghost use Rattle.definitions.specs.Lists.{item_or};
 ghost use Rattle.definitions.specs.Moves.{IsLegal};
+ghost use Rattle.definitions.specs.World.{players_of};
 ghost use Rattle.playout.specs.Hits.{move_of};
 ghost use Rattle.playout.specs.Lockstep as L;
 ghost use Rattle.playout.specs.Playing.{no_standing, seated, all_after, scored};
@@ -34,6 +35,19 @@ pub(crate) fn seats(alloc: Global, session: &Session) -> Result<Vec<Standing>, A
         })?;
     }
     Ok(standings)
+}
+
+/// Puts each player back to its start, without hits.
+pub(crate) fn reseat(session: &Session, standings: &mut [Standing])
+    requires { length standings.old ≡ players_of session.now }
+    ensures { standings.new ≡ map (seated session.now) session.now.seats }
+{
+    for player in 0..session.players() {
+        standings[usize::from(player)] = Standing {
+            track: start_track(session, player),
+            score: Score { given: 0, taken: 0 },
+        };
+    }
 }
 
 /// The player's standing after a turn in which the players make these moves.

@@ -9,7 +9,7 @@ ghost use Rattle.playout.specs.Playing.{AreLegalNow, IsLockstep, after_own_turn,
 ghost use Rattle.definitions.specs.declared.world.Move.{Move};
 
 use crate::hits::{Score, own_score};
-use crate::standing::{Standing, count, play, seats};
+use crate::standing::{Standing, count, play, reseat, seats};
 use definitions::{Move, PlayerId, Track};
 use grid_world::Session;
 use std::alloc::{AllocError, Global};
@@ -49,6 +49,15 @@ impl Playout {
             turns: 0,
             standings,
         })
+    }
+
+    /// Puts all players back to their starts, as `new` has them, before the first turn.
+    pub fn restart(&mut self, session: &Session)
+        requires players { length self.old.standings ≡ players_of session.now }
+        ensures fresh { self.new ≡ fresh session.now }
+    {
+        reseat(session, &mut self.standings);
+        self.turns = 0;
     }
 
     /// Plays a turn of all players: one legal move of each, in order. Each player's strike is counted at the cells that the
