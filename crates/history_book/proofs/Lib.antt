@@ -1,0 +1,4 @@
+pub mod Spendings
+pub mod Histories
+pub mod Marks
+pub mod Givings
