@@ -1,0 +1,9 @@
+pub mod Passes
+pub mod Lines
+pub mod Ends
+pub mod Links
+pub mod Numbers
+pub mod Addrs
+pub mod Plain
+pub mod Taken
+pub mod Short

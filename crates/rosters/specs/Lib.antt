@@ -1,0 +1,6 @@
+pub mod Addrs
+pub mod Rosters
+pub mod Fields
+pub mod Text
+pub mod Reading
+pub mod Laws
