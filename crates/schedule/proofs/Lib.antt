@@ -1,0 +1,9 @@
+pub mod Chosen
+pub mod Sitting
+pub mod Fairness
+pub mod Firsts
+pub mod Idling
+pub mod Holding
+pub mod Stepped
+pub mod Begun
+pub mod Refusals

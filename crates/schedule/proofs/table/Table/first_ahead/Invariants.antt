@@ -1,0 +1,10 @@
+use Rattle.std.proofs.Common.{◌≡◌}
+use Rattle.std.specs.Prelude.{find}
+use Rattle.definitions.specs.World.{players_of}
+use Rattle.schedule.specs.Stands.{is_ahead_of, players}
+use Rattle.schedule.proofs.Firsts.{from}
+use Rattle.schedule.proofs.table.Table.first_ahead.Given as goal
+
+abbrev pub invariant-loop-player : goal.invariant-loop-player
+invariant-loop-player l =
+    find (is_ahead_of l.self.game l.self.logs l.peer.me l.peer.entries) (from l.player (players_of l.self.game)) ≡ find (is_ahead_of l.self.game l.self.logs l.peer.me l.peer.entries) (players l.self.game)

@@ -1,0 +1,9 @@
+use Rattle.std.proofs.Common.{◌≡◌}
+use Rattle.std.specs.Prelude.{find}
+use Rattle.definitions.specs.World.{players_of}
+use Rattle.schedule.specs.Stands.{is_moving, players}
+use Rattle.schedule.proofs.Firsts.{from}
+use Rattle.schedule.proofs.table.Table.first_moving.Given as goal
+
+abbrev pub invariant-loop-player : goal.invariant-loop-player
+invariant-loop-player l = find (is_moving l.self.game l.self.logs) (from l.player (players_of l.self.game)) ≡ find (is_moving l.self.game l.self.logs) (players l.self.game)
