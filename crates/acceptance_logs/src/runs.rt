@@ -1,0 +1,133 @@
+//! Runs of the program over objects in memory, with a session's file and those of three logs.
+
+ghost use Rattle.std.specs.Prelude.{◌≡◌, ◌∷◌, [], false, bytes_eq, IfOk};
+
+use hex::decode;
+use peer_cli::run_in_memory;
+use run_frame::Status;
+use station::{MemoryShelf, MemorySink, MemorySource, ShelfFile};
+use std::alloc::{AllocError, Global};
+
+/// The calls of each object that are to fail, counted from 1.
+pub struct Fails {
+    pub shelf: &'static [u32],
+    pub source: &'static [u32],
+    pub sink: &'static [u32],
+}
+
+/// No call fails.
+pub static NONE: Fails = Fails {
+    shelf: &[],
+    source: &[],
+    sink: &[],
+};
+
+/// The files: the session's has the name `s`, and those of the logs `0`, `1` and `2`, as hexadecimal text; a log that isn't given is
+/// empty.
+#[derive(Clone, Copy)]
+pub struct Files {
+    pub session: &'static [u8],
+    pub logs: &'static [&'static str],
+}
+
+/// The bytes of the log of this number.
+fn log_of(alloc: Global, files: &Files, log: usize) -> Result<Vec<u8>, AllocError> {
+    let Some(text) = files.logs.get(log) else {
+        return Ok(Vec::new(alloc));
+    };
+    match decode(alloc, text) {
+        Ok(bytes) => Ok(bytes),
+        Err(_) => Ok(Vec::new(alloc)),
+    }
+}
+
+/// A file.
+fn file_of(alloc: Global, name: &[u8], bytes: Vec<u8>) -> Result<ShelfFile, AllocError>
+    ensures { IfOk result (λ file. file.name ≡ name.now) }
+{
+    let name = Vec::from_slice(alloc, name)?;
+    Ok(ShelfFile::new(name, bytes))
+}
+
+/// Four files.
+fn four_of(
+    alloc: Global,
+    first: ShelfFile,
+    second: ShelfFile,
+    third: ShelfFile,
+    fourth: ShelfFile,
+) -> Result<Vec<ShelfFile>, AllocError>
+    ensures { IfOk result (λ files. files.items ≡ first ∷ second ∷ third ∷ fourth ∷ []) }
+{
+    let mut files = Vec::new(alloc);
+    files.push(first)?;
+    files.push(second)?;
+    files.push(third)?;
+    files.push(fourth)?;
+    Ok(files)
+}
+
+/// A shelf with four files.
+fn shelf_of_four(
+    alloc: Global,
+    first: ShelfFile,
+    second: ShelfFile,
+    third: ShelfFile,
+    fourth: ShelfFile,
+    fails: &'static [u32],
+) -> Result<MemoryShelf, AllocError>
+    requires first_second { bytes_eq first.name second.name ≡ false }
+    requires first_third { bytes_eq first.name third.name ≡ false }
+    requires first_fourth { bytes_eq first.name fourth.name ≡ false }
+    requires second_third { bytes_eq second.name third.name ≡ false }
+    requires second_fourth { bytes_eq second.name fourth.name ≡ false }
+    requires third_fourth { bytes_eq third.name fourth.name ≡ false }
+{
+    let files = four_of(alloc, first, second, third, fourth)?;
+    let fails = Vec::from_slice(alloc, fails)?;
+    Ok(MemoryShelf::new(files, fails))
+}
+
+/// The shelf with these files.
+fn shelf_of(
+    alloc: Global,
+    files: &Files,
+    fails: &'static [u32],
+) -> Result<MemoryShelf, AllocError> {
+    let session = file_of(alloc, b"s", Vec::from_slice(alloc, files.session)?)?;
+    let first = file_of(alloc, b"0", log_of(alloc, files, 0)?)?;
+    let second = file_of(alloc, b"1", log_of(alloc, files, 1)?)?;
+    let third = file_of(alloc, b"2", log_of(alloc, files, 2)?)?;
+    shelf_of_four(alloc, session, first, second, third, fails)
+}
+
+/// These words.
+fn words_of(alloc: Global, words: &[&[u8]]) -> Result<Vec<Vec<u8>>, AllocError> {
+    let mut all = Vec::new(alloc);
+    for word in words {
+        all.push(Vec::from_slice(alloc, word)?)?;
+    }
+    Ok(all)
+}
+
+/// Runs the program on these words and files, and gives its status and what it wrote.
+pub fn run_words(
+    alloc: Global,
+    words: &[&[u8]],
+    files: &Files,
+    fails: &Fails,
+) -> Result<(Status, Vec<u8>), AllocError> {
+    let words = words_of(alloc, words)?;
+    let mut shelf = shelf_of(alloc, files, fails.shelf)?;
+    let mut input = MemorySource::new(Vec::new(alloc), Vec::from_slice(alloc, fails.source)?);
+    let mut out = MemorySink::new(alloc, 65_536, Vec::from_slice(alloc, fails.sink)?)?;
+    let status = run_in_memory(alloc, words.as_slice(), &mut input, &mut out, &mut shelf);
+    Ok((status, Vec::from_slice(alloc, out.bytes())?))
+}
+
+/// Runs `audit` on the session and its logs.
+pub fn run_audit(alloc: Global, files: &Files) -> Result<(Status, Vec<u8>), AllocError> {
+    let words: [&[u8]; 5] = [b"audit", b"s", b"0", b"1", b"2"];
+    let count = files.logs.len().min(3) + 2;
+    run_words(alloc, &words[..count], files, &NONE)
+}
