@@ -1,0 +1,6 @@
+mod Tests
+mod Prefixes
+mod Ends
+mod Given
+mod Kept
+mod Computed

@@ -1,0 +1,75 @@
+-- Keeping: which entry may be kept next, and what is shown behind it.
+use Rattle.std.specs.Prelude.{ℕ, ◌-◌, Bool, true, false, ◌&&◌, List, [], ◌∷◌, ◌++◌, drop, take, Option, Some, None, length, is_none, slice_get}
+use Rattle.std.specs.Str.{bytes_eq}
+use Rattle.definitions.specs.declared.frames.TurnFrame.{TurnFrame}
+use Rattle.definitions.specs.declared.logs.Entry.{Entry}
+use Rattle.definitions.specs.declared.logs.Entry.TheVariants.{Chose, Made, Got}
+use Rattle.definitions.specs.Logs.{entry_eq, frame_eq}
+use Rattle.definitions.specs.Honest.{allowed}
+use Rattle.definitions.specs.Advance.{next_made}
+use Rattle.session_log.specs.Entries.{entry_of}
+use Rattle.session_log.specs.Writing.{Writing, mark_of, written}
+use Rattle.session_log.specs.Writing as W
+use Rattle.loop_rules.specs.Settings.{Setting}
+use Rattle.loop_rules.specs.Views.{View, Phase, Fresh, Logged, Running, KeepFault, PollFault, Arrival}
+use Rattle.loop_rules.specs.Hearing.{sorted_out}
+
+-- the entry that bytes spell in front of the digest that chains it
+abbrev pub entry_in : Writing → List ℕ → Option Entry
+entry_in w bytes = entry_of (take (length bytes - length (mark_of w) - 32) (drop (length (mark_of w)) bytes))
+
+-- an own frame that the log allows now: one that is made before anything else is logged
+abbrev pub own_next : View → Option TurnFrame
+own_next v = next_made v.setting.game v.setting.me v.kept
+
+abbrev pub is_frame : Option TurnFrame → TurnFrame → Bool
+is_frame None f = false
+is_frame (Some g) f = frame_eq g f
+
+abbrev pub is_entry : Option Entry → Entry → Bool
+is_entry None e = false
+is_entry (Some d) e = entry_eq d e
+
+-- the first of the frames that wait is this one
+abbrev pub is_first : List Arrival → (q : ℕ) → TurnFrame → Bool
+is_first [] q f = false
+is_first (a ∷ more) q f = entry_eq (Got a.player a.frame) (Got q f)
+
+-- the entry may be logged next: the own frames first, and then a choice or the first frame that waits
+abbrev pub may_log : View → Entry → Bool
+may_log v (Made f) = is_frame (own_next v) f
+may_log v (Chose t m n) = is_none (own_next v) && allowed v.setting.game v.setting.me v.kept (Chose t m n)
+may_log v (Got q f) = is_none (own_next v) && is_first v.waiting q f
+
+-- the entry may be kept next: before the loop listens, those taken over in their order
+abbrev pub may_keep_in : Phase → View → Entry → Bool
+may_keep_in Fresh v e = false
+may_keep_in Logged v e = is_entry (slice_get v.setting.over (length v.kept)) e
+may_keep_in Running v e = may_log v e
+may_keep_in KeepFault v e = false
+may_keep_in PollFault v e = false
+
+abbrev pub may_keep_as : View → List ℕ → Option Entry → Bool
+may_keep_as v bytes None = false
+may_keep_as v bytes (Some e) = bytes_eq bytes (written v.writer e) && may_keep_in v.phase v e
+
+-- the bytes are those of an entry that may be kept next, behind the entries before it
+abbrev pub may_keep : View → List ℕ → Bool
+may_keep v bytes = may_keep_as v bytes (entry_in v.writer bytes)
+
+-- a frame that is logged waits no more
+abbrev pub waiting_behind : Entry → List Arrival → List Arrival
+waiting_behind (Chose t m n) waiting = waiting
+waiting_behind (Made f) waiting = waiting
+waiting_behind (Got q f) waiting = drop 1 waiting
+
+abbrev pub with_entry : Entry → View → View
+with_entry e v = record v { kept = v.kept ++ e ∷ []; writer = W.after v.writer e; waiting = waiting_behind e v.waiting }
+
+abbrev pub kept_entry : View → Option Entry → View
+kept_entry v None = v
+kept_entry v (Some e) = sorted_out (with_entry e v)
+
+-- behind the bytes of an entry
+abbrev pub kept_on : View → List ℕ → View
+kept_on v bytes = kept_entry v (entry_in v.writer bytes)

@@ -1,0 +1,13 @@
+pub mod Settings
+pub mod Seats
+pub mod Lines
+pub mod Views
+pub mod Hearing
+pub mod Keeping
+pub mod After
+pub mod Licence
+pub mod Rules
+pub mod Histories
+pub mod Images
+pub mod Laws
+pub mod Worked

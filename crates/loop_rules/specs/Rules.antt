@@ -1,0 +1,139 @@
+-- Rules: which item may come next, by what was shown before it.
+use Rattle.std.specs.Prelude.{ℕ, Bool, true, false, not, ◌&&◌, ◌||◌, ◌==◌, nat_lt, nat_le, List, [], ◌∷◌, Option, Some, None, length, is_some, IsTrue}
+use Rattle.std.specs.Str.{bytes_eq}
+use Rattle.definitions.specs.Lists.{is_empty}
+use Rattle.socket_station.specs.declared.answers.Addr.{Addr}
+use Rattle.socket_station.specs.declared.answers.Ready.{Ready}
+use Rattle.socket_station.specs.declared.answers.Ready.TheVariants.{Opened, Socket as Seems}
+use Rattle.socket_station.specs.Items.{Item, Call, ListenCall, LogCall, DialCall, PollCall, ReadCall, WriteCall, KeepCall, SyncCall, Listening, LogBegun, Dialled, Polled, Took, Gave, ReadNotYet, WriteNotYet, Ended, Failed, Shut, Kept, Synced}
+use Rattle.socket_station.specs.Standings.{opens}
+use Rattle.loop_rules.specs.Settings.{Setting, told_addr, addr_eq}
+use Rattle.loop_rules.specs.Seats.{Seat, is_spent}
+use Rattle.loop_rules.specs.Lines.{Line, has_frame, giving}
+use Rattle.loop_rules.specs.Views.{View, Phase, Fresh, Logged, Running, KeepFault, PollFault, line_of, seat_of, safe_frames, is_used, is_served, room_on, asks_shut}
+use Rattle.loop_rules.specs.Keeping.{may_keep}
+use Rattle.loop_rules.specs.Licence.{is_running, is_licensed}
+
+-- ---- beginning: a new log of the name given, then the entries taken over, kept and synced, then listening at the own address
+
+abbrev pub is_fresh : Phase → Bool
+is_fresh Fresh = true
+is_fresh Logged = false
+is_fresh Running = false
+is_fresh KeepFault = false
+is_fresh PollFault = false
+
+abbrev pub is_logged : Phase → Bool
+is_logged Fresh = false
+is_logged Logged = true
+is_logged Running = false
+is_logged KeepFault = false
+is_logged PollFault = false
+
+abbrev pub may_begin : View → (name : List ℕ) → Bool
+may_begin v name = is_fresh v.phase && bytes_eq name v.setting.name
+
+abbrev pub is_over_kept : View → Bool
+is_over_kept v = length v.kept == length v.setting.over
+
+abbrev pub may_listen : View → Addr → Bool
+may_listen v addr =
+    is_logged v.phase && is_over_kept v && (v.synced == length v.kept) && addr_eq addr (told_addr v.setting.roster.me)
+
+-- ---- the log: a sync has something to sync, and the first one stands behind all entries taken over
+
+abbrev pub may_sync : View → Bool
+may_sync v = (is_running v.phase || (is_logged v.phase && is_over_kept v)) && nat_lt v.synced (length v.kept)
+
+-- ---- dialling: a player above the own one, which has no open socket, was not dialled since the last poll, and is not spent
+
+abbrev pub may_dial_at : View → (q : ℕ) → Addr → Option Seat → Bool
+may_dial_at v q addr None = false
+may_dial_at v q addr (Some t) =
+    is_running v.phase && nat_lt v.setting.me q && not (is_served v q) && not t.is_dialled && not (is_spent t) && addr_eq addr (told_addr t.link.addr)
+
+abbrev pub may_dial : View → (q : ℕ) → Addr → Bool
+may_dial v q addr = may_dial_at v q addr (seat_of v q)
+
+-- ---- reading: an open socket that is not to be shut, behind no read that found nothing, and never past a limit
+
+abbrev pub may_read_line : View → Option Line → Bool
+may_read_line v None = false
+may_read_line v (Some l) = is_running v.phase && l.is_open && not (asks_shut v l) && not l.is_quiet
+
+abbrev pub may_read : View → (s : ℕ) → Bool
+may_read v s = may_read_line v (line_of v s)
+
+abbrev pub is_within : View → (count : ℕ) → Option Line → Bool
+is_within v count None = false
+is_within v count (Some l) = nat_lt 0 count && nat_le count (room_on v l)
+
+-- bytes are taken only where each frame that came before was handled
+abbrev pub may_take : View → (s : ℕ) → List ℕ → Bool
+may_take v s bytes = may_read v s && is_empty v.waiting && is_within v (length bytes) (line_of v s)
+
+-- ---- writing: an open socket, behind no write that was refused, and bytes that are due
+
+abbrev pub may_write_line : View → Option Line → Bool
+may_write_line v None = false
+may_write_line v (Some l) =
+    is_running v.phase && l.is_open && not l.is_blocked &&
+    (not (is_empty l.unsent) || not (is_empty l.controls) || has_frame (length (safe_frames v)) l)
+
+abbrev pub may_write : View → (s : ℕ) → Bool
+may_write v s = may_write_line v (line_of v s)
+
+abbrev pub are_due : View → List ℕ → Option Line → Bool
+are_due v bytes None = false
+are_due v bytes (Some l) = is_some (giving (safe_frames v) bytes l)
+
+abbrev pub may_give : View → (s : ℕ) → List ℕ → Bool
+may_give v s bytes = may_write v s && nat_lt 0 (length bytes) && are_due v bytes (line_of v s)
+
+-- ---- shutting: where a rule or a limit asks for it
+
+abbrev pub may_shut_line : View → Option Line → Bool
+may_shut_line v None = false
+may_shut_line v (Some l) = is_running v.phase && asks_shut v l
+
+abbrev pub may_shut : View → (s : ℕ) → Bool
+may_shut v s = may_shut_line v (line_of v s)
+
+-- ---- polling: what it opens is new, as a station promises
+
+abbrev pub opens_new : View → List Ready → Bool
+opens_new v [] = true
+opens_new v (Opened s ∷ more) = not (is_used v s) && not (opens more s) && opens_new v more
+opens_new v (Seems s ∷ more) = opens_new v more
+
+-- ---- all items
+
+-- a call may fail where it may be made
+abbrev pub may_fail : View → Call → Bool
+may_fail v (ListenCall addr) = may_listen v addr
+may_fail v (LogCall name) = may_begin v name
+may_fail v (DialCall q addr) = may_dial v q addr
+may_fail v PollCall = is_licensed v
+may_fail v (ReadCall s) = may_read v s
+may_fail v (WriteCall s) = may_write v s
+may_fail v (KeepCall bytes) = may_keep v bytes
+may_fail v SyncCall = may_sync v
+
+-- the item may come next
+abbrev pub is_allowed : View → Item → Bool
+is_allowed v (LogBegun name) = may_begin v name
+is_allowed v (Listening addr) = may_listen v addr
+is_allowed v (Dialled s q addr) = may_dial v q addr && not (is_used v s)
+is_allowed v (Polled list) = is_licensed v && opens_new v list
+is_allowed v (Took s bytes) = may_take v s bytes
+is_allowed v (Gave s bytes) = may_give v s bytes
+is_allowed v (ReadNotYet s) = may_read v s
+is_allowed v (WriteNotYet s) = may_write v s
+is_allowed v (Ended s) = may_read v s
+is_allowed v (Shut s) = may_shut v s
+is_allowed v (Kept bytes) = may_keep v bytes
+is_allowed v Synced = may_sync v
+is_allowed v (Failed call) = may_fail v call
+
+abbrev pub IsAllowed : View → Item → Type 0
+IsAllowed v item = IsTrue (is_allowed v item)
