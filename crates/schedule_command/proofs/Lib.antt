@@ -1,0 +1,4 @@
+pub mod Readings
+pub mod Named
+pub mod Answered
+pub mod Opened

@@ -1,0 +1,6 @@
+pub mod Grammar
+pub mod Hostile
+pub mod Lines
+pub mod Schedule
+pub mod Played
+pub mod Words
