@@ -1,0 +1,65 @@
+-- Fronts: the bytes of a log's first entries grow by those of the next one, and stay as the log grows.
+use Rattle.std.proofs.Common.{◌≡◌, ℕ, zero, suc, ◌+◌, ◌≤◌, ◌<◌, List, [], ◌∷◌, ◌++◌, length, take, refl, sym, ap, ◌∙◌, append_assoc, arith, length-append}
+use Rattle.std.specs.Prelude.{Option, Some, None, slice_get}
+use Rattle.std.proofs.lemmas.List.{take-append-le}
+use Rattle.definitions.specs.declared.logs.Entry.{Entry}
+use Rattle.definition_laws.proofs.Listing.{append_nil, nothing_some, take_more}
+use Rattle.session_log.specs.Spelling.{log_bytes}
+use Rattle.session_log.specs.Writing.{Writing, after, all_written, fresh, written}
+use Rattle.session_log.proofs.Logs.{log_written}
+use Rattle.lethwyrn_c.specs.Fronts.{behind, front, StandsAt, BeginsAtTheFront, GoesOnByTheNext, StaysAsLogsGrow}
+
+-- one entry more
+behind_more : (w : Writing) (es : List Entry) (e : Entry) → behind w (es ++ e ∷ []) ≡ after (behind w es) e
+behind_more w [] e = refl
+behind_more w (d ∷ es) e = behind_more (after w d) es e
+
+written_more : (w : Writing) (es : List Entry) (e : Entry) → all_written w (es ++ e ∷ []) ≡ all_written w es ++ written (behind w es) e
+written_more w [] e = append_nil (written w e)
+written_more w (d ∷ es) e = ap (λ xs. written w d ++ xs) (written_more (after w d) es e) ∙ sym (append_assoc (written w d) (all_written (after w d) es) (written (behind (after w d) es) e))
+
+some_within : {X : Type 0} (xs : List X) (n : ℕ) (x : X) → slice_get xs n ≡ Some x → n < length xs
+some_within [] n x h = absurd (nothing_some x h)
+some_within (y ∷ xs) zero x h = omega arith
+some_within (y ∷ xs) (suc n) x h = let ih = some_within xs n x h in omega arith
+
+-- the bytes of the first entries and of the next one
+front_next : (id : List ℕ) (me : ℕ) (es : List Entry) (n : ℕ) (e : Entry) → slice_get es n ≡ Some e →
+    front id me es (n + 1) ≡ front id me es n ++ written (behind (fresh id me) (take n es)) e
+front_next id me es n e at =
+    let w : Writing = fresh id me in
+    sym (log_written id me (take (n + 1) es)) ∙ (ap (all_written w) (take_more n es e at) ∙ (written_more w (take n es) e ∙
+    ap (λ xs. xs ++ written (behind w (take n es)) e) (log_written id me (take n es))))
+
+pub begins : BeginsAtTheFront
+begins id me es = record { within = omega arith; writer_is = refl; count_is = refl }
+
+pub goes_on : GoesOnByTheNext
+goes_on id me es n w count e s at =
+    let v : Writing = fresh id me in
+    let lt = some_within es n e at in
+    let grown : front id me es (n + 1) ≡ front id me es n ++ written w e =
+    front_next id me es n e at ∙ ap (λ u. front id me es n ++ written u e) (sym s.writer_is) in
+    let sized = length-append (front id me es n) (written w e) in
+    let long : length (front id me es (n + 1)) ≡ length (front id me es n ++ written w e) = ap length grown in
+    let was = s.count_is in (
+      grown,
+      record {
+        within = omega arith;
+        writer_is = ap (λ u. after u e) s.writer_is ∙ (sym (behind_more v (take n es) e) ∙ ap (behind v) (sym (take_more n es e at)));
+        count_is = omega arith;
+      },
+    )
+
+pub stays : StaysAsLogsGrow
+stays id me es more n w count s =
+    let l = length-append es more in
+    let le = s.within in
+    let same : take n (es ++ more) ≡ take n es = take-append-le n es more s.within in (
+      ap (log_bytes id me) same,
+      record {
+        within = omega arith;
+        writer_is = s.writer_is ∙ ap (behind (fresh id me)) (sym same);
+        count_is = s.count_is ∙ ap (λ xs. length (log_bytes id me xs)) (sym same);
+      },
+    )

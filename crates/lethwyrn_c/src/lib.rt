@@ -1,0 +1,20 @@
+//! A peer for C: one handle, behind which a peer, a reader for each link, and how far its log was handed out and stored stand.
+//!
+//! Each call takes the handle by its address, and answers with a code that `lethwyrn.h` names. A handle of zeros is one
+//! without a peer, and each call but those that make a peer refuses it. What else C hands in is tested when the call runs, but for pointers.
+//! The crate promises what a call answers by the peer's own definitions, that each entry of the log is handed out once and in its order, and
+//! that an own frame is handed out only where its entry was named as stored. Memory is taken where a peer is made, and given
+//! back by `lethwyrn_free`; nothing else outside is touched.
+#![tactic(auto)]
+
+mod codes;
+mod exports;
+mod handle;
+pub mod laws;
+mod link;
+mod loose;
+mod mark;
+mod seat;
+mod showing;
+mod telling;
+mod views;

@@ -1,0 +1,70 @@
+//! How far the bytes of a log go.
+
+ghost use Rattle.std.specs.Prelude.{◌≡◌, ◌+◌, ◌*◌, ◌≤◌, ◌<◌, ◌^◌, take, length, slice_get, MatchOption};
+ghost use Rattle.session_log.specs.Writing.{fresh, written, after};
+
+use definitions::{Entry, PlayerId};
+use grid_world::Session;
+use session_log::LogWriter;
+
+/// The front of a log: the writer behind it, and how many entries and bytes it has.
+#[derive(Drop)]
+pub(crate) struct Mark {
+    pub(crate) writer: LogWriter,
+    pub(crate) entries: usize,
+    pub(crate) bytes: u128,
+    ghost few: { bytes ≤ 96 * entries },
+}
+
+impl Mark {
+    /// The front that has no entry.
+    fn first(session: &Session, me: PlayerId) -> Mark
+        ensures writer { result.writer ≡ fresh session.now.id me }
+        ensures entries { result.entries ≡ 0 }
+        ensures bytes { result.bytes ≡ 0 }
+    {
+        Mark {
+            writer: LogWriter::new(session, me),
+            entries: 0,
+            bytes: 0,
+        }
+    }
+
+    /// The front of all of these entries.
+    pub(crate) fn behind(session: &Session, me: PlayerId, entries: &[Entry]) -> Mark
+        ensures entries { result.entries ≡ length entries.now }
+    {
+        let mut mark = Mark::first(session, me);
+        for entry in entries {
+            mark.add(entry, &mut [0; 96]);
+        }
+        mark
+    }
+
+    /// Goes on by this entry, which is the next one: writes its bytes and says how many they are.
+    fn add(&mut self, entry: &Entry, out: &mut [u8; 96]) -> usize
+        requires room { self.old.entries + 1 < 2 ^ 64 }
+        ensures bytes { take result out.new ≡ written self.old.writer entry.now }
+        ensures count { result ≡ length (written self.old.writer entry.now) }
+        ensures writer { self.new.writer ≡ after self.old.writer entry.now }
+        ensures entries { self.new.entries ≡ self.old.entries + 1 }
+        ensures more { self.new.bytes ≡ self.old.bytes + result }
+    {
+        let count = self.writer.put(entry, out);
+        self.bytes += count as u128;
+        self.entries += 1;
+        count
+    }
+
+    /// Goes on by the next of these entries, if there is one: writes its bytes and says how many they are, or 0.
+    pub(crate) fn step(&mut self, entries: &[Entry], out: &mut [u8; 96]) -> usize
+        ensures step { MatchOption (slice_get entries.now self.old.entries) ((result ≡ 0) × (self.new ≡ self.old)) (λ e.
+            (take result out.new ≡ written self.old.writer e) × (result ≡ length (written self.old.writer e)) × (self.new.writer ≡ after self.old.writer e) ×
+            (self.new.entries ≡ self.old.entries + 1) × (self.new.bytes ≡ self.old.bytes + result)) }
+    {
+        match entries.get(self.entries) {
+            None => 0,
+            Some(entry) => self.add(entry, out),
+        }
+    }
+}
