@@ -21,7 +21,7 @@ use Rattle.wire_frames.specs.Fronts.{bad_place, frame_of, good_front, front_of}
 use Rattle.wire_frames.specs.Reading.{fed_step}
 use Rattle.session_log.specs.Spelling.{entry_text, body_of}
 use Rattle.session_log.specs.Entries.{entry_of, chose_of}
-use Rattle.loop_rules.specs.Worked.{BeginsByTheRules, GreetsByTheRules, TakesFramesByTheRules, RevealsByTheRules, AsksOnceForAFarFrame, ShutsForABadByte, ReadsNoMoreThanAHello, ShutsTheFormerOfOneName, EndsAtAFailedKeep, ReadsBeforeItPolls, SyncsBeforeItPolls, PollsForAReason, LeavesWhatWasSynced}
+use Rattle.loop_rules.specs.Worked.{BeginsByTheRules, GreetsByTheRules, TakesFramesByTheRules, RevealsByTheRules, AsksOnceForAFarFrame, ShutsForABadByte, ReadsNoMoreThanAHello, ShutsTheFormerOfOneName, EndsAtAFailedKeep, ReadsBeforeItPolls, SyncsBeforeItPolls, PollsForAReason, LeavesWhatWasSynced, GoesOnFromAnOlderLog, AnswersAHello, MovesByAWant}
 
 pub begins_by_the_rules : BeginsByTheRules
 unfolding BeginsByTheRules sha256 digest_bytes hash_after compress rounds schedule first_words cells_in row_of walked stepped spread is_legal opening commitment cell_bytes move_bytes commit_place reveal_place slot_at known known_to next_known digest_of made got_of chosen meets findings findings_in finding_at first_pair show_kind sightings sightings_from is_clean are_illegal others may_reveal may_commit allows allows_frame allows_choice needs may_choose next_made is_far is_same place_of frame_bytes turn_frame_of spelling bad_place frame_of good_front front_of fed_step entry_text body_of entry_of chose_of
@@ -74,3 +74,15 @@ polls_for_a_reason = (refl, refl, refl)
 pub leaves_what_was_synced : LeavesWhatWasSynced
 unfolding LeavesWhatWasSynced sha256 digest_bytes hash_after compress rounds schedule first_words cells_in row_of walked stepped spread is_legal opening commitment cell_bytes move_bytes commit_place reveal_place slot_at known known_to next_known digest_of made got_of chosen meets findings findings_in finding_at first_pair show_kind sightings sightings_from is_clean are_illegal others may_reveal may_commit allows allows_frame allows_choice needs may_choose next_made is_far is_same place_of frame_bytes turn_frame_of spelling bad_place frame_of good_front front_of fed_step entry_text body_of entry_of chose_of
 leaves_what_was_synced = (refl, refl, refl, refl, refl, refl)
+
+pub goes_on_from_an_older_log : GoesOnFromAnOlderLog
+unfolding GoesOnFromAnOlderLog sha256 digest_bytes hash_after compress rounds schedule first_words cells_in row_of walked stepped spread is_legal opening commitment cell_bytes move_bytes commit_place reveal_place slot_at known known_to next_known digest_of made got_of chosen meets findings findings_in finding_at first_pair show_kind sightings sightings_from is_clean are_illegal others may_reveal may_commit allows allows_frame allows_choice needs may_choose next_made is_far is_same place_of frame_bytes turn_frame_of spelling bad_place frame_of good_front front_of fed_step entry_text body_of entry_of chose_of
+goes_on_from_an_older_log = (refl, refl, refl)
+
+pub answers_a_hello : AnswersAHello
+unfolding AnswersAHello sha256 digest_bytes hash_after compress rounds schedule first_words cells_in row_of walked stepped spread is_legal opening commitment cell_bytes move_bytes commit_place reveal_place slot_at known known_to next_known digest_of made got_of chosen meets findings findings_in finding_at first_pair show_kind sightings sightings_from is_clean are_illegal others may_reveal may_commit allows allows_frame allows_choice needs may_choose next_made is_far is_same place_of frame_bytes turn_frame_of spelling bad_place frame_of good_front front_of fed_step entry_text body_of entry_of chose_of
+answers_a_hello = (refl, refl)
+
+pub moves_by_a_want : MovesByAWant
+unfolding MovesByAWant sha256 digest_bytes hash_after compress rounds schedule first_words cells_in row_of walked stepped spread is_legal opening commitment cell_bytes move_bytes commit_place reveal_place slot_at known known_to next_known digest_of made got_of chosen meets findings findings_in finding_at first_pair show_kind sightings sightings_from is_clean are_illegal others may_reveal may_commit allows allows_frame allows_choice needs may_choose next_made is_far is_same place_of frame_bytes turn_frame_of spelling bad_place frame_of good_front front_of fed_step entry_text body_of entry_of chose_of
+moves_by_a_want = (refl, refl, refl)

@@ -2,19 +2,17 @@
 use Rattle.std.proofs.Common.{◌≡◌, ◌⊎◌, inl, inr, ℕ, Bool, true, false, refl, sym, ap, ◌∙◌, List, [], ◌∷◌, ◌++◌, append_assoc, append-nil}
 use Rattle.std.specs.Prelude.{Option, Some, None, ◌==◌, ◌&&◌, not, is_some, slice_get, if◌then◌else◌}
 use Rattle.std.specs.List.{flat_map}
-use Rattle.std.proofs.lemmas.Bool.{and_parts, eqb-true}
+use Rattle.std.proofs.lemmas.Bool.{eqb-true}
 use Rattle.std.proofs.lemmas.Grind.{flat_map-append}
 use Rattle.definitions.specs.declared.frames.TurnFrame.{TurnFrame}
 use Rattle.definitions.specs.Lists.{EachIs}
 use Rattle.wire_frames.specs.declared.frames.Frame.{Frame}
-use Rattle.wire_frames.specs.declared.frames.Frame.TheVariants.{Hello, Turn, Want}
+use Rattle.wire_frames.specs.declared.frames.Frame.TheVariants.{Turn}
 use Rattle.wire_frames.specs.Spelling.{spelling}
-use Rattle.socket_station.specs.Items.{Item, Gave}
-use Rattle.loop_rules.specs.Settings.{Setting}
 use Rattle.loop_rules.specs.Lines.{Line, Giving, Control, Greet, Ask, control_frame, greets, ended, gave_on, gave_of, begins_control, begins_own, own_at_cursor, either_giving, given_byte, given_bytes, giving, nothing_given}
-use Rattle.loop_rules.specs.Views.{View, line_of, safe_frames}
+use Rattle.loop_rules.specs.Views.{safe_frames}
 use Rattle.loop_rules.specs.After.{view_of}
-use Rattle.loop_rules.specs.Laws.{IsOwnOf, GoesOn, GivenIsSynced, IsDueOn}
+use Rattle.loop_rules.specs.Laws.{IsOwnOf, GoesOn, GivenIsSynced}
 use Rattle.loop_rules.proofs.Ends.{given_is_due}
 
 left_ended : (l : Line) (o : Option ℕ) → (ended l o).unsent ≡ l.unsent

@@ -1,6 +1,9 @@
-mod Tests
 mod Prefixes
 mod Ends
 mod Given
 mod Kept
+mod Fair
+mod Tests
 mod Computed
+mod Received
+mod Revealed

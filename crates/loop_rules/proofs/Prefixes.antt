@@ -1,12 +1,9 @@
 -- Prefixes: a history is taken apart at an item.
-use Rattle.std.proofs.Common.{◌≡◌, Bool, true, false, refl, List, [], ◌∷◌, ◌++◌}
-use Rattle.std.specs.Prelude.{◌&&◌, IsTrue}
-use Rattle.socket_station.specs.declared.answers.Ready.{Ready}
+use Rattle.std.proofs.Common.{◌≡◌, true, refl, List, [], ◌∷◌, ◌++◌}
 use Rattle.socket_station.specs.Items.{Item, PollCall, Polled, Failed}
-use Rattle.loop_rules.specs.Settings.{Setting}
 use Rattle.loop_rules.specs.Views.{View, start}
 use Rattle.loop_rules.specs.After.{after, view_after, view_of}
-use Rattle.loop_rules.specs.Licence.{is_licensed, IsLicensed}
+use Rattle.loop_rules.specs.Licence.{is_licensed}
 use Rattle.loop_rules.specs.Rules.{is_allowed, opens_new}
 use Rattle.loop_rules.specs.Histories.{are_allowed}
 use Rattle.loop_rules.specs.Laws.{PrefixesAreHistories, ItemsAreAllowed, AllowedItemsAreAdded, PollsAreLicensed, FailedPollsAreLicensed}

@@ -1,14 +1,13 @@
 -- After: what is shown behind an item.
-use Rattle.std.specs.Prelude.{ℕ, ◌+◌, Bool, false, not, ◌&&◌, ◌==◌, nat_lt, List, [], ◌∷◌, ◌++◌, Option, Some, None, length, map}
+use Rattle.std.specs.Prelude.{ℕ, ◌+◌, false, not, nat_lt, List, [], ◌∷◌, ◌++◌, Option, Some, None, length, map}
 use Rattle.std.specs.List.{fold}
-use Rattle.wire_frames.specs.declared.frames.Frame.{Frame}
 use Rattle.socket_station.specs.declared.answers.Ready.{Ready}
 use Rattle.socket_station.specs.declared.answers.Ready.TheVariants.{Opened, Socket as Seems}
 use Rattle.socket_station.specs.Items.{Item, Call, ListenCall, LogCall, DialCall, PollCall, ReadCall, WriteCall, KeepCall, SyncCall, Listening, LogBegun, Dialled, Polled, Took, Gave, ReadNotYet, WriteNotYet, Ended, Failed, Shut, Kept, Synced}
 use Rattle.loop_rules.specs.declared.limits.TheConstants.{MOST_ACCEPTED}
 use Rattle.loop_rules.specs.Settings.{Setting}
 use Rattle.loop_rules.specs.Seats.{Seat, dials, rests, gives}
-use Rattle.loop_rules.specs.Lines.{Line, Giving, accepted_line, dialled_line, closed, quieted, blocked, woken, giving, is_player}
+use Rattle.loop_rules.specs.Lines.{Line, Giving, accepted_line, dialled_line, closed, quieted, blocked, woken, giving}
 use Rattle.loop_rules.specs.Views.{View, Phase, Logged, Running, KeepFault, PollFault, start, line_of, seat_of, at_line, at_seat, safe_frames}
 use Rattle.loop_rules.specs.Hearing.{took_on, hello_by}
 use Rattle.loop_rules.specs.Keeping.{kept_on}

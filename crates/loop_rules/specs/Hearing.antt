@@ -10,9 +10,8 @@ use Rattle.definitions.specs.Answers.{is_far, is_new}
 use Rattle.wire_frames.specs.declared.frames.Frame.{Frame}
 use Rattle.wire_frames.specs.declared.frames.Frame.TheVariants.{Hello, Turn, Want}
 use Rattle.wire_frames.specs.Streams.{Given, given_of}
-use Rattle.loop_rules.specs.Settings.{Setting}
 use Rattle.loop_rules.specs.Seats.{Seat, is_spent, spends, asks, obeys, may_want, has_number, is_wanted_of}
-use Rattle.loop_rules.specs.Lines.{Line, Control, Greet, Ask, is_player, is_named, doomed, with_control, moved_to}
+use Rattle.loop_rules.specs.Lines.{Line, Control, Greet, Ask, is_named, doomed, with_control, moved_to}
 use Rattle.loop_rules.specs.Views.{View, Arrival, line_of, seat_of, at_line, at_seat}
 
 -- the next place of the player in the log kept

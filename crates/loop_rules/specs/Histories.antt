@@ -1,10 +1,10 @@
 -- Histories: each item is allowed behind those before it, and what holds at the end.
-use Rattle.std.specs.Prelude.{◌≡◌, ◌⊎◌, ℕ, Bool, true, false, ◌&&◌, ◌||◌, List, [], ◌∷◌, ◌++◌, length, IsTrue}
+use Rattle.std.specs.Prelude.{◌≡◌, ◌⊎◌, Bool, true, ◌&&◌, List, [], ◌∷◌, ◌++◌, length, IsTrue}
 use Rattle.definitions.specs.declared.logs.Entry.{Entry}
 use Rattle.definitions.specs.Needs.{may_choose}
 use Rattle.socket_station.specs.Items.{Item}
 use Rattle.loop_rules.specs.Settings.{Setting}
-use Rattle.loop_rules.specs.Views.{View, Phase, Arrival, KeepFault, start}
+use Rattle.loop_rules.specs.Views.{View, KeepFault, start}
 use Rattle.loop_rules.specs.After.{after, view_of}
 use Rattle.loop_rules.specs.Rules.{is_allowed}
 

@@ -1,5 +1,5 @@
 -- Keeping: which entry may be kept next, and what is shown behind it.
-use Rattle.std.specs.Prelude.{ℕ, ◌-◌, Bool, true, false, ◌&&◌, List, [], ◌∷◌, ◌++◌, drop, take, Option, Some, None, length, is_none, slice_get}
+use Rattle.std.specs.Prelude.{ℕ, ◌-◌, Bool, false, ◌&&◌, List, [], ◌∷◌, ◌++◌, drop, take, Option, Some, None, length, is_none, slice_get}
 use Rattle.std.specs.Str.{bytes_eq}
 use Rattle.definitions.specs.declared.frames.TurnFrame.{TurnFrame}
 use Rattle.definitions.specs.declared.logs.Entry.{Entry}
@@ -10,7 +10,6 @@ use Rattle.definitions.specs.Advance.{next_made}
 use Rattle.session_log.specs.Entries.{entry_of}
 use Rattle.session_log.specs.Writing.{Writing, mark_of, written}
 use Rattle.session_log.specs.Writing as W
-use Rattle.loop_rules.specs.Settings.{Setting}
 use Rattle.loop_rules.specs.Views.{View, Phase, Fresh, Logged, Running, KeepFault, PollFault, Arrival}
 use Rattle.loop_rules.specs.Hearing.{sorted_out}
 
@@ -35,11 +34,15 @@ abbrev pub is_first : List Arrival → (q : ℕ) → TurnFrame → Bool
 is_first [] q f = false
 is_first (a ∷ more) q f = entry_eq (Got a.player a.frame) (Got q f)
 
--- the entry may be logged next: the own frames first, and then a choice or the first frame that waits
+-- whose turn an entry is: the own frames come first, and then a choice or the first frame that waits
+abbrev pub is_next : View → Entry → Bool
+is_next v (Made f) = is_frame (own_next v) f
+is_next v (Chose t m n) = is_none (own_next v)
+is_next v (Got q f) = is_none (own_next v) && is_first v.waiting q f
+
+-- the entry may be logged next: the protocol allows it, and it is its turn
 abbrev pub may_log : View → Entry → Bool
-may_log v (Made f) = is_frame (own_next v) f
-may_log v (Chose t m n) = is_none (own_next v) && allowed v.setting.game v.setting.me v.kept (Chose t m n)
-may_log v (Got q f) = is_none (own_next v) && is_first v.waiting q f
+may_log v e = allowed v.setting.game v.setting.me v.kept e && is_next v e
 
 -- the entry may be kept next: before the loop listens, those taken over in their order
 abbrev pub may_keep_in : Phase → View → Entry → Bool

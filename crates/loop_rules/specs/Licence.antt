@@ -1,10 +1,9 @@
 -- Licence: when the loop may wait, point by point.
-use Rattle.std.specs.Prelude.{ℕ, Bool, true, false, not, ◌&&◌, ◌||◌, ◌==◌, nat_lt, List, [], ◌∷◌, length, is_some, is_none, IsTrue}
+use Rattle.std.specs.Prelude.{Bool, true, false, not, ◌&&◌, ◌||◌, ◌==◌, nat_lt, length, is_some, is_none, IsTrue}
 use Rattle.std.specs.List.{list_all, list_any}
 use Rattle.definitions.specs.Lists.{is_empty}
 use Rattle.definitions.specs.Needs.{needs, may_choose}
 use Rattle.definitions.specs.Findings.{is_clean}
-use Rattle.loop_rules.specs.Settings.{Setting}
 use Rattle.loop_rules.specs.Seats.{Seat, is_spent, given_count}
 use Rattle.loop_rules.specs.Lines.{Line, has_due}
 use Rattle.loop_rules.specs.Views.{View, Phase, Fresh, Logged, Running, KeepFault, PollFault, made_kept, asks_shut, is_served}

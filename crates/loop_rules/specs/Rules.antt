@@ -7,7 +7,7 @@ use Rattle.socket_station.specs.declared.answers.Ready.{Ready}
 use Rattle.socket_station.specs.declared.answers.Ready.TheVariants.{Opened, Socket as Seems}
 use Rattle.socket_station.specs.Items.{Item, Call, ListenCall, LogCall, DialCall, PollCall, ReadCall, WriteCall, KeepCall, SyncCall, Listening, LogBegun, Dialled, Polled, Took, Gave, ReadNotYet, WriteNotYet, Ended, Failed, Shut, Kept, Synced}
 use Rattle.socket_station.specs.Standings.{opens}
-use Rattle.loop_rules.specs.Settings.{Setting, told_addr, addr_eq}
+use Rattle.loop_rules.specs.Settings.{told_addr, addr_eq}
 use Rattle.loop_rules.specs.Seats.{Seat, is_spent}
 use Rattle.loop_rules.specs.Lines.{Line, has_frame, giving}
 use Rattle.loop_rules.specs.Views.{View, Phase, Fresh, Logged, Running, KeepFault, PollFault, line_of, seat_of, safe_frames, is_used, is_served, room_on, asks_shut}

@@ -1,5 +1,5 @@
 -- Views: what a history shows at a moment.
-use Rattle.std.specs.Prelude.{ℕ, ◌-◌, Bool, true, false, not, ◌&&◌, ◌||◌, ◌==◌, nat_lt, List, [], ◌∷◌, ◌++◌, Option, Some, None, length, map, find, take, if◌then◌else◌}
+use Rattle.std.specs.Prelude.{ℕ, ◌-◌, Bool, ◌&&◌, ◌||◌, ◌==◌, List, [], Option, Some, None, map, find, take, if◌then◌else◌}
 use Rattle.std.specs.List.{list_any}
 use Rattle.definitions.specs.declared.frames.TurnFrame.{TurnFrame}
 use Rattle.definitions.specs.declared.logs.Entry.{Entry}
@@ -8,7 +8,7 @@ use Rattle.definitions.specs.Honest.{made_count}
 use Rattle.session_log.specs.Writing.{Writing, fresh}
 use Rattle.loop_rules.specs.declared.limits.TheConstants.{MOST_BYTES, HELLO_BYTES}
 use Rattle.loop_rules.specs.Settings.{Setting}
-use Rattle.loop_rules.specs.Seats.{Seat, new_seat, is_spent}
+use Rattle.loop_rules.specs.Seats.{Seat, new_seat}
 use Rattle.loop_rules.specs.Lines.{Line, serves}
 
 -- how far the loop came; behind a fault nothing comes

@@ -1,5 +1,5 @@
 -- Worked histories: a match of two in a corridor, told item by item, as the first player's loop plays it.
-use Rattle.std.specs.Prelude.{◌≡◌, ℕ, Bool, true, false, List, [], ◌∷◌, ◌++◌, Option, None, map, take, drop, replicate}
+use Rattle.std.specs.Prelude.{◌≡◌, ℕ, true, false, List, [], ◌∷◌, ◌++◌, None, map, take, drop, replicate}
 use Rattle.std.specs.List.{fold}
 use Rattle.definitions.specs.declared.frames.TurnFrame.{TurnFrame}
 use Rattle.definitions.specs.declared.frames.TurnFrame.TheVariants as F
@@ -7,19 +7,17 @@ use Rattle.definitions.specs.declared.logs.Entry.{Entry}
 use Rattle.definitions.specs.declared.logs.Entry.TheVariants.{Chose, Made, Got}
 use Rattle.definitions.specs.World.{Game}
 use Rattle.definition_laws.specs.Rows.{corridor_of, seat, nonce, to, commit_by, reveal_by}
-use Rattle.wire_frames.specs.declared.frames.Frame.{Frame}
 use Rattle.wire_frames.specs.declared.frames.Frame.TheVariants.{Hello, Turn, Want}
 use Rattle.wire_frames.specs.Spelling.{spelling}
 use Rattle.session_log.specs.Writing.{Writing, fresh, written}
 use Rattle.session_log.specs.Writing as W
 use Rattle.rosters.specs.declared.addr.Addr.{Addr as RosterAddr}
-use Rattle.socket_station.specs.declared.answers.Addr.{Addr}
 use Rattle.socket_station.specs.declared.answers.Ready.TheVariants.{Opened, Socket as Seems}
 use Rattle.socket_station.specs.Items.{Item, KeepCall, Listening, LogBegun, Dialled, Polled, Took, Gave, ReadNotYet, Failed, Shut, Kept, Synced}
 use Rattle.loop_rules.specs.Settings.{Setting, told_addr}
 use Rattle.loop_rules.specs.Seats.{asks, dials}
 use Rattle.loop_rules.specs.Views.{View, Running, start}
-use Rattle.loop_rules.specs.After.{after, view_of, view_after}
+use Rattle.loop_rules.specs.After.{view_of, view_after}
 use Rattle.loop_rules.specs.Licence.{is_licensed, is_waited_for, all_is_read, all_is_played}
 use Rattle.loop_rules.specs.Rules.{is_allowed}
 use Rattle.loop_rules.specs.Histories.{are_allowed}
@@ -221,3 +219,37 @@ LeavesWhatWasSynced =
     (has_lucky_tail (setting []) (handed_in stopped None) (kept_for [] chose ++ take 50 (kept_for (chose ∷ []) committed)) ≡ false) ×
     (has_lucky_tail (setting []) (handed_in stopped None) (kept_for [] chose ++ kept_for (chose ∷ []) committed) ≡ false) ×
     (has_lucky_tail (setting []) (handed_in stopped None) (kept_for [] chose ++ kept_for (chose ∷ []) got_commit) ≡ true)
+
+-- ---- beginning from an older log, and what is said on a socket
+
+-- the entries taken over are kept and synced before the loop listens
+abbrev pub resumed : List Item
+resumed =
+    LogBegun name ∷ Kept (kept_for [] chose) ∷ Kept (kept_for (chose ∷ []) committed) ∷ Synced ∷ Listening (told_addr (addr_at 7000)) ∷ []
+
+abbrev pub resumed_to : (count : ℕ) → View
+resumed_to count = view_of (setting (chose ∷ committed ∷ [])) (take count resumed)
+
+unfoldable pub GoesOnFromAnOlderLog : Type 0
+GoesOnFromAnOlderLog =
+    (are_allowed (start (setting (chose ∷ committed ∷ []))) resumed ≡ true) × (is_allowed (resumed_to 2) Synced ≡ false) ×
+    (is_allowed (resumed_to 3) (Listening (told_addr (addr_at 7000))) ≡ false)
+
+-- on a socket that was accepted the own HELLO goes out behind the other's
+unfoldable pub AnswersAHello : Type 0
+AnswersAHello =
+    (is_allowed opened (Gave 7 (hello_of 0)) ≡ false) × (are_allowed opened (Took 7 (other_hello 0) ∷ Gave 7 (hello_of 0) ∷ []) ≡ true)
+
+-- the own commitment was given in part
+abbrev pub halfway : View
+halfway = view_after greeted (take 3 exchange)
+
+abbrev pub own_commit : List ℕ
+own_commit = turn_bytes (commit_by game 0 0 0 0)
+
+-- a WANT moves the cursor behind the frame that was begun
+unfoldable pub MovesByAWant : Type 0
+MovesByAWant =
+    (are_allowed halfway (Took 0 (spelling (Want 0)) ∷ Gave 0 (drop 10 own_commit) ∷ Gave 0 own_commit ∷ []) ≡ true) ×
+    (are_allowed halfway (Gave 0 (drop 10 own_commit) ∷ Gave 0 own_commit ∷ []) ≡ false) ×
+    (are_allowed halfway (Took 0 (spelling (Want 0)) ∷ Gave 0 own_commit ∷ []) ≡ false)

@@ -1,6 +1,6 @@
 //! Laws of histories: functions that do nothing, whose clauses are proved.
 
-ghost use Rattle.loop_rules.specs.Laws.{PrefixesAreHistories, ItemsAreAllowed, AllowedItemsAreAdded, PollsAreLicensed, FailedPollsAreLicensed, LogsAreBegunFirst, FaultsAreLast, GivenIsDue, GivenIsSynced, KeptBytesAreTheLog};
+ghost use Rattle.loop_rules.specs.Laws.{PrefixesAreHistories, ItemsAreAllowed, AllowedItemsAreAdded, PollsAreLicensed, FailedPollsAreLicensed, LogsAreBegunFirst, FaultsAreLast, GivenIsDue, GivenIsSynced, KeptBytesAreTheLog, KeptIsHonest, RevealsKeptStandBehind, ReceiptsStandBehind, RevealsGivenAreFair};
 
 /// What was told up to some moment is a history: each of its items may come behind those before it, and such an item makes one more.
 pub fn histories_grow_by_items()
@@ -36,4 +36,22 @@ pub fn given_is_due()
 /// The bytes kept, joined, are those of one log of the session: of the entries that the history shows as kept.
 pub fn kept_bytes_are_the_log()
     ensures { KeptBytesAreTheLog }
+{}
+
+/// The log kept is one that an honest peer may have, where the entries taken over are. So each reveal in it, and none other is given, stands
+/// behind a received commitment of each other player whose sphere met the own one.
+pub fn kept_logs_are_honest()
+    ensures honest { KeptIsHonest }
+    ensures reveals { RevealsKeptStandBehind }
+{}
+
+/// A frame that the log has as received stands in the entries taken over, or bytes were taken earlier that made it whole.
+pub fn receipts_stand_behind()
+    ensures { ReceiptsStandBehind }
+{}
+
+/// An own reveal that may be given, of which alone bytes are given, stands behind the receipt of a commitment to its turn from each other
+/// player whose sphere met the own one: that commitment was taken over, or bytes were taken earlier that made it whole.
+pub fn reveals_given_are_fair()
+    ensures { RevealsGivenAreFair }
 {}

@@ -1,6 +1,6 @@
 //! Worked histories, computed by the checker: functions that do nothing, whose clauses are proved.
 
-ghost use Rattle.loop_rules.specs.Worked.{BeginsByTheRules, GreetsByTheRules, TakesFramesByTheRules, RevealsByTheRules, AsksOnceForAFarFrame, ShutsForABadByte, ReadsNoMoreThanAHello, ShutsTheFormerOfOneName, EndsAtAFailedKeep, ReadsBeforeItPolls, SyncsBeforeItPolls, PollsForAReason, LeavesWhatWasSynced};
+ghost use Rattle.loop_rules.specs.Worked.{BeginsByTheRules, GreetsByTheRules, TakesFramesByTheRules, RevealsByTheRules, AsksOnceForAFarFrame, ShutsForABadByte, ReadsNoMoreThanAHello, ShutsTheFormerOfOneName, EndsAtAFailedKeep, ReadsBeforeItPolls, SyncsBeforeItPolls, PollsForAReason, LeavesWhatWasSynced, GoesOnFromAnOlderLog, AnswersAHello, MovesByAWant};
 
 /// A match of two goes by the rules: the log is begun and the first move committed, the other player is dialled and greeted, frames go
 /// both ways, the own one in two pieces, and a far frame is answered by one WANT. Each poll of it is licensed.
@@ -34,4 +34,12 @@ pub fn polls()
 /// A crash leaves what was synced, and perhaps a part of what was not. An entry that was never kept is a lucky tail.
 pub fn a_crash()
     ensures { LeavesWhatWasSynced }
+{}
+
+/// The entries taken over are kept and synced before the loop listens. A HELLO is answered on a socket that was accepted, and a WANT moves the
+/// cursor behind the frame that was begun.
+pub fn older_logs_and_answers()
+    ensures older { GoesOnFromAnOlderLog }
+    ensures hello { AnswersAHello }
+    ensures want { MovesByAWant }
 {}
