@@ -1,5 +1,5 @@
 -- Fronts: the bytes of a log's first entries grow by those of the next one, and stay as the log grows.
-use Rattle.std.proofs.Common.{◌≡◌, ℕ, zero, suc, ◌+◌, ◌≤◌, ◌<◌, List, [], ◌∷◌, ◌++◌, length, take, refl, sym, ap, ◌∙◌, append_assoc, arith, length-append}
+use Rattle.std.proofs.Common.{◌≡◌, ℕ, zero, suc, ◌+◌, ◌≤◌, ◌<◌, List, [], ◌∷◌, ◌++◌, length, take, refl, sym, ap, ◌∙◌, append_assoc, arith, get_or, length-append}
 use Rattle.std.specs.Prelude.{Option, Some, None, slice_get}
 use Rattle.std.proofs.lemmas.List.{take-append-le}
 use Rattle.definitions.specs.declared.logs.Entry.{Entry}
@@ -63,3 +63,20 @@ stays id me es more n w count s =
         count_is = s.count_is ∙ ap (λ xs. length (log_bytes id me xs)) (sym same);
       },
     )
+
+slice_get-at : {X : Type 0} (xs : List X) (n : ℕ) (d : X) → n < length xs → slice_get xs n ≡ Some (get_or xs n d)
+slice_get-at [] n d lt = absurd (omega (arith, lt))
+slice_get-at (x ∷ xs) zero d lt = refl
+slice_get-at (x ∷ xs) (suc n) d lt = slice_get-at xs n d (omega (arith, lt))
+
+-- a writer that wrote the entry of this number stands behind it
+pub stepped : (id : List ℕ) (me : ℕ) (es : List Entry) (n m k : ℕ) (w v : Writing) (count more size : ℕ) (d : Entry) → k < length es → n ≡ k → v ≡ after w (get_or es k d) →
+    size ≡ length (written w (get_or es k d)) → m ≡ n + 1 → more ≡ count + size → StandsAt id me es n w count → StandsAt id me es m v more
+stepped id me es n m k w v count more size d lt same writer sized next longer s =
+    let e : Entry = get_or es k d in
+    let on = (goes_on id me es n w count e s (ap (slice_get es) same ∙ slice_get-at es k d lt)).1 in
+    let within = on.within in record {
+      within = omega arith;
+      writer_is = writer ∙ (on.writer_is ∙ ap (λ i. behind (fresh id me) (take i es)) (sym next));
+      count_is = (let q : more ≡ count + length (written w e) = omega arith in q) ∙ (on.count_is ∙ ap (λ i. length (front id me es i)) (sym next));
+    }

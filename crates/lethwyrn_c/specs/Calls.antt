@@ -31,6 +31,7 @@ use Rattle.wire_frames.specs.declared.frames.FedWhat.{FedWhat}
 use Rattle.lethwyrn_c.specs.Heard.{heard, code_of_heard}
 use Rattle.wire_frames.specs.declared.frames.Frame.TheVariants.{Hello}
 use Rattle.wire_frames.specs.Spelling.{spelling}
+use Rattle.lethwyrn_c.specs.Fronts.{StandsAt}
 use Rattle.lethwyrn_c.specs.Sending.{IsStoredFrame}
 
 -- what stands behind a handle: the peer, how many entries of its log were handed out and are stored, and the place of the own frame that is handed out next
@@ -235,3 +236,8 @@ abbrev pub IsMarkOn : Option Seat → Option Seat → Type 0
 IsMarkOn (Some s) (Some t) = MatchOption (slice_get s.peer.entries s.given.entries) ⊥ (λ e. (t.given.writer ≡ after s.given.writer e) × (t.given.bytes ≡ s.given.bytes + length (written s.given.writer e)))
 IsMarkOn (Some s) None = ⊥
 IsMarkOn None t = ⊥
+
+-- the writer stands behind the entries that count as handed out
+abbrev pub IsAtFront : Option Seat → Type 0
+IsAtFront None = ⊥
+IsAtFront (Some s) = StandsAt s.peer.game.id s.peer.me s.peer.entries s.given.entries s.given.writer s.given.bytes

@@ -38,6 +38,7 @@ fn seat(alloc: Global, handle: &mut Handle, peer: Peer) -> i32
     ensures made { result ≡ pos 0 → standing handle.new.value ≡ Some (record { peer = peer; given = length peer.entries; stored = length peer.entries; sent = 0 }) }
     ensures refused { result ≢ pos 0 → handle.new.value ≡ handle.old.value }
     ensures code { (result ≡ pos 0) ⊎ (result ≡ pos 2) }
+    ensures stands { result ≡ pos 0 → C.IsAtFront handle.new.value }
 {
     match Box::new(alloc, Seat::new(peer)) {
         Err(_) => codes::NO_MEMORY,
@@ -60,6 +61,7 @@ pub extern "C" fn lethwyrn_make(
     ensures made { result ≡ pos 0 → C.IsMade text.now player (standing handle.new.value) }
     ensures refused { result ≢ pos 0 → standing handle.new.value ≡ standing handle.old.value }
     ensures used { (result ≡ pos 6) ⊎ (standing handle.old.value ≡ None) }
+    ensures stands { result ≡ pos 0 → C.IsAtFront handle.new.value }
 {
     if let Some(old) = open(alloc, handle) {
         shut(handle, old);
@@ -91,6 +93,7 @@ pub extern "C" fn lethwyrn_resume(
     ensures on { result ≡ pos 0 → C.IsOn text.now player log.now (standing handle.new.value) }
     ensures refused { result ≢ pos 0 → standing handle.new.value ≡ standing handle.old.value }
     ensures used { (result ≡ pos 6) ⊎ (standing handle.old.value ≡ None) }
+    ensures stands { result ≡ pos 0 → C.IsAtFront handle.new.value }
 {
     if let Some(old) = open(alloc, handle) {
         shut(handle, old);

@@ -2,6 +2,7 @@
 
 ghost use Rattle.std.specs.Prelude.{◌≡◌, ◌+◌, ◌*◌, ◌≤◌, ◌<◌, ◌^◌, take, length, slice_get, MatchOption};
 ghost use Rattle.session_log.specs.Writing.{fresh, written, after};
+ghost use Rattle.lethwyrn_c.specs.Fronts.{StandsAt};
 
 use definitions::{Entry, PlayerId};
 use grid_world::Session;
@@ -31,8 +32,10 @@ impl Mark {
     }
 
     /// The front of all of these entries.
+    #[tactic(auto, using(crate::proofs::Fronts::begins))]
     pub(crate) fn behind(session: &Session, me: PlayerId, entries: &[Entry]) -> Mark
         ensures entries { result.entries ≡ length entries.now }
+        ensures stands { StandsAt session.now.id me entries.now result.entries result.writer result.bytes }
     {
         let mut mark = Mark::first(session, me);
         for entry in entries {

@@ -6,6 +6,7 @@ ghost use Rattle.definitions.specs.Logs as L;
 ghost use Rattle.session_log.specs.Writing.{written, after};
 ghost use Rattle.definitions.specs.Honest.{made_count};
 ghost use Rattle.lethwyrn_c.specs.Heard.{heard, code_of_heard};
+ghost use Rattle.lethwyrn_c.specs.Fronts.{StandsAt};
 ghost use Rattle.lethwyrn_c.specs.Sending.{IsStoredFrame};
 
 use crate::codes;
@@ -37,6 +38,7 @@ impl Seat {
         ensures given { result.given.entries ≡ length peer.entries }
         ensures stored { result.stored ≡ length peer.entries }
         ensures sent { result.sent ≡ 0 }
+        ensures stands { StandsAt peer.game.id peer.me peer.entries result.given.entries result.given.writer result.given.bytes }
     {
         let entries = peer.entries();
         let given = Mark::behind(peer.session(), peer.me(), entries);
