@@ -1,21 +1,23 @@
 -- Ends: behind a fault of the log, of listening or of a poll nothing may come; and what is given is due.
-use Rattle.std.proofs.Common.{◌≡◌, inl, inr, ℕ, Bool, true, false, refl, ap, List, [], ◌∷◌}
-use Rattle.std.specs.Prelude.{Option, Some, None}
+use Rattle.std.proofs.Common.{◌≡◌, inl, inr, ℕ, Bool, true, false, refl, List, [], ◌∷◌}
+use Rattle.std.specs.Prelude.{Option, Some, None, is_some}
 use Rattle.std.proofs.lemmas.Bool.{and_parts, or_cases}
-use Rattle.std.proofs.lemmas.Slice.Eq.{bytes_eq-Decides}
 use Rattle.definitions.specs.declared.logs.Entry.{Entry}
 use Rattle.socket_station.specs.declared.answers.Addr.{Addr}
 use Rattle.socket_station.specs.Items.{Item, Call, ListenCall, LogCall, DialCall, PollCall, ReadCall, WriteCall, KeepCall, SyncCall, Listening, LogBegun, Dialled, Polled, Took, Gave, ReadNotYet, WriteNotYet, Ended, Failed, Shut, Kept, Synced}
-use Rattle.loop_rules.specs.Seats.{Seat}
-use Rattle.loop_rules.specs.Lines.{Line}
-use Rattle.loop_rules.specs.Views.{View, Phase, Fresh, Logged, Running, KeepFault, PollFault, start, line_of, seat_of}
+use Rattle.socket_lines.specs.declared.line.Line.{Line}
+use Rattle.socket_lines.specs.declared.seat.Seat.{Seat}
+use Rattle.loop_rules.specs.declared.phases.Phase.{Phase}
+use Rattle.loop_rules.specs.declared.phases.Phase.TheVariants.{Fresh, Logged, Running, KeepFault, PollFault}
+use Rattle.loop_rules.specs.Tables.{line_of, seat_of}
+use Rattle.loop_rules.specs.Views.{View, start}
 use Rattle.loop_rules.specs.Keeping.{may_keep_in, may_keep_as, entry_in}
 use Rattle.loop_rules.specs.After.{after, after_failed, view_of}
 use Rattle.loop_rules.specs.Licence.{is_running, is_licensed}
-use Rattle.loop_rules.specs.Rules.{is_fresh, is_logged, may_begin, may_listen, may_sync, may_dial_at, may_read_line, may_write_line, may_shut_line, are_due, is_allowed}
-use Rattle.loop_rules.specs.Histories.{are_allowed}
-use Rattle.loop_rules.specs.Laws.{FaultsAreLast, LogsAreBegunFirst, log_name, ends_run, GivenIsDue, IsDueOn}
-use Rattle.loop_rules.proofs.Prefixes.{behind, items_are_allowed}
+use Rattle.loop_rules.specs.Rules.{is_fresh, is_logged, may_listen, may_sync, may_dial_at, may_read_line, may_write_line, may_shut_line, is_allowed}
+use Rattle.loop_rules.specs.Histories.{are_allowed, log_name}
+use Rattle.loop_rules.specs.Laws.{FaultsAreLast, LogsAreBegunFirst, ends_run}
+use Rattle.loop_rules.proofs.Prefixes.{behind}
 
 -- the run ended in a fault
 abbrev pub is_ended : Phase → Bool
@@ -81,17 +83,17 @@ no_sync v e h = elim (or_cases _ _ (and_parts _ _ h).0) [
   | inr logged ↦ not_logged v.phase e (and_parts _ _ logged).0
 ]
 
-no_dial : (v : View) (q : ℕ) (addr : Addr) (o : Option Seat) → is_still v.phase ≡ true → may_dial_at v q addr o ≡ true → ⊥
-no_dial v q addr None e h = cc
-no_dial v q addr (Some t) e h = not_running v.phase e (and_parts _ _ (and_parts _ _ (and_parts _ _ (and_parts _ _ (and_parts _ _ h).0).0).0).0).0
+no_dial : (v : View) (addr : Addr) (o : Option Seat) → is_still v.phase ≡ true → may_dial_at v addr o ≡ true → ⊥
+no_dial v addr None e h = cc
+no_dial v addr (Some c) e h = not_running v.phase e (and_parts _ _ (and_parts _ _ h).0).0
 
 no_read : (v : View) (o : Option Line) → is_still v.phase ≡ true → may_read_line v o ≡ true → ⊥
 no_read v None e h = cc
-no_read v (Some l) e h = not_running v.phase e (and_parts _ _ (and_parts _ _ (and_parts _ _ h).0).0).0
+no_read v (Some l) e h = not_running v.phase e (and_parts _ _ h).0
 
 no_write : (v : View) (o : Option Line) → is_still v.phase ≡ true → may_write_line v o ≡ true → ⊥
 no_write v None e h = cc
-no_write v (Some l) e h = not_running v.phase e (and_parts _ _ (and_parts _ _ (and_parts _ _ h).0).0).0
+no_write v (Some l) e h = not_running v.phase e (and_parts _ _ (and_parts _ _ (and_parts _ _ (and_parts _ _ h).0).0).0).0
 
 no_shut : (v : View) (o : Option Line) → is_still v.phase ≡ true → may_shut_line v o ≡ true → ⊥
 no_shut v None e h = cc
@@ -100,35 +102,29 @@ no_shut v (Some l) e h = not_running v.phase e (and_parts _ _ h).0
 no_poll : (v : View) → is_still v.phase ≡ true → is_licensed v ≡ true → ⊥
 no_poll v e h = not_running v.phase e (and_parts _ _ (and_parts _ _ (and_parts _ _ (and_parts _ _ (and_parts _ _ (and_parts _ _ h).0).0).0).0).0).0
 
--- an item that begins the log that was named
+-- an item that begins a log, at the start
 abbrev pub Begins : View → Item → Type 0
-Begins v item = (log_name item ≡ Some v.setting.name) × (is_fresh v.phase ≡ true)
-
-begins_named : (v : View) (name : List ℕ) → may_begin v name ≡ true → (Some name ≡ Some v.setting.name) × (is_fresh v.phase ≡ true)
-begins_named v name h =
-    let p = and_parts _ _ h in
-    let same : name ≡ v.setting.name = (bytes_eq-Decides name v.setting.name).0 p.1 in
-    (ap (λ (x : List ℕ). Some x) same, p.0)
+Begins v item = (is_some (log_name item) ≡ true) × (is_fresh v.phase ≡ true)
 
 still_begins : (v : View) (item : Item) → is_still v.phase ≡ true → is_allowed v item ≡ true → Begins v item
-still_begins v (LogBegun name) e h = begins_named v name h
+still_begins v (LogBegun name) e h = (refl, h)
 still_begins v (Listening addr) e h = absurd (no_listen v addr e h)
-still_begins v (Dialled s q addr) e h = absurd (no_dial v q addr (seat_of v q) e (and_parts _ _ h).0)
-still_begins v (Polled list) e h = absurd (no_poll v e (and_parts _ _ h).0)
-still_begins v (Took s bytes) e h = absurd (no_read v (line_of v s) e (and_parts _ _ (and_parts _ _ h).0).0)
-still_begins v (Gave s bytes) e h = absurd (no_write v (line_of v s) e (and_parts _ _ (and_parts _ _ h).0).0)
-still_begins v (ReadNotYet s) e h = absurd (no_read v (line_of v s) e h)
-still_begins v (WriteNotYet s) e h = absurd (no_write v (line_of v s) e h)
-still_begins v (Ended s) e h = absurd (no_read v (line_of v s) e h)
-still_begins v (Shut s) e h = absurd (no_shut v (line_of v s) e h)
+still_begins v (Dialled s q addr) e h = absurd (no_dial v addr (seat_of v.table q) e h)
+still_begins v (Polled list) e h = absurd (no_poll v e h)
+still_begins v (Took s bytes) e h = absurd (no_read v (line_of v.table s) e (and_parts _ _ (and_parts _ _ h).0).0)
+still_begins v (Gave s bytes) e h = absurd (no_write v (line_of v.table s) e (and_parts _ _ h).0)
+still_begins v (ReadNotYet s) e h = absurd (no_read v (line_of v.table s) e h)
+still_begins v (WriteNotYet s) e h = absurd (no_write v (line_of v.table s) e h)
+still_begins v (Ended s) e h = absurd (no_read v (line_of v.table s) e h)
+still_begins v (Shut s) e h = absurd (no_shut v (line_of v.table s) e h)
 still_begins v (Kept bytes) e h = absurd (no_keep v bytes (entry_in v.writer bytes) e h)
 still_begins v Synced e h = absurd (no_sync v e h)
 still_begins v (Failed (ListenCall addr)) e h = absurd (no_listen v addr e h)
-still_begins v (Failed (LogCall name)) e h = begins_named v name h
-still_begins v (Failed (DialCall q addr)) e h = absurd (no_dial v q addr (seat_of v q) e h)
+still_begins v (Failed (LogCall name)) e h = (refl, h)
+still_begins v (Failed (DialCall q addr)) e h = absurd (no_dial v addr (seat_of v.table q) e h)
 still_begins v (Failed PollCall) e h = absurd (no_poll v e h)
-still_begins v (Failed (ReadCall s)) e h = absurd (no_read v (line_of v s) e h)
-still_begins v (Failed (WriteCall s)) e h = absurd (no_write v (line_of v s) e h)
+still_begins v (Failed (ReadCall s)) e h = absurd (no_read v (line_of v.table s) e h)
+still_begins v (Failed (WriteCall s)) e h = absurd (no_write v (line_of v.table s) e h)
 still_begins v (Failed (KeepCall bytes)) e h = absurd (no_keep v bytes (entry_in v.writer bytes) e h)
 still_begins v (Failed SyncCall) e h = absurd (no_sync v e h)
 
@@ -156,12 +152,3 @@ pub faults_are_last : FaultsAreLast
 faults_are_last s items more call e h =
     let v = view_of s items in
     none_behind (after v (Failed call)) more (ended_behind v call e) (and_parts _ _ (behind (start s) items (Failed call ∷ more) h)).1
-
-due_on_line : (v : View) (bytes : List ℕ) (o : Option Line) → are_due v bytes o ≡ true → (l : Line) × (o ≡ Some l) × IsDueOn v bytes l
-due_on_line v bytes None h = absurd (cc)
-due_on_line v bytes (Some l) h = (l, refl, h)
-
-pub given_is_due : GivenIsDue
-given_is_due s items more socket bytes h =
-    let v = view_of s items in
-    due_on_line v bytes (line_of v socket) (and_parts _ _ (items_are_allowed s items more (Gave socket bytes) h)).1

@@ -12,13 +12,15 @@ use Rattle.definition_laws.proofs.ForPeers.{honest_push}
 use Rattle.definition_laws.proofs.Behind.{reveal_behind_received}
 use Rattle.socket_station.specs.Items.{Item, ListenCall, LogCall, DialCall, PollCall, ReadCall, WriteCall, KeepCall, SyncCall, Listening, LogBegun, Dialled, Polled, Took, Gave, ReadNotYet, WriteNotYet, Ended, Failed, Shut, Kept, Synced}
 use Rattle.loop_rules.specs.Settings.{Setting}
-use Rattle.loop_rules.specs.Views.{View, Phase, Fresh, Logged, Running, KeepFault, PollFault, start, line_of, seat_of}
+use Rattle.loop_rules.specs.declared.phases.Phase.{Phase}
+use Rattle.loop_rules.specs.declared.phases.Phase.TheVariants.{Fresh, Logged, Running, KeepFault, PollFault}
+use Rattle.loop_rules.specs.Views.{View, start}
 use Rattle.loop_rules.specs.Keeping.{entry_in, is_entry, may_keep_in, may_keep_as, with_entry, kept_entry}
 use Rattle.loop_rules.specs.After.{after, view_after}
 use Rattle.loop_rules.specs.Rules.{is_fresh, is_allowed}
 use Rattle.loop_rules.specs.Histories.{are_allowed}
 use Rattle.loop_rules.specs.Laws.{KeptIsHonest, RevealsKeptStandBehind}
-use Rattle.loop_rules.proofs.Kept.{Keeps, keeps_took, keeps_gave, keeps_dialled, keeps_polled, keeps_sorted}
+use Rattle.loop_rules.proofs.Kept.{Keeps, keeps_same, keeps_took, keeps_sorted}
 
 -- before the loop listens
 abbrev pub is_early : Phase → Bool
@@ -34,9 +36,9 @@ Fair s v = (v.setting ≡ s) × IsHonest s.game s.me v.kept × (is_early v.phase
 
 fair_keeps : (s : Setting) (v w : View) → Keeps v w → Fair s v → Fair s w
 fair_keeps s v w k r = (
-  k.2 ∙ r.0,
-  ap (honest_from s.game s.me []) k.0 ∙ r.1,
-  λ e. let x = r.2 (ap is_early (sym k.3) ∙ e) in (x.0, x.1 ∙ ap (λ (y : List Entry). y ++ x.0) (sym k.0)),
+  k.setting ∙ r.0,
+  ap (honest_from s.game s.me []) k.kept ∙ r.1,
+  λ e. let x = r.2 (ap is_early (sym k.phase) ∙ e) in (x.0, x.1 ∙ ap (λ (y : List Entry). y ++ x.0) (sym k.kept)),
 )
 
 next_over : (kept rest : List Entry) (d : Entry) → slice_get (kept ++ rest) (length kept) ≡ Some d → (more : List Entry) × (rest ≡ d ∷ more)
@@ -101,7 +103,7 @@ fair_kept : (s : Setting) (v : View) (bytes : List ℕ) (o : Option Entry) → I
 fair_kept s v bytes None over h r = r
 fair_kept s v bytes (Some e) over h r =
     let w = with_entry e v in
-    fair_keeps s w (kept_entry v (Some e)) (keeps_sorted w.waiting w) (fair_entry s v e v.phase over refl (and_parts _ _ h).1 r)
+    fair_keeps s w (kept_entry v (Some e)) (keeps_sorted w.table.waiting w) (fair_entry s v e v.phase over refl (and_parts _ _ h).1 r)
 
 fresh_early : (p : Phase) → is_fresh p ≡ true → is_early p ≡ true
 fresh_early Fresh e = refl
@@ -111,24 +113,24 @@ fresh_early KeepFault e = e
 fresh_early PollFault e = e
 
 fair_item : (s : Setting) (v : View) (item : Item) → IsHonest s.game s.me s.over → is_allowed v item ≡ true → Fair s v → Fair s (after v item)
-fair_item s v (LogBegun name) over h r = (r.0, r.1, λ early. r.2 (fresh_early v.phase (and_parts _ _ h).0))
+fair_item s v (LogBegun name) over h r = (r.0, r.1, λ early. r.2 (fresh_early v.phase h))
 fair_item s v (Listening addr) over h r = (r.0, r.1, λ early. absurd (false≢true early))
-fair_item s v (Dialled n q addr) over h r = fair_keeps s v (after v (Dialled n q addr)) (keeps_dialled v n q (seat_of v q)) r
-fair_item s v (Polled list) over h r = fair_keeps s v (after v (Polled list)) (keeps_polled v list) r
-fair_item s v (Took n bytes) over h r = fair_keeps s v (after v (Took n bytes)) (keeps_took v n bytes (line_of v n)) r
-fair_item s v (Gave n bytes) over h r = fair_keeps s v (after v (Gave n bytes)) (keeps_gave v n bytes (line_of v n)) r
-fair_item s v (ReadNotYet n) over h r = fair_keeps s v (after v (ReadNotYet n)) (refl, refl, refl, refl) r
-fair_item s v (WriteNotYet n) over h r = fair_keeps s v (after v (WriteNotYet n)) (refl, refl, refl, refl) r
-fair_item s v (Ended n) over h r = fair_keeps s v (after v (Ended n)) (refl, refl, refl, refl) r
-fair_item s v (Shut n) over h r = fair_keeps s v (after v (Shut n)) (refl, refl, refl, refl) r
+fair_item s v (Dialled n q addr) over h r = fair_keeps s v (after v (Dialled n q addr)) (keeps_same v (after v (Dialled n q addr)) refl refl refl refl refl) r
+fair_item s v (Polled list) over h r = fair_keeps s v (after v (Polled list)) (keeps_same v (after v (Polled list)) refl refl refl refl refl) r
+fair_item s v (Took n bytes) over h r = fair_keeps s v (after v (Took n bytes)) (keeps_took v n bytes) r
+fair_item s v (Gave n bytes) over h r = fair_keeps s v (after v (Gave n bytes)) (keeps_same v (after v (Gave n bytes)) refl refl refl refl refl) r
+fair_item s v (ReadNotYet n) over h r = fair_keeps s v (after v (ReadNotYet n)) (keeps_same v (after v (ReadNotYet n)) refl refl refl refl refl) r
+fair_item s v (WriteNotYet n) over h r = fair_keeps s v (after v (WriteNotYet n)) (keeps_same v (after v (WriteNotYet n)) refl refl refl refl refl) r
+fair_item s v (Ended n) over h r = fair_keeps s v (after v (Ended n)) (keeps_same v (after v (Ended n)) refl refl refl refl refl) r
+fair_item s v (Shut n) over h r = fair_keeps s v (after v (Shut n)) (keeps_same v (after v (Shut n)) refl refl refl refl refl) r
 fair_item s v (Kept bytes) over h r = fair_kept s v bytes (entry_in v.writer bytes) over h r
-fair_item s v Synced over h r = fair_keeps s v (after v Synced) (refl, refl, refl, refl) r
+fair_item s v Synced over h r = r
 fair_item s v (Failed (ListenCall addr)) over h r = (r.0, r.1, λ early. absurd (false≢true early))
 fair_item s v (Failed (LogCall name)) over h r = (r.0, r.1, λ early. absurd (false≢true early))
-fair_item s v (Failed (DialCall q addr)) over h r = fair_keeps s v (after v (Failed (DialCall q addr))) (refl, refl, refl, refl) r
+fair_item s v (Failed (DialCall q addr)) over h r = fair_keeps s v (after v (Failed (DialCall q addr))) (keeps_same v (after v (Failed (DialCall q addr))) refl refl refl refl refl) r
 fair_item s v (Failed PollCall) over h r = (r.0, r.1, λ early. absurd (false≢true early))
-fair_item s v (Failed (ReadCall n)) over h r = fair_keeps s v (after v (Failed (ReadCall n))) (refl, refl, refl, refl) r
-fair_item s v (Failed (WriteCall n)) over h r = fair_keeps s v (after v (Failed (WriteCall n))) (refl, refl, refl, refl) r
+fair_item s v (Failed (ReadCall n)) over h r = fair_keeps s v (after v (Failed (ReadCall n))) (keeps_same v (after v (Failed (ReadCall n))) refl refl refl refl refl) r
+fair_item s v (Failed (WriteCall n)) over h r = fair_keeps s v (after v (Failed (WriteCall n))) (keeps_same v (after v (Failed (WriteCall n))) refl refl refl refl refl) r
 fair_item s v (Failed (KeepCall bytes)) over h r = (r.0, r.1, λ early. absurd (false≢true early))
 fair_item s v (Failed SyncCall) over h r = (r.0, r.1, λ early. absurd (false≢true early))
 

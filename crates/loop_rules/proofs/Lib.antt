@@ -1,9 +1,11 @@
-mod Prefixes
-mod Ends
-mod Given
-mod Kept
-mod Fair
 mod Tests
+pub mod Prefixes
+mod Ends
+pub mod Given
+pub mod Kept
+mod Fair
 mod Computed
 mod Received
 mod Revealed
+pub mod Alike
+pub mod Told

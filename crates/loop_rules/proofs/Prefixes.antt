@@ -3,8 +3,7 @@ use Rattle.std.proofs.Common.{◌≡◌, true, refl, List, [], ◌∷◌, ◌++�
 use Rattle.socket_station.specs.Items.{Item, PollCall, Polled, Failed}
 use Rattle.loop_rules.specs.Views.{View, start}
 use Rattle.loop_rules.specs.After.{after, view_after, view_of}
-use Rattle.loop_rules.specs.Licence.{is_licensed}
-use Rattle.loop_rules.specs.Rules.{is_allowed, opens_new}
+use Rattle.loop_rules.specs.Rules.{is_allowed}
 use Rattle.loop_rules.specs.Histories.{are_allowed}
 use Rattle.loop_rules.specs.Laws.{PrefixesAreHistories, ItemsAreAllowed, AllowedItemsAreAdded, PollsAreLicensed, FailedPollsAreLicensed}
 use Rattle.loop_rules.proofs.Tests.{first_of, second_of, both_of}
@@ -37,8 +36,7 @@ pub allowed_are_added : AllowedItemsAreAdded
 allowed_are_added s items item h k = added (start s) items item h k
 
 pub polls_are_licensed : PollsAreLicensed
-polls_are_licensed s items more list h =
-    first_of (is_licensed (view_of s items)) (opens_new (view_of s items) list) (items_are_allowed s items more (Polled list) h)
+polls_are_licensed s items more list h = items_are_allowed s items more (Polled list) h
 
 pub failed_polls_are_licensed : FailedPollsAreLicensed
 failed_polls_are_licensed s items more h = items_are_allowed s items more (Failed PollCall) h

@@ -9,7 +9,6 @@ use Rattle.definitions.specs.declared.logs.Entry.TheVariants.{Chose, Made, Got}
 use Rattle.definitions.specs.Lists.{EachIs}
 use Rattle.definitions.specs.Logs.{player_of}
 use Rattle.definitions.specs.Findings.{is_clean}
-use Rattle.definitions.specs.Answers.{is_new}
 use Rattle.definition_laws.specs.Members.{Has}
 use Rattle.wire_frames.specs.declared.frames.Frame.{Frame}
 use Rattle.wire_frames.specs.declared.frames.Frame.TheVariants.{Hello, Turn, Want}
@@ -18,32 +17,45 @@ use Rattle.socket_station.specs.declared.answers.Ready.{Ready}
 use Rattle.socket_station.specs.declared.answers.Ready.TheVariants.{Opened, Socket as Seems}
 use Rattle.socket_station.specs.Items.{Item, ListenCall, LogCall, DialCall, PollCall, ReadCall, WriteCall, KeepCall, SyncCall, Listening, LogBegun, Dialled, Polled, Took, Gave, ReadNotYet, WriteNotYet, Ended, Failed, Shut, Kept, Synced}
 use Rattle.loop_rules.specs.Settings.{Setting}
-use Rattle.loop_rules.specs.Seats.{Seat, may_want, obeys}
-use Rattle.loop_rules.specs.Lines.{Line, Giving, doomed, moved_to, giving}
-use Rattle.loop_rules.specs.Views.{View, Arrival, Phase, Fresh, Logged, Running, KeepFault, PollFault, start, line_of, seat_of, at_line, at_seat, safe_frames}
-use Rattle.loop_rules.specs.Hearing.{names, named, heard_first, obeyed, arrived, heard_named, heard_by, heard_on, heard, passed, sorted, counted, read_on, heard_all, took_on}
+use Rattle.socket_lines.specs.declared.line.Line.{Line}
+use Rattle.socket_lines.specs.declared.seat.Seat.{Seat}
+use Rattle.socket_lines.specs.Seats.{may_want, obeys}
+use Rattle.socket_lines.specs.Lines.{doomed, moved_to}
+use Rattle.loop_rules.specs.declared.arrivals.Arrival.{Arrival}
+use Rattle.loop_rules.specs.declared.phases.Phase.{Phase}
+use Rattle.loop_rules.specs.declared.phases.Phase.TheVariants.{Fresh, Logged, Running, KeepFault, PollFault}
+use Rattle.loop_rules.specs.Tables.{Table, line_of, seat_of, at_line, at_seat}
+use Rattle.loop_rules.specs.Views.{View, start, safe_frames}
+use Rattle.socket_lines.specs.Giving.{Desk, Speaker}
+use Rattle.loop_rules.specs.Hearing.{Hearer, names, named, heard_first, obeyed, arrived, heard_named, heard_by, heard_on, heard, counted, read_on, read_at, heard_all, took_with, took_on}
+use Rattle.loop_rules.specs.Handling.{with_waiting, hearer_of, passed, is_new_to, sorted}
 use Rattle.loop_rules.specs.Keeping.{entry_in, is_first, may_keep_in, may_keep_as, with_entry, kept_entry, waiting_behind}
-use Rattle.loop_rules.specs.After.{after, dialled_with, listed, polled_on, given_to, gave_with, gave_by, view_after}
+use Rattle.loop_rules.specs.Settings.{speaker_of}
+use Rattle.loop_rules.specs.After.{after, with_table, listed, rested, own_at, gave_with, gave_by, view_after}
+use Rattle.loop_rules.specs.Tables.{desk_of}
 use Rattle.loop_rules.specs.Rules.{is_allowed}
 use Rattle.loop_rules.specs.Histories.{are_allowed}
 use Rattle.loop_rules.specs.Laws.{ComesBy, CameIn, ReceiptsStandBehind}
-use Rattle.loop_rules.proofs.Kept.{Keeps, keeps_took, keeps_gave, keeps_dialled, keeps_polled, keeps_sorted}
+use Rattle.loop_rules.proofs.Kept.{Keeps, keeps_took, keeps_sorted}
 use Rattle.loop_rules.proofs.Fair.{same_entry, entry_is}
 
 -- each of the frames that wait is such a one
 abbrev pub Waits : (TurnFrame → Type 0) → List Arrival → Type 0
 Waits P arrivals = EachIs (λ a. P a.frame) arrivals
 
-waits_either : (P : TurnFrame → Type 0) (b : Bool) (x y : View) → Waits P x.waiting → Waits P y.waiting → Waits P (if b then x else y).waiting
+waits_either : (P : TurnFrame → Type 0) (b : Bool) (x y : Table) → Waits P x.waiting → Waits P y.waiting → Waits P (if b then x else y).waiting
 waits_either P true x y m n = m
 waits_either P false x y m n = n
 
-waits_sorted : (P : TurnFrame → Type 0) (arrivals : List Arrival) (v : View) → Waits P arrivals → Waits P (sorted arrivals v).waiting
+waits_view : (P : TurnFrame → Type 0) (b : Bool) (x y : View) → Waits P x.table.waiting → Waits P y.table.waiting → Waits P (if b then x else y).table.waiting
+waits_view P true x y m n = m
+waits_view P false x y m n = n
+
+waits_sorted : (P : TurnFrame → Type 0) (arrivals : List Arrival) (v : View) → Waits P arrivals → Waits P (sorted arrivals v).table.waiting
 waits_sorted P [] v w = tt
 waits_sorted P (a ∷ more) v w =
-    let is_next = is_new v.setting.game v.setting.me v.kept a.player a.frame in
-    waits_either P (not (is_clean v.setting.game v.kept)) (record v { waiting = [] }) (if is_next then record v { waiting = a ∷ more } else sorted more (passed v a)) tt
-    (waits_either P is_next (record v { waiting = a ∷ more }) (sorted more (passed v a)) w (waits_sorted P more (passed v a) w.1))
+    waits_view P (not (is_clean v.setting.game v.kept)) (with_waiting [] v) (if is_new_to v a then with_waiting (a ∷ more) v else sorted more (passed v a)) tt
+    (waits_view P (is_new_to v a) (with_waiting (a ∷ more) v) (sorted more (passed v a)) w (waits_sorted P more (passed v a) w.1))
 
 waits_more : (P : TurnFrame → Type 0) (xs : List Arrival) (a : Arrival) → Waits P xs → P a.frame → Waits P (xs ++ a ∷ [])
 waits_more P [] a w p = (p, tt)
@@ -55,41 +67,41 @@ IsSuch P (Hello id q pass next) = Unit {0}
 IsSuch P (Turn f) = P f
 IsSuch P (Want place) = Unit {0}
 
-waits_first : (P : TurnFrame → Type 0) (v : View) (s : ℕ) (l : Line) (f : Frame) → Waits P v.waiting → Waits P (heard_first v s l f).waiting
-waits_first P v s l (Hello id q pass next) w = waits_either P (names v l id q pass) (named v s l q next) (at_line s doomed v) w w
-waits_first P v s l (Turn f) w = w
-waits_first P v s l (Want place) w = w
+waits_first : (P : TurnFrame → Type 0) (h : Hearer) (t : Table) (s : ℕ) (l : Line) (f : Frame) → Waits P t.waiting → Waits P (heard_first h t s l f).waiting
+waits_first P h t s l (Hello id q pass next) w = waits_either P (names h t l id q pass) (named h t s l q next) (at_line s doomed t) w w
+waits_first P h t s l (Turn f) w = w
+waits_first P h t s l (Want place) w = w
 
-waits_obeyed : (P : TurnFrame → Type 0) (v : View) (s q place : ℕ) (o : Option Seat) → Waits P v.waiting → Waits P (obeyed v s q place o).waiting
-waits_obeyed P v s q place None w = w
-waits_obeyed P v s q place (Some t) w = waits_either P (may_want t) (at_seat q obeys (at_line s (moved_to place) v)) v w w
+waits_obeyed : (P : TurnFrame → Type 0) (t : Table) (s q place : ℕ) (o : Option Seat) → Waits P t.waiting → Waits P (obeyed t s q place o).waiting
+waits_obeyed P t s q place None w = w
+waits_obeyed P t s q place (Some c) w = waits_either P (may_want c) (at_seat q obeys (at_line s (moved_to place) t)) t w w
 
-waits_named : (P : TurnFrame → Type 0) (v : View) (s q : ℕ) (f : Frame) → IsSuch P f → Waits P v.waiting → Waits P (heard_named v s q f).waiting
-waits_named P v s q (Hello id p pass next) such w = w
-waits_named P v s q (Turn f) such w =
-    waits_either P (player_of f == q) (arrived v s q f) (at_line s doomed v) (waits_more P v.waiting (record { socket = s; player = q; frame = f }) w such) w
-waits_named P v s q (Want place) such w = waits_obeyed P v s q place (seat_of v q) w
+waits_named : (P : TurnFrame → Type 0) (t : Table) (s q : ℕ) (f : Frame) → IsSuch P f → Waits P t.waiting → Waits P (heard_named t s q f).waiting
+waits_named P t s q (Hello id p pass next) such w = w
+waits_named P t s q (Turn f) such w =
+    waits_either P (player_of f == q) (arrived t q f) (at_line s doomed t) (waits_more P t.waiting (record { player = q; frame = f }) w such) w
+waits_named P t s q (Want place) such w = waits_obeyed P t s q place (seat_of t q) w
 
-waits_by : (P : TurnFrame → Type 0) (v : View) (s : ℕ) (l : Line) (o : Option ℕ) (f : Frame) → IsSuch P f → Waits P v.waiting → Waits P (heard_by v s l o f).waiting
-waits_by P v s l None f such w = waits_first P v s l f w
-waits_by P v s l (Some q) f such w = waits_named P v s q f such w
+waits_by : (P : TurnFrame → Type 0) (h : Hearer) (t : Table) (s : ℕ) (l : Line) (o : Option ℕ) (f : Frame) → IsSuch P f → Waits P t.waiting → Waits P (heard_by h t s l o f).waiting
+waits_by P h t s l None f such w = waits_first P h t s l f w
+waits_by P h t s l (Some q) f such w = waits_named P t s q f such w
 
-waits_on : (P : TurnFrame → Type 0) (v : View) (s : ℕ) (f : Frame) (o : Option Line) → IsSuch P f → Waits P v.waiting → Waits P (heard_on v s f o).waiting
-waits_on P v s f None such w = w
-waits_on P v s f (Some l) such w = waits_either P l.is_wrong v (heard_by v s l l.name f) w (waits_by P v s l l.name f such w)
+waits_on : (P : TurnFrame → Type 0) (h : Hearer) (t : Table) (s : ℕ) (f : Frame) (o : Option Line) → IsSuch P f → Waits P t.waiting → Waits P (heard_on h t s f o).waiting
+waits_on P h t s f None such w = w
+waits_on P h t s f (Some l) such w = waits_either P l.is_wrong t (heard_by h t s l l.name f) w (waits_by P h t s l l.name f such w)
 
-waits_frames : (P : TurnFrame → Type 0) (s : ℕ) (v : View) (fs : List Frame) → EachIs (IsSuch P) fs → Waits P v.waiting → Waits P (fold (heard s) v fs).waiting
-waits_frames P s v [] such w = w
-waits_frames P s v (f ∷ fs) such w = waits_frames P s (heard s v f) fs such.1 (waits_on P v s f (line_of v s) such.0 w)
+waits_frames : (P : TurnFrame → Type 0) (h : Hearer) (s : ℕ) (t : Table) (fs : List Frame) → EachIs (IsSuch P) fs → Waits P t.waiting → Waits P (fold (heard h s) t fs).waiting
+waits_frames P h s t [] such w = w
+waits_frames P h s t (f ∷ fs) such w = waits_frames P h s (heard h s t f) fs such.1 (waits_on P h t s f (line_of t s) such.0 w)
 
-waits_all : (P : TurnFrame → Type 0) (s : ℕ) (g : Given) (v : View) → EachIs (IsSuch P) g.frames → Waits P v.waiting → Waits P (heard_all s g v).waiting
-waits_all P s g v such w =
-    let u = fold (heard s) v g.frames in
-    waits_either P g.reader.bad (at_line s doomed u) u (waits_frames P s v g.frames such w) (waits_frames P s v g.frames such w)
+waits_all : (P : TurnFrame → Type 0) (h : Hearer) (s : ℕ) (g : Given) (t : Table) → EachIs (IsSuch P) g.frames → Waits P t.waiting → Waits P (heard_all h s g t).waiting
+waits_all P h s g t such w =
+    let u = fold (heard h s) t g.frames in
+    waits_either P g.reader.bad (at_line s doomed u) u (waits_frames P h s t g.frames such w) (waits_frames P h s t g.frames such w)
 
-waits_counted : (P : TurnFrame → Type 0) (o : Option ℕ) (count : ℕ) (v : View) → Waits P v.waiting → Waits P (counted o count v).waiting
-waits_counted P None count v w = w
-waits_counted P (Some q) count v w = w
+waits_counted : (P : TurnFrame → Type 0) (o : Option ℕ) (count : ℕ) (t : Table) → Waits P t.waiting → Waits P (counted o count t).waiting
+waits_counted P None count t w = w
+waits_counted P (Some q) count t w = w
 
 -- all frames of a list are such ones, where those of turns are
 each_such : (P : TurnFrame → Type 0) (fs : List Frame) → ((f : TurnFrame) → Has fs (Turn f) → P f) → EachIs (IsSuch P) fs
@@ -98,39 +110,29 @@ each_such P (Hello id q pass next ∷ fs) all = (tt, each_such P fs (λ f m. all
 each_such P (Turn g ∷ fs) all = (all g (inl refl), each_such P fs (λ f m. all f (inr m)))
 each_such P (Want place ∷ fs) all = (tt, each_such P fs (λ f m. all f (inr m)))
 
-waits_took : (P : TurnFrame → Type 0) (v : View) (s : ℕ) (bytes : List ℕ) (o : Option Line) →
-    ((l : Line) (f : TurnFrame) → o ≡ Some l → Has (given_of l.reader bytes).frames (Turn f) → P f) → Waits P v.waiting → Waits P (took_on v s bytes o).waiting
-waits_took P v s bytes None all w = w
-waits_took P v s bytes (Some l) all w =
+waits_took : (P : TurnFrame → Type 0) (h : Hearer) (t : Table) (s : ℕ) (bytes : List ℕ) (o : Option Line) →
+    ((l : Line) (f : TurnFrame) → o ≡ Some l → Has (given_of l.reader bytes).frames (Turn f) → P f) → Waits P t.waiting → Waits P (took_with h t s bytes o).waiting
+waits_took P h t s bytes None all w = w
+waits_took P h t s bytes (Some l) all w =
     let g = given_of l.reader bytes in
-    let t = at_line s (read_on (length bytes) g) v in
-    let u = counted l.name (length bytes) t in
-    let h = heard_all s g u in
-    waits_sorted P h.waiting h (waits_all P s g u (each_such P g.frames (λ f m. all l f refl m)) (waits_counted P l.name (length bytes) t w))
+    let u = read_at s (length bytes) g l t in
+    waits_all P h s g u (each_such P g.frames (λ f m. all l f refl m)) (waits_counted P l.name (length bytes) (at_line s (read_on (length bytes) g) t) w)
 
-waits_given_to : (P : TurnFrame → Type 0) (o : Option ℕ) (places : List ℕ) (v : View) → Waits P v.waiting → Waits P (given_to o places v).waiting
-waits_given_to P None places v w = w
-waits_given_to P (Some q) places v w = w
+waits_gave_with : (P : TurnFrame → Type 0) (k : Speaker) (own : Option TurnFrame) (count : ℕ) (t : Table) (o : Option Desk) → Waits P t.waiting → Waits P (gave_with k own count t o).waiting
+waits_gave_with P k own count t None w = w
+waits_gave_with P k own count t (Some d) w = w
 
-waits_gave_with : (P : TurnFrame → Type 0) (v : View) (s : ℕ) (o : Option Giving) → Waits P v.waiting → Waits P (gave_with v s o).waiting
-waits_gave_with P v s None w = w
-waits_gave_with P v s (Some g) w = waits_given_to P g.line.name g.places (at_line s (λ _. record g.line { is_blocked = false }) v) w
+waits_gave : (P : TurnFrame → Type 0) (k : Speaker) (safe : List TurnFrame) (count : ℕ) (t : Table) (o : Option Line) → Waits P t.waiting → Waits P (gave_by k safe count t o).waiting
+waits_gave P k safe count t None w = w
+waits_gave P k safe count t (Some l) w = waits_gave_with P k (own_at safe l) count t (desk_of t l) w
 
-waits_gave : (P : TurnFrame → Type 0) (v : View) (s : ℕ) (bytes : List ℕ) (o : Option Line) → Waits P v.waiting → Waits P (gave_by v s bytes o).waiting
-waits_gave P v s bytes None w = w
-waits_gave P v s bytes (Some l) w = waits_gave_with P v s (giving (safe_frames v) bytes l) w
+waits_one : (P : TurnFrame → Type 0) (t : Table) (r : Ready) → Waits P t.waiting → Waits P (listed t r).waiting
+waits_one P t (Opened s) w = w
+waits_one P t (Seems s) w = w
 
-waits_dialled : (P : TurnFrame → Type 0) (v : View) (s q : ℕ) (o : Option Seat) → Waits P v.waiting → Waits P (dialled_with v s q o).waiting
-waits_dialled P v s q None w = w
-waits_dialled P v s q (Some t) w = w
-
-waits_one : (P : TurnFrame → Type 0) (v : View) (r : Ready) → Waits P v.waiting → Waits P (listed v r).waiting
-waits_one P v (Opened s) w = w
-waits_one P v (Seems s) w = w
-
-waits_listed : (P : TurnFrame → Type 0) (v : View) (list : List Ready) → Waits P v.waiting → Waits P (fold listed v list).waiting
-waits_listed P v [] w = w
-waits_listed P v (r ∷ list) w = waits_listed P (listed v r) list (waits_one P v r w)
+waits_listed : (P : TurnFrame → Type 0) (t : Table) (list : List Ready) → Waits P t.waiting → Waits P (fold listed t list).waiting
+waits_listed P t [] w = w
+waits_listed P t (r ∷ list) w = waits_listed P (listed t r) list (waits_one P t r w)
 
 -- ---- entries
 
@@ -140,10 +142,10 @@ Logs P over kept = (q : ℕ) (f : TurnFrame) → Has kept (Got q f) → Has over
 
 -- what is known of a view
 abbrev pub Known : (TurnFrame → Type 0) → Setting → View → Type 0
-Known P s v = (v.setting ≡ s) × Waits P v.waiting × Logs P s.over v.kept
+Known P s v = (v.setting ≡ s) × Waits P v.table.waiting × Logs P s.over v.kept
 
-known_keeps : (P : TurnFrame → Type 0) (s : Setting) (v w : View) → Keeps v w → Waits P w.waiting → Known P s v → Known P s w
-known_keeps P s v w k waits r = (k.2 ∙ r.0, waits, λ q f m. r.2 q f (subst (λ (x : List Entry). Has x (Got q f)) k.0 m))
+known_keeps : (P : TurnFrame → Type 0) (s : Setting) (v w : View) → Keeps v w → Waits P w.table.waiting → Known P s v → Known P s w
+known_keeps P s v w k waits r = (k.setting ∙ r.0, waits, λ q f m. r.2 q f (subst (λ (x : List Entry). Has x (Got q f)) k.kept m))
 
 has_last : (xs : List Entry) (x y : Entry) → Has (xs ++ x ∷ []) y → Has xs y ⊎ (x ≡ y)
 has_last [] x y (inl e) = inr e
@@ -174,14 +176,14 @@ source P s v Fresh q f h r = absurd (false≢true h)
 source P s v Logged q f h r =
     inl (has_at s.over (length v.kept) (Got q f)
     (ap (λ (z : Setting). slice_get z.over (length v.kept)) (sym r.0) ∙ entry_is (slice_get v.setting.over (length v.kept)) (Got q f) h))
-source P s v Running q f h r = inr (first_is P v.waiting q f r.1 (and_parts _ _ (and_parts _ _ h).1).1)
+source P s v Running q f h r = inr (first_is P v.table.waiting q f r.1 (and_parts _ _ (and_parts _ _ h).1).1)
 source P s v KeepFault q f h r = absurd (false≢true h)
 source P s v PollFault q f h r = absurd (false≢true h)
 
 known_entry : (P : TurnFrame → Type 0) (s : Setting) (v : View) (e : Entry) → may_keep_in v.phase v e ≡ true → Known P s v → Known P s (with_entry e v)
 known_entry P s v e h r = (
   r.0,
-  dropped P e v.waiting r.1,
+  dropped P e v.table.waiting r.1,
   λ q f m. elim (has_last v.kept e (Got q f) m) [
     | inl before ↦ r.2 q f before
     | inr same ↦ source P s v v.phase q f (subst (λ (x : Entry). may_keep_in v.phase v x ≡ true) same h) r
@@ -193,17 +195,18 @@ known_kept P s v bytes None h r = r
 known_kept P s v bytes (Some e) h r =
     let w = with_entry e v in
     let k = known_entry P s v e (and_parts _ _ h).1 r in
-    known_keeps P s w (kept_entry v (Some e)) (keeps_sorted w.waiting w) (waits_sorted P w.waiting w k.1) k
+    known_keeps P s w (kept_entry v (Some e)) (keeps_sorted w.table.waiting w) (waits_sorted P w.table.waiting w k.1) k
 
 known_item : (P : TurnFrame → Type 0) (s : Setting) (v : View) (item : Item) → ((f : TurnFrame) → ComesBy v item f → P f) → is_allowed v item ≡ true → Known P s v → Known P s (after v item)
 known_item P s v (LogBegun name) all h r = r
 known_item P s v (Listening addr) all h r = r
-known_item P s v (Dialled n q addr) all h r = known_keeps P s v (after v (Dialled n q addr)) (keeps_dialled v n q (seat_of v q)) (waits_dialled P v n q (seat_of v q) r.1) r
-known_item P s v (Polled list) all h r =
-    known_keeps P s v (after v (Polled list)) (keeps_polled v list) (waits_listed P (record v { seats = (polled_on v []).seats }) list r.1) r
+known_item P s v (Dialled n q addr) all h r = r
+known_item P s v (Polled list) all h r = (r.0, waits_listed P (rested v.table) list r.1, r.2)
 known_item P s v (Took n bytes) all h r =
-    known_keeps P s v (after v (Took n bytes)) (keeps_took v n bytes (line_of v n)) (waits_took P v n bytes (line_of v n) (λ l f e m. all f (l, e, m)) r.1) r
-known_item P s v (Gave n bytes) all h r = known_keeps P s v (after v (Gave n bytes)) (keeps_gave v n bytes (line_of v n)) (waits_gave P v n bytes (line_of v n) r.1) r
+    let w = with_table (took_on (hearer_of v) n bytes v.table) v in
+    let waits = waits_took P (hearer_of v) v.table n bytes (line_of v.table n) (λ l f e m. all f (l, e, m)) r.1 in
+    known_keeps P s v (after v (Took n bytes)) (keeps_took v n bytes) (waits_sorted P w.table.waiting w waits) r
+known_item P s v (Gave n bytes) all h r = (r.0, waits_gave P (speaker_of v.setting) (safe_frames v) (length bytes) v.table (line_of v.table n) r.1, r.2)
 known_item P s v (ReadNotYet n) all h r = r
 known_item P s v (WriteNotYet n) all h r = r
 known_item P s v (Ended n) all h r = r
@@ -235,7 +238,7 @@ known_all P s v [] q f h r m = elim (r.2 q f m) [ inl over ↦ inl over | inr p 
 known_all P s v (item ∷ items) q f h r m =
     let p = and_parts _ _ h in
     let Q : TurnFrame → Type 0 = λ g. P g ⊎ ComesBy v item g in
-    let wider : Known Q s v = (r.0, waits_weaker P Q v.waiting (λ g x. inl x) r.1, λ k g n. elim (r.2 k g n) [ inl over ↦ inl over | inr x ↦ inr (inl x) ]) in
+    let wider : Known Q s v = (r.0, waits_weaker P Q v.table.waiting (λ g x. inl x) r.1, λ k g n. elim (r.2 k g n) [ inl over ↦ inl over | inr x ↦ inr (inl x) ]) in
     further (Has s.over (Got q f)) (P f) (ComesBy v item f) (CameIn (after v item) items f)
     (known_all Q s (after v item) items q f p.1 (known_item Q s v item (λ g x. inr x) p.0 wider) m)
 

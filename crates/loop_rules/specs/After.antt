@@ -1,63 +1,76 @@
 -- After: what is shown behind an item.
-use Rattle.std.specs.Prelude.{ℕ, ◌+◌, false, not, nat_lt, List, [], ◌∷◌, ◌++◌, Option, Some, None, length, map}
+use Rattle.std.specs.Prelude.{ℕ, ◌+◌, false, not, nat_lt, List, [], ◌∷◌, ◌++◌, Option, Some, None, filter, length, map, min, slice_get}
 use Rattle.std.specs.List.{fold}
+use Rattle.definitions.specs.declared.frames.TurnFrame.{TurnFrame}
 use Rattle.socket_station.specs.declared.answers.Ready.{Ready}
 use Rattle.socket_station.specs.declared.answers.Ready.TheVariants.{Opened, Socket as Seems}
 use Rattle.socket_station.specs.Items.{Item, Call, ListenCall, LogCall, DialCall, PollCall, ReadCall, WriteCall, KeepCall, SyncCall, Listening, LogBegun, Dialled, Polled, Took, Gave, ReadNotYet, WriteNotYet, Ended, Failed, Shut, Kept, Synced}
-use Rattle.loop_rules.specs.declared.limits.TheConstants.{MOST_ACCEPTED}
-use Rattle.loop_rules.specs.Settings.{Setting}
-use Rattle.loop_rules.specs.Seats.{Seat, dials, rests, gives}
-use Rattle.loop_rules.specs.Lines.{Line, Giving, accepted_line, dialled_line, closed, quieted, blocked, woken, giving}
-use Rattle.loop_rules.specs.Views.{View, Phase, Logged, Running, KeepFault, PollFault, start, line_of, seat_of, at_line, at_seat, safe_frames}
-use Rattle.loop_rules.specs.Hearing.{took_on, hello_by}
+use Rattle.socket_lines.specs.declared.limits.TheConstants.{MOST_ACCEPTED}
+use Rattle.socket_lines.specs.declared.line.Line.{Line}
+use Rattle.socket_lines.specs.Seats.{dials, rests}
+use Rattle.socket_lines.specs.Lines.{accepted_line, dialled_line, closed, quieted, blocked, woken}
+use Rattle.socket_lines.specs.Giving.{Desk, Speaker, gave}
+use Rattle.loop_rules.specs.declared.phases.Phase.{Phase}
+use Rattle.loop_rules.specs.declared.phases.Phase.TheVariants.{Logged, Running, KeepFault, PollFault}
+use Rattle.loop_rules.specs.Settings.{Setting, speaker_of}
+use Rattle.loop_rules.specs.Tables.{Table, line_of, at_line, at_seat, desk_of, with_desk}
+use Rattle.loop_rules.specs.Views.{View, start, safe_frames}
+use Rattle.loop_rules.specs.Hearing.{took_on}
+use Rattle.loop_rules.specs.Handling.{hearer_of, sorted_out}
 use Rattle.loop_rules.specs.Keeping.{kept_on}
 
 abbrev pub in_phase : Phase → View → View
 in_phase phase v = record v { phase = phase }
 
--- a dial opened a socket for the player of the seat
-abbrev pub dialled_with : View → (s q : ℕ) → Option Seat → View
-dialled_with v s q None = v
-dialled_with v s q (Some t) = at_seat q dials (record v { lines = v.lines ++ dialled_line s q (hello_by v q t) ∷ [] })
+abbrev pub with_table : Table → View → View
+with_table t v = record v { table = t }
 
-abbrev pub dialled_on : View → (s q : ℕ) → View
-dialled_on v s q = dialled_with v s q (seat_of v q)
+-- a dial opened a socket for the player, whose next place is this one
+abbrev pub dialled_on : (s q next : ℕ) → Table → Table
+dialled_on s q next t = at_seat q dials (record t { lines = t.lines ++ dialled_line s q next ∷ [] })
 
 -- a new socket: one beyond the most that are accepted is to be shut
-abbrev pub opened_on : View → (s : ℕ) → View
-opened_on v s = record v { lines = v.lines ++ accepted_line s (not (nat_lt v.accepted MOST_ACCEPTED)) ∷ []; accepted = v.accepted + 1 }
+abbrev pub opened_on : (s : ℕ) → Table → Table
+opened_on s t = record t { lines = t.lines ++ accepted_line s (not (nat_lt t.accepted MOST_ACCEPTED)) ∷ []; accepted = min (t.accepted + 1) MOST_ACCEPTED }
 
 -- what a poll lists
-abbrev pub listed : View → Ready → View
-listed v (Opened s) = opened_on v s
-listed v (Seems s) = at_line s woken v
+abbrev pub listed : Table → Ready → Table
+listed t (Opened s) = opened_on s t
+listed t (Seems s) = at_line s woken t
 
--- behind a poll each player may be dialled again
-abbrev pub polled_on : View → List Ready → View
-polled_on v list = fold listed (record v { seats = map rests v.seats }) list
+-- at a poll the closed sockets go, and each player may be dialled again
+abbrev pub rested : Table → Table
+rested t = record t { lines = filter (λ l. l.is_open) t.lines; seats = map rests t.seats }
 
--- places of own frames were wholly given to the player of a name
-abbrev pub given_to : Option ℕ → List ℕ → View → View
-given_to None places v = v
-given_to (Some q) places v = at_seat q (gives places) v
+abbrev pub polled_on : List Ready → Table → Table
+polled_on list t = fold listed (rested t) list
 
--- bytes were given on the line, whose last write that is
-abbrev pub gave_with : View → (s : ℕ) → Option Giving → View
-gave_with v s None = v
-gave_with v s (Some g) = given_to g.line.name g.places (at_line s (λ _. record g.line { is_blocked = false }) v)
+-- so many bytes of those due were given on the line, whose last write that is
+abbrev pub gave_on : Speaker → (own : Option TurnFrame) → (count : ℕ) → Desk → Desk
+gave_on s own count d =
+    let e = gave s own count d in
+    record e { line = record e.line { is_blocked = false } }
 
-abbrev pub gave_by : View → (s : ℕ) → (bytes : List ℕ) → Option Line → View
-gave_by v s bytes None = v
-gave_by v s bytes (Some l) = gave_with v s (giving (safe_frames v) bytes l)
+abbrev pub gave_with : Speaker → (own : Option TurnFrame) → (count : ℕ) → Table → Option Desk → Table
+gave_with s own count t None = t
+gave_with s own count t (Some d) = with_desk t (gave_on s own count d)
+
+-- the own frame at the cursor of the line, if it may be given
+abbrev pub own_at : (safe : List TurnFrame) → Line → Option TurnFrame
+own_at safe l = slice_get safe l.cursor
+
+abbrev pub gave_by : Speaker → (safe : List TurnFrame) → (count : ℕ) → Table → Option Line → Table
+gave_by s safe count t None = t
+gave_by s safe count t (Some l) = gave_with s (own_at safe l) count t (desk_of t l)
 
 -- what is shown behind a call that failed
 abbrev pub after_failed : View → Call → View
 after_failed v (ListenCall addr) = in_phase PollFault v
 after_failed v (LogCall name) = in_phase KeepFault v
-after_failed v (DialCall q addr) = at_seat q dials v
+after_failed v (DialCall q addr) = with_table (at_seat q dials v.table) v
 after_failed v PollCall = in_phase PollFault v
-after_failed v (ReadCall s) = at_line s closed v
-after_failed v (WriteCall s) = at_line s closed v
+after_failed v (ReadCall s) = with_table (at_line s closed v.table) v
+after_failed v (WriteCall s) = with_table (at_line s closed v.table) v
 after_failed v (KeepCall bytes) = in_phase KeepFault v
 after_failed v SyncCall = in_phase KeepFault v
 
@@ -65,14 +78,14 @@ after_failed v SyncCall = in_phase KeepFault v
 abbrev pub after : View → Item → View
 after v (LogBegun name) = in_phase Logged v
 after v (Listening addr) = in_phase Running v
-after v (Dialled s q addr) = dialled_on v s q
-after v (Polled list) = polled_on v list
-after v (Took s bytes) = took_on v s bytes (line_of v s)
-after v (Gave s bytes) = gave_by v s bytes (line_of v s)
-after v (ReadNotYet s) = at_line s quieted v
-after v (WriteNotYet s) = at_line s blocked v
-after v (Ended s) = at_line s closed v
-after v (Shut s) = at_line s closed v
+after v (Dialled s q addr) = with_table (dialled_on s q ((hearer_of v).next q) v.table) v
+after v (Polled list) = with_table (polled_on list v.table) v
+after v (Took s bytes) = sorted_out (with_table (took_on (hearer_of v) s bytes v.table) v)
+after v (Gave s bytes) = with_table (gave_by (speaker_of v.setting) (safe_frames v) (length bytes) v.table (line_of v.table s)) v
+after v (ReadNotYet s) = with_table (at_line s quieted v.table) v
+after v (WriteNotYet s) = with_table (at_line s blocked v.table) v
+after v (Ended s) = with_table (at_line s closed v.table) v
+after v (Shut s) = with_table (at_line s closed v.table) v
 after v (Kept bytes) = kept_on v bytes
 after v Synced = record v { synced = length v.kept }
 after v (Failed call) = after_failed v call

@@ -1,140 +1,110 @@
 -- Hearing: what the frames do that come on a socket.
-use Rattle.std.specs.Prelude.{ℕ, ◌+◌, Bool, true, false, not, ◌&&◌, ◌==◌, List, [], ◌∷◌, ◌++◌, Option, Some, None, length, map, is_some, if◌then◌else◌}
+use Rattle.std.specs.Prelude.{ℕ, ◌+◌, Bool, false, ◌&&◌, ◌==◌, List, [], ◌∷◌, ◌++◌, Option, Some, None, length, map, if◌then◌else◌}
 use Rattle.std.specs.List.{fold}
 use Rattle.std.specs.Str.{bytes_eq}
 use Rattle.definitions.specs.declared.frames.TurnFrame.{TurnFrame}
-use Rattle.definitions.specs.Logs.{player_of}
-use Rattle.definitions.specs.Held.{next_place}
-use Rattle.definitions.specs.Findings.{is_clean}
-use Rattle.definitions.specs.Answers.{is_far, is_new}
+use Rattle.definitions.specs.Logs as L
 use Rattle.wire_frames.specs.declared.frames.Frame.{Frame}
 use Rattle.wire_frames.specs.declared.frames.Frame.TheVariants.{Hello, Turn, Want}
 use Rattle.wire_frames.specs.Streams.{Given, given_of}
-use Rattle.loop_rules.specs.Seats.{Seat, is_spent, spends, asks, obeys, may_want, has_number, is_wanted_of}
-use Rattle.loop_rules.specs.Lines.{Line, Control, Greet, Ask, is_named, doomed, with_control, moved_to}
-use Rattle.loop_rules.specs.Views.{View, Arrival, line_of, seat_of, at_line, at_seat}
+use Rattle.socket_lines.specs.declared.line.Line.{Line}
+use Rattle.socket_lines.specs.declared.seat.Seat.{Seat}
+use Rattle.socket_lines.specs.Seats as S
+use Rattle.socket_lines.specs.Seats.{spends, reaches, obeys, may_want}
+use Rattle.socket_lines.specs.Lines.{is_named, lets_name, named_line, doomed, moved_to}
+use Rattle.loop_rules.specs.Tables.{Table, line_of, seat_of, at_line, at_seat}
 
--- the next place of the player in the log kept
-abbrev pub next_of : View → ℕ → ℕ
-next_of v q = next_place v.setting.game v.setting.me v.kept q
-
--- the HELLO to the player of a seat: the own number, the pass that is shown to it, and the next place wanted of it
-abbrev pub hello_by : View → ℕ → Seat → Control
-hello_by v q t = Greet v.setting.game.id v.setting.me t.link.shows (next_of v q)
+-- who hears: the session's id, and the next place of each player in the log kept
+pub record Hearer : Type 0 where
+  pub id : List ℕ
+  pub next : ℕ → ℕ
 
 -- ---- names
 
--- the pass is the one that is wanted of the player, and its bytes are not spent
-abbrev pub lets_name : Option Seat → List ℕ → Bool
-lets_name None pass = false
-lets_name (Some t) pass = bytes_eq pass t.link.wants && not (is_spent t)
+abbrev pub lets_seat_name : Option Seat → (pass : List ℕ) → Bool
+lets_seat_name None pass = false
+lets_seat_name (Some c) pass = S.lets_name c pass
 
--- a socket that was dialled is named by the player dialled alone
-abbrev pub is_wanted_name : Option ℕ → ℕ → Bool
-is_wanted_name None q = true
-is_wanted_name (Some p) q = p == q
+-- the HELLO names the socket: it has the session's id, a player of the roster whose bytes are not spent, and the pass wanted of that one
+abbrev pub names : Hearer → Table → Line → (id : List ℕ) → (q : ℕ) → (pass : List ℕ) → Bool
+names h t l id q pass = bytes_eq id h.id && lets_seat_name (seat_of t q) pass && lets_name q l
 
--- the HELLO names the socket
-abbrev pub names : View → Line → (id : List ℕ) → (q : ℕ) → (pass : List ℕ) → Bool
-names v l id q pass = bytes_eq id v.setting.game.id && lets_name (seat_of v q) pass && is_wanted_name l.dialled q
+-- the sockets of this name are to be shut
+abbrev pub ousted : ℕ → Line → Line
+ousted q l = if is_named q l then doomed l else l
 
-abbrev pub with_hello : View → ℕ → Option Seat → Line → Line
-with_hello v q None l = l
-with_hello v q (Some t) l = with_control (hello_by v q t) l
-
--- the socket by its new name: the cursor stands at the place asked for, and the own HELLO is due unless it was at the dial
-abbrev pub named_line : View → (q next : ℕ) → Line → Line
-named_line v q next l =
-    let m = record l { name = Some q; cursor = next } in
-    if is_some l.dialled then m else with_hello v q (seat_of v q) m
+abbrev pub with_name_free : ℕ → Table → Table
+with_name_free q t = record t { lines = map (ousted q) t.lines }
 
 -- a socket is named: the others of that name are to be shut, and its bytes count as the player's
-abbrev pub named : View → (s : ℕ) → Line → (q next : ℕ) → View
-named v s l q next =
-    at_seat q (λ t. asks next (spends l.taken t))
-    (at_line s (named_line v q next)
-    (record v { lines = map (λ m. if is_named q m then doomed m else m) v.lines }))
+abbrev pub named : Hearer → Table → (s : ℕ) → Line → (q from : ℕ) → Table
+named h t s l q from = at_seat q (S.names l.taken from) (at_line s (named_line q from (h.next q)) (with_name_free q t))
 
 -- the first frame on a socket
-abbrev pub heard_first : View → (s : ℕ) → Line → Frame → View
-heard_first v s l (Hello id q pass next) = if names v l id q pass then named v s l q next else at_line s doomed v
-heard_first v s l (Turn f) = at_line s doomed v
-heard_first v s l (Want place) = at_line s doomed v
+abbrev pub heard_first : Hearer → Table → (s : ℕ) → Line → Frame → Table
+heard_first h t s l (Hello id q pass from) = if names h t l id q pass then named h t s l q from else at_line s doomed t
+heard_first h t s l (Turn f) = at_line s doomed t
+heard_first h t s l (Want place) = at_line s doomed t
 
 -- ---- frames behind the HELLO
 
 -- a WANT is obeyed as long as not too many were
-abbrev pub obeyed : View → (s q place : ℕ) → Option Seat → View
-obeyed v s q place None = v
-obeyed v s q place (Some t) = if may_want t then at_seat q obeys (at_line s (moved_to place) v) else v
+abbrev pub obeyed : Table → (s q place : ℕ) → Option Seat → Table
+obeyed t s q place None = t
+obeyed t s q place (Some c) = if may_want c then at_seat q obeys (at_line s (moved_to place) t) else t
 
-abbrev pub arrived : View → (s q : ℕ) → TurnFrame → View
-arrived v s q f = record v { waiting = v.waiting ++ record { socket = s; player = q; frame = f } ∷ [] }
+abbrev pub arrived : Table → (q : ℕ) → TurnFrame → Table
+arrived t q f = record t { waiting = t.waiting ++ record { player = q; frame = f } ∷ [] }
 
 -- a further frame on a socket named so
-abbrev pub heard_named : View → (s q : ℕ) → Frame → View
-heard_named v s q (Hello id p pass next) = at_line s doomed v
-heard_named v s q (Turn f) = if player_of f == q then arrived v s q f else at_line s doomed v
-heard_named v s q (Want place) = at_seat q (asks place) (obeyed v s q place (seat_of v q))
+abbrev pub heard_named : Table → (s q : ℕ) → Frame → Table
+heard_named t s q (Hello id p pass from) = at_line s doomed t
+heard_named t s q (Turn f) = if L.player_of f == q then arrived t q f else at_line s doomed t
+heard_named t s q (Want place) = at_seat q (reaches place) (obeyed t s q place (seat_of t q))
 
-abbrev pub heard_by : View → (s : ℕ) → Line → Option ℕ → Frame → View
-heard_by v s l None f = heard_first v s l f
-heard_by v s l (Some q) f = heard_named v s q f
+abbrev pub heard_by : Hearer → Table → (s : ℕ) → Line → Option ℕ → Frame → Table
+heard_by h t s l None f = heard_first h t s l f
+heard_by h t s l (Some q) f = heard_named t s q f
 
 -- a frame on a socket; behind one for which it is to be shut none counts
-abbrev pub heard_on : View → (s : ℕ) → Frame → Option Line → View
-heard_on v s f None = v
-heard_on v s f (Some l) = if l.is_wrong then v else heard_by v s l l.name f
+abbrev pub heard_on : Hearer → Table → (s : ℕ) → Frame → Option Line → Table
+heard_on h t s f None = t
+heard_on h t s f (Some l) = if l.is_wrong then t else heard_by h t s l l.name f
 
-abbrev pub heard : (s : ℕ) → View → Frame → View
-heard s v f = heard_on v s f (line_of v s)
-
--- ---- frames that make no entry
-
--- a far frame is answered by one WANT for each next place of its player
-abbrev pub asked_again : View → Arrival → (next : ℕ) → Option Seat → View
-asked_again v a next None = v
-asked_again v a next (Some t) =
-    if has_number t.wanted next then v
-    else at_seat a.player (is_wanted_of next) (at_line a.socket (with_control (Ask next)) v)
-
-abbrev pub passed : View → Arrival → View
-passed v a =
-    if is_far v.setting.game v.setting.me v.kept a.player a.frame then asked_again v a (next_of v a.player) (seat_of v a.player) else v
-
--- the frames that wait are handled up to the first that is new; behind a finding none is logged
-abbrev pub sorted : List Arrival → View → View
-sorted [] v = record v { waiting = [] }
-sorted (a ∷ more) v =
-    if not (is_clean v.setting.game v.kept) then record v { waiting = [] }
-    else if is_new v.setting.game v.setting.me v.kept a.player a.frame then record v { waiting = a ∷ more }
-    else sorted more (passed v a)
-
-abbrev pub sorted_out : View → View
-sorted_out v = sorted v.waiting v
+abbrev pub heard : Hearer → (s : ℕ) → Table → Frame → Table
+heard h s t f = heard_on h t s f (line_of t s)
 
 -- ---- bytes
 
--- the bytes count for the player, once the socket is named
-abbrev pub counted : Option ℕ → (count : ℕ) → View → View
-counted None count v = v
-counted (Some q) count v = at_seat q (spends count) v
+-- the socket's bytes, read so far; before a name comes they are counted on it
+abbrev pub counted_on : Option ℕ → (count : ℕ) → Line → Line
+counted_on None count l = record l { taken = l.taken + count }
+counted_on (Some q) count l = l
 
--- the socket's bytes, read so far
 abbrev pub read_on : (count : ℕ) → Given → Line → Line
-read_on count g l = record l { reader = g.reader; taken = l.taken + count }
+read_on count g l = record (counted_on l.name count l) { reader = g.reader }
+
+-- the bytes count for the player, once the socket is named
+abbrev pub counted : Option ℕ → (count : ℕ) → Table → Table
+counted None count t = t
+counted (Some q) count t = at_seat q (spends count) t
 
 -- a bad byte is a fault behind the frames before it
-abbrev pub heard_all : (s : ℕ) → Given → View → View
-heard_all s g v =
-    let w = fold (heard s) v g.frames in
-    if g.reader.bad then at_line s doomed w else w
+abbrev pub heard_all : Hearer → (s : ℕ) → Given → Table → Table
+heard_all h s g t =
+    let u = fold (heard h s) t g.frames in
+    if g.reader.bad then at_line s doomed u else u
 
-abbrev pub took_with : View → (s : ℕ) → (bytes : List ℕ) → Given → Option Line → View
-took_with v s bytes g None = v
-took_with v s bytes g (Some l) = sorted_out (heard_all s g (counted l.name (length bytes) (at_line s (read_on (length bytes) g) v)))
+-- the line's bytes are read
+abbrev pub read_at : (s : ℕ) → (count : ℕ) → Given → Line → Table → Table
+read_at s count g l t = counted l.name count (at_line s (read_on count g) t)
 
--- some bytes came on a socket
-abbrev pub took_on : View → (s : ℕ) → (bytes : List ℕ) → Option Line → View
-took_on v s bytes None = v
-took_on v s bytes (Some l) = took_with v s bytes (given_of l.reader bytes) (Some l)
+abbrev pub took_with : Hearer → Table → (s : ℕ) → (bytes : List ℕ) → Option Line → Table
+took_with h t s bytes None = t
+took_with h t s bytes (Some l) =
+    let g = given_of l.reader bytes in
+    heard_all h s g (read_at s (length bytes) g l t)
+
+-- some bytes came on a socket: their frames are heard, and those of turns wait
+abbrev pub took_on : Hearer → (s : ℕ) → (bytes : List ℕ) → Table → Table
+took_on h s bytes t = took_with h t s bytes (line_of t s)

@@ -10,8 +10,11 @@ use Rattle.definitions.specs.Advance.{next_made}
 use Rattle.session_log.specs.Entries.{entry_of}
 use Rattle.session_log.specs.Writing.{Writing, mark_of, written}
 use Rattle.session_log.specs.Writing as W
-use Rattle.loop_rules.specs.Views.{View, Phase, Fresh, Logged, Running, KeepFault, PollFault, Arrival}
-use Rattle.loop_rules.specs.Hearing.{sorted_out}
+use Rattle.loop_rules.specs.declared.arrivals.Arrival.{Arrival}
+use Rattle.loop_rules.specs.declared.phases.Phase.{Phase}
+use Rattle.loop_rules.specs.declared.phases.Phase.TheVariants.{Fresh, Logged, Running, KeepFault, PollFault}
+use Rattle.loop_rules.specs.Views.{View}
+use Rattle.loop_rules.specs.Handling.{with_waiting, sorted_out}
 
 -- the entry that bytes spell in front of the digest that chains it
 abbrev pub entry_in : Writing → List ℕ → Option Entry
@@ -38,7 +41,7 @@ is_first (a ∷ more) q f = entry_eq (Got a.player a.frame) (Got q f)
 abbrev pub is_next : View → Entry → Bool
 is_next v (Made f) = is_frame (own_next v) f
 is_next v (Chose t m n) = is_none (own_next v)
-is_next v (Got q f) = is_none (own_next v) && is_first v.waiting q f
+is_next v (Got q f) = is_none (own_next v) && is_first v.table.waiting q f
 
 -- the entry may be logged next: the protocol allows it, and it is its turn
 abbrev pub may_log : View → Entry → Bool
@@ -67,7 +70,7 @@ waiting_behind (Made f) waiting = waiting
 waiting_behind (Got q f) waiting = drop 1 waiting
 
 abbrev pub with_entry : Entry → View → View
-with_entry e v = record v { kept = v.kept ++ e ∷ []; writer = W.after v.writer e; waiting = waiting_behind e v.waiting }
+with_entry e v = with_waiting (waiting_behind e v.table.waiting) (record v { kept = v.kept ++ e ∷ []; writer = W.after v.writer e })
 
 abbrev pub kept_entry : View → Option Entry → View
 kept_entry v None = v

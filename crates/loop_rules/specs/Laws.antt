@@ -1,8 +1,6 @@
 -- Laws: what holds of every history.
-use Rattle.std.specs.Prelude.{◌≡◌, ◌⊎◌, ◌<◌, ◌≤◌, ℕ, Bool, true, ◌||◌, List, [], ◌∷◌, ◌++◌, Option, Some, None, is_some, IsTrue, slice_get}
-use Rattle.std.specs.List.{flat_map}
+use Rattle.std.specs.Prelude.{◌≡◌, ◌⊎◌, ◌<◌, ◌≤◌, ℕ, Bool, true, ◌||◌, List, [], ◌∷◌, ◌++◌, Some, is_some, IsTrue, slice_get}
 use Rattle.definitions.specs.declared.frames.TurnFrame.{TurnFrame}
-use Rattle.definitions.specs.Lists.{EachIs}
 use Rattle.definitions.specs.declared.frames.TurnFrame.TheVariants as F
 use Rattle.definitions.specs.declared.world.Move.{Move}
 use Rattle.definitions.specs.declared.openings.Nonce.{Nonce}
@@ -19,17 +17,20 @@ use Rattle.wire_frames.specs.declared.frames.Frame.TheVariants.{Hello, Turn, Wan
 use Rattle.wire_frames.specs.Spelling.{spelling}
 use Rattle.wire_frames.specs.Streams.{given_of}
 use Rattle.socket_station.specs.declared.answers.Ready.{Ready}
-use Rattle.socket_station.specs.Items.{Item, Call, PollCall, LogCall, LogBegun, Polled, Took, Gave, Failed}
+use Rattle.socket_station.specs.Items.{Item, Call, PollCall, Polled, Took, Gave, Failed}
 use Rattle.socket_station.specs.Faults.{is_poll_call, is_keep_call}
 use Rattle.socket_station.specs.Moved.{kept_in}
+use Rattle.socket_station.specs.Standings.{OpensNew}
 use Rattle.session_log.specs.Spelling.{log_bytes}
 use Rattle.loop_rules.specs.Settings.{Setting}
-use Rattle.loop_rules.specs.Lines.{Line, Giving, giving}
-use Rattle.loop_rules.specs.Views.{View, start, line_of, safe_frames}
+use Rattle.socket_lines.specs.declared.line.Line.{Line}
+use Rattle.loop_rules.specs.Tables.{line_of}
+use Rattle.loop_rules.specs.Views.{View, start, safe_frames}
 use Rattle.loop_rules.specs.After.{after, view_of}
 use Rattle.loop_rules.specs.Licence.{IsLicensed}
-use Rattle.loop_rules.specs.Rules.{IsAllowed}
-use Rattle.loop_rules.specs.Histories.{IsHistory}
+use Rattle.loop_rules.specs.Rules.{IsAllowed, due_of, is_front}
+use Rattle.loop_rules.specs.Histories.{IsHistory, log_name}
+use Rattle.loop_rules.specs.Told.{IsTold}
 
 -- what was told up to some moment is a history
 abbrev pub PrefixesAreHistories : Type 0
@@ -41,6 +42,10 @@ ItemsAreAllowed = (s : Setting) (items more : List Item) (item : Item) → IsHis
 
 abbrev pub AllowedItemsAreAdded : Type 0
 AllowedItemsAreAdded = (s : Setting) (items : List Item) (item : Item) → IsHistory s items → IsAllowed (view_of s items) item → IsHistory s (items ++ item ∷ [])
+
+-- an item that is allowed, and of whose sockets none was used before, is told on
+abbrev pub ToldGoesOn : Type 0
+ToldGoesOn = (items : List Item) (v : View) (item : Item) → IsTold items v → OpensNew items item → IsAllowed v item → IsTold (items ++ item ∷ []) (after v item)
 
 -- each poll is licensed, one that fails too
 abbrev pub PollsAreLicensed : Type 0
@@ -57,51 +62,34 @@ ends_run call = is_poll_call call || is_keep_call call
 abbrev pub FaultsAreLast : Type 0
 FaultsAreLast = (s : Setting) (items more : List Item) (call : Call) → ends_run call ≡ true → IsHistory s (items ++ Failed call ∷ more) → more ≡ []
 
--- the bytes go on with what is due on the line, where of own frames those that were synced are
-abbrev pub IsDueOn : View → List ℕ → Line → Type 0
-IsDueOn v bytes l = IsTrue (is_some (giving (safe_frames v) bytes l))
-
 -- the own frame is one of these; a HELLO or a WANT is none
 abbrev pub IsOwnOf : (safe : List TurnFrame) → Frame → Type 0
 IsOwnOf safe (Hello id q pass next) = Unit {0}
 IsOwnOf safe (Turn f) = (place : ℕ) × (slice_get safe place ≡ Some f)
 IsOwnOf safe (Want place) = Unit {0}
 
--- the bytes are what was left of the frame begun, and then frames one behind the other, of the last of which this is left; of own frames
--- none but these
-pub record GoesOn (safe : List TurnFrame) (unsent bytes left : List ℕ) : Type 0 where
-  pub frames : List Frame
-  pub spelled : unsent ++ flat_map spelling frames ≡ bytes ++ left
-  pub own : EachIs (IsOwnOf safe) frames
+-- the bytes are the first ones of a frame, of own frames of one of these alone
+abbrev pub BeginsFrame : (safe : List TurnFrame) → (bytes : List ℕ) → Type 0
+BeginsFrame safe bytes = (f : Frame) × IsOwnOf safe f × IsTrue (is_front bytes (spelling f))
 
--- what is given spells frames, whole or in part, and of own frames those alone that were kept and then synced before
-abbrev pub GivenIsSynced : Type 0
-GivenIsSynced = (s : Setting) (items more : List Item) (socket : ℕ) (bytes : List ℕ) → IsHistory s (items ++ Gave socket bytes ∷ more) →
-    (l : Line) × (g : Giving) × (line_of (view_of s items) socket ≡ Some l) × (giving (safe_frames (view_of s items)) bytes l ≡ Some g) ×
-    GoesOn (safe_frames (view_of s items)) l.unsent bytes g.line.unsent
+-- the bytes go on with what is left of a frame that was begun, or begin one
+abbrev pub GoesOn : (safe : List TurnFrame) → Line → (bytes : List ℕ) → Type 0
+GoesOn safe l bytes = IsTrue (is_front bytes l.unsent) ⊎ ((l.unsent ≡ []) × BeginsFrame safe bytes)
 
--- bytes are given on a socket that was opened, and each of them is due: of own frames those alone that were kept and synced before
+-- bytes are given on a socket that was opened, and they are the first ones of those that go out next on it: what is left of the frame that was
+-- begun, or the front of a frame, of own ones of those alone that were kept and then synced before
 abbrev pub GivenIsDue : Type 0
 GivenIsDue = (s : Setting) (items more : List Item) (socket : ℕ) (bytes : List ℕ) → IsHistory s (items ++ Gave socket bytes ∷ more) →
-    (l : Line) × (line_of (view_of s items) socket ≡ Some l) × IsDueOn (view_of s items) bytes l
+    (l : Line) × (line_of (view_of s items).table socket ≡ Some l) × IsTrue (is_front bytes (due_of (view_of s items) l)) ×
+    GoesOn (safe_frames (view_of s items)) l bytes
 
 -- the bytes kept, joined, are those of one log: of the entries that are shown as kept
 abbrev pub KeptBytesAreTheLog : Type 0
 KeptBytesAreTheLog = (s : Setting) (items : List Item) → IsHistory s items → kept_in items ≡ log_bytes s.game.id s.me (view_of s items).kept
 
--- the name of the log that an item begins, or fails to begin
-abbrev pub name_asked : Call → Option (List ℕ)
-name_asked (LogCall name) = Some name
-name_asked _ = None
-
-abbrev pub log_name : Item → Option (List ℕ)
-log_name (LogBegun name) = Some name
-log_name (Failed call) = name_asked call
-log_name _ = None
-
--- the first item begins the log that was named, or is the failure of that
+-- the first item begins a log, or is the failure of that
 abbrev pub LogsAreBegunFirst : Type 0
-LogsAreBegunFirst = (s : Setting) (item : Item) (more : List Item) → IsHistory s (item ∷ more) → log_name item ≡ Some s.name
+LogsAreBegunFirst = (s : Setting) (item : Item) (more : List Item) → IsHistory s (item ∷ more) → IsTrue (is_some (log_name item))
 
 -- the log kept is one that an honest peer may have, where the entries taken over are
 abbrev pub KeptIsHonest : Type 0
@@ -116,7 +104,7 @@ RevealsKeptStandBehind = (s : Setting) (items : List Item) (g rest : List Entry)
 
 -- the item took the bytes that made the frame whole
 abbrev pub ComesBy : View → Item → TurnFrame → Type 0
-ComesBy v (Took socket bytes) f = (l : Line) × (line_of v socket ≡ Some l) × Has (given_of l.reader bytes).frames (Turn f)
+ComesBy v (Took socket bytes) f = (l : Line) × (line_of v.table socket ≡ Some l) × Has (given_of l.reader bytes).frames (Turn f)
 ComesBy v _ f = ⊥
 
 -- one of these items, behind the view and those before it, did

@@ -1,13 +1,14 @@
 pub mod Settings
-pub mod Seats
-pub mod Lines
+pub mod Tables
 pub mod Views
 pub mod Hearing
+pub mod Handling
 pub mod Keeping
 pub mod After
 pub mod Licence
 pub mod Rules
 pub mod Histories
+pub mod Told
 pub mod Images
 pub mod Laws
 pub mod Worked

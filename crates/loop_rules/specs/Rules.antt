@@ -1,20 +1,24 @@
 -- Rules: which item may come next, by what was shown before it.
-use Rattle.std.specs.Prelude.{ℕ, Bool, true, false, not, ◌&&◌, ◌||◌, ◌==◌, nat_lt, nat_le, List, [], ◌∷◌, Option, Some, None, length, is_some, IsTrue}
+use Rattle.std.specs.Prelude.{ℕ, Bool, true, false, not, ◌&&◌, ◌||◌, ◌==◌, nat_lt, nat_le, List, [], Option, Some, None, length, take, IsTrue}
 use Rattle.std.specs.Str.{bytes_eq}
+use Rattle.definitions.specs.declared.frames.TurnFrame.{TurnFrame}
 use Rattle.definitions.specs.Lists.{is_empty}
 use Rattle.socket_station.specs.declared.answers.Addr.{Addr}
-use Rattle.socket_station.specs.declared.answers.Ready.{Ready}
-use Rattle.socket_station.specs.declared.answers.Ready.TheVariants.{Opened, Socket as Seems}
 use Rattle.socket_station.specs.Items.{Item, Call, ListenCall, LogCall, DialCall, PollCall, ReadCall, WriteCall, KeepCall, SyncCall, Listening, LogBegun, Dialled, Polled, Took, Gave, ReadNotYet, WriteNotYet, Ended, Failed, Shut, Kept, Synced}
-use Rattle.socket_station.specs.Standings.{opens}
-use Rattle.loop_rules.specs.Settings.{told_addr, addr_eq}
-use Rattle.loop_rules.specs.Seats.{Seat, is_spent}
-use Rattle.loop_rules.specs.Lines.{Line, has_frame, giving}
-use Rattle.loop_rules.specs.Views.{View, Phase, Fresh, Logged, Running, KeepFault, PollFault, line_of, seat_of, safe_frames, is_used, is_served, room_on, asks_shut}
+use Rattle.socket_lines.specs.declared.line.Line.{Line}
+use Rattle.socket_lines.specs.declared.seat.Seat.{Seat}
+use Rattle.socket_lines.specs.Seats.{is_spent}
+use Rattle.socket_lines.specs.Giving.{Desk, Speaker, due_bytes}
+use Rattle.loop_rules.specs.declared.phases.Phase.{Phase}
+use Rattle.loop_rules.specs.declared.phases.Phase.TheVariants.{Fresh, Logged, Running, KeepFault, PollFault}
+use Rattle.loop_rules.specs.Settings.{told_addr, addr_eq, speaker_of}
+use Rattle.loop_rules.specs.Tables.{Table, line_of, seat_of, is_served, desk_of, room_on, asks_shut}
+use Rattle.loop_rules.specs.Views.{View, safe_frames}
 use Rattle.loop_rules.specs.Keeping.{may_keep}
+use Rattle.loop_rules.specs.After.{own_at}
 use Rattle.loop_rules.specs.Licence.{is_running, is_licensed}
 
--- ---- beginning: a new log of the name given, then the entries taken over, kept and synced, then listening at the own address
+-- ---- beginning: a new log, then the entries taken over, kept and synced, then listening at the own address
 
 abbrev pub is_fresh : Phase → Bool
 is_fresh Fresh = true
@@ -30,8 +34,8 @@ is_logged Running = false
 is_logged KeepFault = false
 is_logged PollFault = false
 
-abbrev pub may_begin : View → (name : List ℕ) → Bool
-may_begin v name = is_fresh v.phase && bytes_eq name v.setting.name
+abbrev pub may_begin : View → Bool
+may_begin v = is_fresh v.phase
 
 abbrev pub is_over_kept : View → Bool
 is_over_kept v = length v.kept == length v.setting.over
@@ -47,71 +51,80 @@ may_sync v = (is_running v.phase || (is_logged v.phase && is_over_kept v)) && na
 
 -- ---- dialling: a player above the own one, which has no open socket, was not dialled since the last poll, and is not spent
 
-abbrev pub may_dial_at : View → (q : ℕ) → Addr → Option Seat → Bool
-may_dial_at v q addr None = false
-may_dial_at v q addr (Some t) =
-    is_running v.phase && nat_lt v.setting.me q && not (is_served v q) && not t.is_dialled && not (is_spent t) && addr_eq addr (told_addr t.link.addr)
+abbrev pub wants_dial : (me : ℕ) → Table → Seat → Bool
+wants_dial me t c = nat_lt me c.link.player && not (is_served t c.link.player) && not c.is_dialled && not (is_spent c)
+
+abbrev pub may_dial_at : View → Addr → Option Seat → Bool
+may_dial_at v addr None = false
+may_dial_at v addr (Some c) = is_running v.phase && wants_dial v.setting.me v.table c && addr_eq addr (told_addr c.link.addr)
 
 abbrev pub may_dial : View → (q : ℕ) → Addr → Bool
-may_dial v q addr = may_dial_at v q addr (seat_of v q)
+may_dial v q addr = may_dial_at v addr (seat_of v.table q)
 
 -- ---- reading: an open socket that is not to be shut, behind no read that found nothing, and never past a limit
 
+abbrev pub wants_read : Table → Line → Bool
+wants_read t l = l.is_open && not (asks_shut t l) && not l.is_quiet
+
 abbrev pub may_read_line : View → Option Line → Bool
 may_read_line v None = false
-may_read_line v (Some l) = is_running v.phase && l.is_open && not (asks_shut v l) && not l.is_quiet
+may_read_line v (Some l) = is_running v.phase && wants_read v.table l
 
 abbrev pub may_read : View → (s : ℕ) → Bool
-may_read v s = may_read_line v (line_of v s)
+may_read v s = may_read_line v (line_of v.table s)
 
-abbrev pub is_within : View → (count : ℕ) → Option Line → Bool
-is_within v count None = false
-is_within v count (Some l) = nat_lt 0 count && nat_le count (room_on v l)
+abbrev pub is_within : Table → (count : ℕ) → Option Line → Bool
+is_within t count None = false
+is_within t count (Some l) = nat_lt 0 count && nat_le count (room_on t l)
 
 -- bytes are taken only where each frame that came before was handled
 abbrev pub may_take : View → (s : ℕ) → List ℕ → Bool
-may_take v s bytes = may_read v s && is_empty v.waiting && is_within v (length bytes) (line_of v s)
+may_take v s bytes = may_read v s && is_empty v.table.waiting && is_within v.table (length bytes) (line_of v.table s)
 
--- ---- writing: an open socket, behind no write that was refused, and bytes that are due
+-- ---- writing: an open socket that is not to be shut, behind no write that was refused, and the bytes that go out next
+
+abbrev pub due_at : Speaker → (own : Option TurnFrame) → Option Desk → List ℕ
+due_at s own None = []
+due_at s own (Some d) = due_bytes s own d
+
+-- the bytes that go out next on a line: of own frames those alone that were kept and synced
+abbrev pub due_of : View → Line → List ℕ
+due_of v l = due_at (speaker_of v.setting) (own_at (safe_frames v) l) (desk_of v.table l)
 
 abbrev pub may_write_line : View → Option Line → Bool
 may_write_line v None = false
 may_write_line v (Some l) =
-    is_running v.phase && l.is_open && not l.is_blocked &&
-    (not (is_empty l.unsent) || not (is_empty l.controls) || has_frame (length (safe_frames v)) l)
+    is_running v.phase && l.is_open && not (asks_shut v.table l) && not l.is_blocked && not (is_empty (due_of v l))
 
 abbrev pub may_write : View → (s : ℕ) → Bool
-may_write v s = may_write_line v (line_of v s)
+may_write v s = may_write_line v (line_of v.table s)
+
+-- some of the first of these bytes
+abbrev pub is_front : (bytes all : List ℕ) → Bool
+is_front bytes all = nat_lt 0 (length bytes) && bytes_eq bytes (take (length bytes) all)
 
 abbrev pub are_due : View → List ℕ → Option Line → Bool
 are_due v bytes None = false
-are_due v bytes (Some l) = is_some (giving (safe_frames v) bytes l)
+are_due v bytes (Some l) = is_front bytes (due_of v l)
 
 abbrev pub may_give : View → (s : ℕ) → List ℕ → Bool
-may_give v s bytes = may_write v s && nat_lt 0 (length bytes) && are_due v bytes (line_of v s)
+may_give v s bytes = may_write v s && are_due v bytes (line_of v.table s)
 
 -- ---- shutting: where a rule or a limit asks for it
 
 abbrev pub may_shut_line : View → Option Line → Bool
 may_shut_line v None = false
-may_shut_line v (Some l) = is_running v.phase && asks_shut v l
+may_shut_line v (Some l) = is_running v.phase && asks_shut v.table l
 
 abbrev pub may_shut : View → (s : ℕ) → Bool
-may_shut v s = may_shut_line v (line_of v s)
-
--- ---- polling: what it opens is new, as a station promises
-
-abbrev pub opens_new : View → List Ready → Bool
-opens_new v [] = true
-opens_new v (Opened s ∷ more) = not (is_used v s) && not (opens more s) && opens_new v more
-opens_new v (Seems s ∷ more) = opens_new v more
+may_shut v s = may_shut_line v (line_of v.table s)
 
 -- ---- all items
 
 -- a call may fail where it may be made
 abbrev pub may_fail : View → Call → Bool
 may_fail v (ListenCall addr) = may_listen v addr
-may_fail v (LogCall name) = may_begin v name
+may_fail v (LogCall name) = may_begin v
 may_fail v (DialCall q addr) = may_dial v q addr
 may_fail v PollCall = is_licensed v
 may_fail v (ReadCall s) = may_read v s
@@ -121,10 +134,10 @@ may_fail v SyncCall = may_sync v
 
 -- the item may come next
 abbrev pub is_allowed : View → Item → Bool
-is_allowed v (LogBegun name) = may_begin v name
+is_allowed v (LogBegun name) = may_begin v
 is_allowed v (Listening addr) = may_listen v addr
-is_allowed v (Dialled s q addr) = may_dial v q addr && not (is_used v s)
-is_allowed v (Polled list) = is_licensed v && opens_new v list
+is_allowed v (Dialled s q addr) = may_dial v q addr
+is_allowed v (Polled list) = is_licensed v
 is_allowed v (Took s bytes) = may_take v s bytes
 is_allowed v (Gave s bytes) = may_give v s bytes
 is_allowed v (ReadNotYet s) = may_read v s

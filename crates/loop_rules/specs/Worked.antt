@@ -14,9 +14,11 @@ use Rattle.session_log.specs.Writing as W
 use Rattle.rosters.specs.declared.addr.Addr.{Addr as RosterAddr}
 use Rattle.socket_station.specs.declared.answers.Ready.TheVariants.{Opened, Socket as Seems}
 use Rattle.socket_station.specs.Items.{Item, KeepCall, Listening, LogBegun, Dialled, Polled, Took, Gave, ReadNotYet, Failed, Shut, Kept, Synced}
+use Rattle.socket_lines.specs.Seats.{reaches, dials}
+use Rattle.loop_rules.specs.declared.phases.Phase.TheVariants.{Running}
 use Rattle.loop_rules.specs.Settings.{Setting, told_addr}
-use Rattle.loop_rules.specs.Seats.{asks, dials}
-use Rattle.loop_rules.specs.Views.{View, Running, start}
+use Rattle.loop_rules.specs.Tables.{Table}
+use Rattle.loop_rules.specs.Views.{View, start, first_table}
 use Rattle.loop_rules.specs.After.{view_of, view_after}
 use Rattle.loop_rules.specs.Licence.{is_licensed, is_waited_for, all_is_read, all_is_played}
 use Rattle.loop_rules.specs.Rules.{is_allowed}
@@ -45,7 +47,6 @@ abbrev pub setting : List Entry → Setting
 setting over = record {
   game = game;
   me = 0;
-  name = name;
   over = over;
   roster = record { me = addr_at 7000; links = record { player = 1; addr = addr_at 7001; shows = shown; wants = wanted } ∷ [] };
 }
@@ -183,7 +184,7 @@ EndsAtAFailedKeep =
 -- no poll with bytes unread
 unfoldable pub ReadsBeforeItPolls : Type 0
 ReadsBeforeItPolls =
-    (is_licensed greeted ≡ true) × (is_licensed (view_after begun (take 2 greeting)) ≡ false) × (all_is_read (view_after begun (take 2 greeting)) ≡ false)
+    (is_licensed greeted ≡ true) × (is_licensed (view_after begun (take 2 greeting)) ≡ false) × (all_is_read (view_after begun (take 2 greeting)).table ≡ false)
 
 -- no poll with a frame made and not synced
 unfoldable pub SyncsBeforeItPolls : Type 0
@@ -198,8 +199,11 @@ whole =
     Got 1 (commit_by game 1 1 4 8) ∷ Made (reveal_by 0 1 0 1) ∷ Got 1 (reveal_by 1 1 4 8) ∷ []
 
 -- the loop behind them, without a socket, where the other player asked for this place
+abbrev pub asked_table : (asked : ℕ) → Table
+asked_table asked = let t = first_table (setting whole) in record t { seats = map (λ c. dials (reaches asked c)) t.seats }
+
 abbrev pub finished : (asked : ℕ) → View
-finished asked = record (start (setting whole)) { phase = Running; kept = whole; synced = 10; seats = map (λ t. dials (asks asked t)) (start (setting whole)).seats }
+finished asked = record (start (setting whole)) { phase = Running; kept = whole; synced = 10; table = asked_table asked }
 
 -- no poll where no frame is missed and nothing waits
 unfoldable pub PollsForAReason : Type 0

@@ -1,6 +1,6 @@
 //! Laws of histories: functions that do nothing, whose clauses are proved.
 
-ghost use Rattle.loop_rules.specs.Laws.{PrefixesAreHistories, ItemsAreAllowed, AllowedItemsAreAdded, PollsAreLicensed, FailedPollsAreLicensed, LogsAreBegunFirst, FaultsAreLast, GivenIsDue, GivenIsSynced, KeptBytesAreTheLog, KeptIsHonest, RevealsKeptStandBehind, ReceiptsStandBehind, RevealsGivenAreFair};
+ghost use Rattle.loop_rules.specs.Laws.{PrefixesAreHistories, ItemsAreAllowed, AllowedItemsAreAdded, PollsAreLicensed, FailedPollsAreLicensed, LogsAreBegunFirst, FaultsAreLast, ToldGoesOn, GivenIsDue, KeptBytesAreTheLog, KeptIsHonest, RevealsKeptStandBehind, ReceiptsStandBehind, RevealsGivenAreFair};
 
 /// What was told up to some moment is a history: each of its items may come behind those before it, and such an item makes one more.
 pub fn histories_grow_by_items()
@@ -9,13 +9,19 @@ pub fn histories_grow_by_items()
     ensures added { AllowedItemsAreAdded }
 {}
 
+/// What a station tells goes on by each item that may come next, where the sockets that it opens were never used: the view behind it is shown
+/// then, and its lines stand as the station tells.
+pub fn told_goes_on()
+    ensures { ToldGoesOn }
+{}
+
 /// Each poll is licensed, whether it is done or fails.
 pub fn polls_are_licensed()
     ensures done { PollsAreLicensed }
     ensures failed { FailedPollsAreLicensed }
 {}
 
-/// The first item begins a log of the name that was given, or is the failure of that.
+/// The first item begins a log, or is the failure of that.
 pub fn logs_are_begun_first()
     ensures { LogsAreBegunFirst }
 {}
@@ -25,12 +31,10 @@ pub fn faults_are_last()
     ensures { FaultsAreLast }
 {}
 
-/// Bytes are given on a socket that was opened, and each of them is due there: a HELLO, a WANT, or own frames in order of place from the
-/// cursor on. What is given goes on with the frame that was begun and then spells frames, of own ones those alone that were kept and then
-/// synced before.
+/// Bytes are given on a socket that was opened, and they are the first ones of those that go out next there: what is left of the frame that was
+/// begun, or the front of a HELLO, of a WANT, or of the own frame at the cursor, which was kept and then synced before.
 pub fn given_is_due()
-    ensures due { GivenIsDue }
-    ensures synced { GivenIsSynced }
+    ensures { GivenIsDue }
 {}
 
 /// The bytes kept, joined, are those of one log of the session: of the entries that the history shows as kept.

@@ -5,6 +5,10 @@
 //! and touches nothing.
 #![tactic(auto)]
 
+mod arrivals;
 pub mod laws;
-pub mod limits;
+mod phases;
 pub mod worked;
+
+pub use arrivals::Arrival;
+pub use phases::Phase;

@@ -1,0 +1,4 @@
+pub mod Asks
+pub mod Seats
+pub mod Lines
+pub mod Giving

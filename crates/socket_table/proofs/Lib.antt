@@ -1,0 +1,11 @@
+pub mod Keys
+pub mod Counting
+pub mod Changed
+pub mod Named
+pub mod Heard
+pub mod Taken
+pub mod Opened
+pub mod Staying
+pub mod Asked
+pub mod Written
+pub mod New

@@ -1,0 +1,11 @@
+use Rattle.socket_lines.specs.Lines.{blocked}
+use Rattle.socket_table.proofs.Changed.{line_changed, blocked_same}
+use Rattle.socket_table.proofs.table.Table.block.Goals as goal
+
+pub invariant_of-self : goal.invariant_of-self
+invariant_of-self c =
+    (line_changed _ _ _ _ c.args.place c.args.socket blocked c.index_mut.result.now c.block.new.self c.self.view_is c.self.invariant c.requires c.index_mut.ensures.value c.block.ensures blocked_same (λ l g f. record { taken = f.taken; read = f.read; sending = f.sending; dialled = f.dialled })).0
+
+pub returns : goal.returns
+returns c =
+    (line_changed _ _ _ _ c.args.place c.args.socket blocked c.index_mut.result.now c.block.new.self c.self.view_is c.self.invariant c.requires c.index_mut.ensures.value c.block.ensures blocked_same (λ l g f. record { taken = f.taken; read = f.read; sending = f.sending; dialled = f.dialled })).1

@@ -1,0 +1,4 @@
+pub mod Finding
+pub mod Hearers
+pub mod Opening
+pub mod Sound

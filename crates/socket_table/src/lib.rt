@@ -1,0 +1,21 @@
+//! The sockets and the other players of a loop, side by side.
+//!
+//! A table holds the lines of the sockets that were opened since the last poll and before, a seat for each other player, and the frames that
+//! came and are not handled yet. This crate promises of each change that it is the one that the rules of the loop name, takes memory only
+//! when a table is made, and touches nothing outside.
+#![tactic(auto)]
+
+mod changing;
+mod finding;
+mod frame_list;
+mod hearing;
+mod naming;
+mod polling;
+mod questions;
+mod reading;
+mod room;
+mod table;
+mod writing;
+
+pub use frame_list::FrameList;
+pub use table::{MOST_TAKEN, Table};
