@@ -25,6 +25,10 @@ class Move(ctypes.Structure):
     _fields_ = [("x", c_uint16), ("y", c_uint16), ("strike_x", c_uint16), ("strike_y", c_uint16), ("strikes", c_bool)]
 
 
+class Found(ctypes.Structure):
+    _fields_ = [("turn", c_uint32), ("kind", c_uint32), ("first", c_uint32), ("second", c_uint32), ("player", c_uint8)]
+
+
 class Hits(ctypes.Structure):
     _fields_ = [("settled", c_uint32), ("given", c_uint32), ("taken", c_uint32)]
 
@@ -44,6 +48,8 @@ def declare(library):
         "take_log": [POINTER(c_uint8), POINTER(c_size_t)],
         "stored": [c_uint64],
         "take_frame": [POINTER(c_uint8), POINTER(c_size_t)],
+        "finding": [POINTER(Found)],
+        "evidence": [POINTER(c_uint8), c_size_t, POINTER(c_size_t)],
         "player": [c_uint8, POINTER(Track)],
         "next": [POINTER(Track)],
         "score": [POINTER(Hits)],
@@ -120,4 +126,5 @@ def main():
         side.ask("free")
 
 
-main()
+if __name__ == "__main__":
+    main()

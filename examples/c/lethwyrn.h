@@ -11,9 +11,9 @@
  * Threads: one call on a handle at a time, and a handle stays on the thread that made it. Calls on different handles have nothing to do
  * with each other. Don't call from a signal handler, or from the forked child of a process with threads.
  *
- * Memory: lethwyrn_make and lethwyrn_resume take it, lethwyrn_free gives it back, and lethwyrn_evidence takes some for as long as it runs.
- * What is handed out is written to memory of the caller. Where a call is refused, what it would have written is unchanged unless it says
- * otherwise.
+ * Memory: lethwyrn_make and lethwyrn_resume take all that the peer will need, lethwyrn_free gives it back, and no other call takes any. What is
+ * handed out is written to memory of the caller. Where a call is refused, what it would have written is unchanged, but for the counts
+ * `*count`, `*used` and `*made`, which are 0 then.
  *
  * Turns, places, entries and bytes are counted from 0, lines from 1. A place is a frame's number in the stream of its player: 2 * turn
  * for a session that commits no turn ahead.
@@ -44,7 +44,7 @@ typedef struct lethwyrn { void *at; bool live; } lethwyrn;
 enum lethwyrn_code {
     LETHWYRN_OK = 0,
     LETHWYRN_NO_PEER = 1,        /* the handle has no peer */
-    LETHWYRN_NO_MEMORY = 2,
+    LETHWYRN_NO_MEMORY = 2,      /* make and resume: memory is wanting, and nothing was made */
     LETHWYRN_BAD_SESSION = 3,    /* why.line, and why.rule: 1 .. 12 */
     LETHWYRN_BAD_PLAYER = 4,     /* the session has no such player */
     LETHWYRN_BAD_LOG = 5,        /* why.at: the byte from which on the log can't be used; why.why: 1 too long, 5 an entry that this player's peer can't have logged there */
@@ -81,7 +81,7 @@ enum lethwyrn_code {
     LETHWYRN_DONE = 53           /* all turns are played */
 };
 
-/* why a session or a log was refused, or from which byte on the log was dropped */
+/* why a session or a log was refused, or how much of the log is kept */
 typedef struct { uint32_t line, rule, at, why; bool dropped; } lethwyrn_refusal;
 /* a track behind `turns` turns, and the next place of the player's stream */
 typedef struct { uint32_t turns, next; uint16_t x, y; uint8_t charge; } lethwyrn_track;
@@ -99,9 +99,10 @@ typedef struct { uint32_t next; uint8_t player; bool same_session; } lethwyrn_gr
 /* Makes a peer for this player of the session with this text. OK, NO_MEMORY, BAD_SESSION, BAD_PLAYER, IN_USE. */
 int32_t lethwyrn_make(lethwyrn *h, const uint8_t *text, size_t text_len, uint8_t player, lethwyrn_refusal *why);
 
-/* Makes a peer that goes on from the bytes of its log, and writes `why` (OK, too: dropped, at). Where `why.dropped`, cut the file at `why.at`
-   before anything is stored behind it. The entries that were read count as handed out and stored. Frames are handed out from place 0 again:
-   lethwyrn_send_from skips those that the other has. OK, NO_MEMORY, BAD_SESSION, BAD_PLAYER, BAD_LOG, IN_USE. */
+/* Makes a peer that goes on from the bytes of its log, up to the first entry that is torn or changed. On OK `why.at` says how many bytes are
+   kept, and `why.dropped` whether others follow: cut the file at `why.at` then, before anything is stored behind it. The entries kept count as
+   handed out and stored. Frames are handed out from place 0 again: lethwyrn_send_from skips those that the other has. OK, NO_MEMORY, BAD_SESSION,
+   BAD_PLAYER, BAD_LOG (of a log that is too long, is another player's, or has an entry that this player can't have logged there), IN_USE. */
 int32_t lethwyrn_resume(lethwyrn *h, const uint8_t *text, size_t text_len, uint8_t player, const uint8_t *log, size_t log_len, lethwyrn_refusal *why);
 
 /* Chooses the move of the next turn. The nonce is 32 fresh bytes of a cryptographic source, for each choice. OK, NOT_NOW, OUTSIDE .. NO_CHARGE:
@@ -109,8 +110,8 @@ int32_t lethwyrn_resume(lethwyrn *h, const uint8_t *text, size_t text_len, uint8
 int32_t lethwyrn_choose(lethwyrn *h, const lethwyrn_move *move, const uint8_t nonce[32]);
 
 /* Reads on in the bytes that came over the link of player `from`, in whatever pieces, up to the end of the first frame in them, and writes how
-   many bytes were used: call again with the rest until MORE or BAD_BYTE. Frames are taken as that player's, so be sure of who is at the link.
-   MORE .. CAUGHT, BAD_PLAYER, TOO_MANY. */
+   many bytes were used: call again with the rest until MORE or BAD_BYTE. `greet` is written by a hello (all of it) and by a want (`next`). Frames
+   are taken as that player's, so be sure of who is at the link. MORE .. CAUGHT, BAD_PLAYER, TOO_MANY. */
 int32_t lethwyrn_hear(lethwyrn *h, uint8_t from, const uint8_t *bytes, size_t len, size_t *used, lethwyrn_greeting *greet);
 
 /* The link of this player begins anew, as where a connection was lost and made again: what came of a frame that was cut is forgotten. OK,
@@ -127,8 +128,8 @@ int32_t lethwyrn_advance(lethwyrn *h, uint8_t *made);
 /* Hands out the bytes of the log's next entry, to be appended to the file. OK, NOTHING. */
 int32_t lethwyrn_take_log(lethwyrn *h, uint8_t out[96], size_t *count);
 
-/* Tells how many bytes of the log are durable, from its first byte on: for a peer that goes on from a log those of that log too. What is stored
-   stays so. OK. */
+/* Tells how many bytes of the log are durable, from its first byte on: for a peer that goes on from a log those that it kept, too. Those entries
+   count as stored that were handed out and end within these bytes. What is stored stays so. OK. */
 int32_t lethwyrn_stored(lethwyrn *h, uint64_t bytes);
 
 /* Hands out the bytes of the next own frame, where the log's entries up to it are stored. OK, NOTHING, STORE_FIRST. */
@@ -143,8 +144,8 @@ int32_t lethwyrn_need(lethwyrn *h, size_t number, lethwyrn_wait *out);
 /* The first finding of the log. OK, NOTHING. */
 int32_t lethwyrn_finding(lethwyrn *h, lethwyrn_found *out);
 
-/* The text of the two frames of the finding, as `lethwyrn judge` reads it: anyone who has the session can judge it. OK, NOTHING, NO_MEMORY,
-   NO_ROOM, WHOLE_LOG. */
+/* The text of the two frames of the finding, as `lethwyrn judge` reads it: anyone who has the session can judge it. LETHWYRN_EVIDENCE_ROOM bytes
+   are enough. OK, NOTHING, NO_ROOM, WHOLE_LOG. */
 int32_t lethwyrn_evidence(lethwyrn *h, uint8_t *out, size_t room, size_t *count);
 
 /* What the log shows of a player: its turns that are resolved, and its track after them. OK, BAD_PLAYER. */

@@ -1,5 +1,6 @@
 -- Calls: what a call finds behind a handle, and what it makes of it.
-use Rattle.std.specs.Prelude.{◌≡◌, ℕ, ℤ, ◌⊎◌, ◌+◌, ◌<◌, ◌≤◌, List, [], ◌∷◌, ◌++◌, Option, Some, None, MatchOption, IsTrue, length, pos, take, slice_get, if◌then◌else◌}
+use Rattle.std.specs.Prelude.{◌≡◌, ℕ, ℤ, ◌⊎◌, List, [], ◌∷◌, ◌++◌, Option, Some, None, Result, Ok, Err, length, pos, slice_get, replicate, nat_le, if◌then◌else◌}
+use Rattle.std.specs.Option.{is_some}
 use Rattle.definitions.specs.declared.logs.Entry.{Entry}
 use Rattle.definitions.specs.declared.logs.Entry.TheVariants as E
 use Rattle.definitions.specs.declared.answers.OwnFault.{OwnFault}
@@ -7,237 +8,263 @@ use Rattle.definitions.specs.declared.answers.Need.{Need}
 use Rattle.definitions.specs.declared.findings.Finding.{Finding}
 use Rattle.definitions.specs.declared.world.Move.{Move}
 use Rattle.definitions.specs.declared.world.Track.{Track}
-use Rattle.definitions.specs.World.{players_of}
-use Rattle.std.specs.Option.{is_some}
-use Rattle.definitions.specs.Logs.{chosen, made}
+use Rattle.definitions.specs.World.{Game, players_of}
+use Rattle.definitions.specs.Logs.{chosen}
 use Rattle.definitions.specs.Honest.{IsHonest, made_count}
 use Rattle.definitions.specs.Advance as A
 use Rattle.definitions.specs.Needs as N
 use Rattle.definitions.specs.Settled.{settled}
 use Rattle.definition_laws.specs.First.{finding_of_log}
+use Rattle.grid_world.specs.declared.fault.SessionFault.{SessionFault}
+use Rattle.grid_world.specs.declared.fault.SessionFault.TheVariants.{At, Memory}
 use Rattle.grid_world.specs.Answers.{IsReadFrom}
-use Rattle.old_log.specs.Old.{dropped_at, old_entries}
+use Rattle.grid_world.specs.Reading.{game_at}
+use Rattle.old_log.specs.Old.{Fault, dropped_at, old_entries, old_fault}
 use Rattle.peer_core.specs.Views.{PeerState, player_view, choice_of}
+use Rattle.peer_core.specs.declared.views.PlayerView.{PlayerView}
 use Rattle.peer_core.specs.Scoring.{settled_score}
-use Rattle.session_log.specs.Writing.{Writing, after, written}
-use Rattle.lethwyrn_c.specs.declared.seat.Seat.{Seat}
+use Rattle.wire_frames.specs.Reading.{at_start}
+use Rattle.wire_frames.specs.declared.frames.Frame.TheVariants.{Hello}
+use Rattle.wire_frames.specs.Spelling.{spelling}
+use Rattle.lethwyrn_c.specs.declared.link.TheConstants.{LINKS}
+use Rattle.lethwyrn_c.specs.declared.views.Refusal.{Refusal}
 use Rattle.lethwyrn_c.specs.declared.views.MoveView.{MoveView}
 use Rattle.lethwyrn_c.specs.declared.views.NeedView.{NeedView}
 use Rattle.lethwyrn_c.specs.declared.views.TrackView.{TrackView}
 use Rattle.lethwyrn_c.specs.declared.views.FindingView.{FindingView}
 use Rattle.lethwyrn_c.specs.declared.views.ScoreView.{ScoreView}
-use Rattle.lethwyrn_c.specs.Codes.{code_of_fault, code_of_progress, made_by, code_of_what, code_of_kind}
-use Rattle.wire_frames.specs.declared.frames.FedWhat.{FedWhat}
-use Rattle.lethwyrn_c.specs.Heard.{heard, code_of_heard}
-use Rattle.wire_frames.specs.declared.frames.Frame.TheVariants.{Hello}
-use Rattle.wire_frames.specs.Spelling.{spelling}
-use Rattle.lethwyrn_c.specs.Fronts.{StandsAt}
-use Rattle.lethwyrn_c.specs.Sending.{IsStoredFrame}
+use Rattle.lethwyrn_c.specs.Codes.{code_of_fault, code_of_progress, made_by, code_of_what, code_of_kind, code_of_log, code_of_rule}
+use Rattle.lethwyrn_c.specs.Standings.{Standing, log_front}
 
--- what stands behind a handle: the peer, how many entries of its log were handed out and are stored, and the place of the own frame that is handed out next
-pub record Standing : Type 0 where
-  pub peer : PeerState
-  pub given : ℕ
-  pub stored : ℕ
-  pub sent : ℕ
+-- ---- handles with and without a peer
 
-abbrev pub standing : Option Seat → Option Standing
-standing None = None
-standing (Some s) = Some (record { peer = s.peer; given = s.given.entries; stored = s.stored; sent = s.sent })
+-- what a call answers: 1 where there is no peer
+abbrev pub code_or : (Standing → ℕ) → Option Standing → ℕ
+code_or f None = 1
+code_or f (Some s) = f s
 
--- the same with another log
-abbrev pub with_log : (PeerState → List Entry) → Option Standing → Option Standing
-with_log f None = None
-with_log f (Some s) = Some (record s { peer = record s.peer { entries = f s.peer } })
+-- what it writes: nothing where there is no peer
+abbrev pub told_or : {X : Type 0} → (Standing → X → X) → Option Standing → X → X
+told_or f None old = old
+told_or f (Some s) old = f s old
 
--- the same that hands frames out from this place on
-abbrev pub sending_from : ℕ → Option Standing → Option Standing
-sending_from place None = None
-sending_from place (Some s) = Some (record s { sent = place })
+-- what stands behind the handle then
+abbrev pub then_or : (Standing → Standing) → Option Standing → Option Standing
+then_or f None = None
+then_or f (Some s) = Some (f s)
+
+-- there was a peer and is one, of which this holds
+abbrev pub Behind : (Standing → Standing → Type 0) → Option Standing → Option Standing → Type 0
+Behind R None t = ⊥
+Behind R (Some s) None = ⊥
+Behind R (Some s) (Some t) = R s t
+
+abbrev pub IsThere : (Standing → Type 0) → Option Standing → Type 0
+IsThere P None = ⊥
+IsThere P (Some s) = P s
+
+-- this is the code that is due, or want of memory came in its place; a handle that has a peer is refused without taking any
+abbrev pub IsDue : Option Standing → ℕ → ℤ → Type 0
+IsDue None due code = (code ≡ pos due) ⊎ (code ≡ pos 2)
+IsDue (Some s) due code = code ≡ pos 6
+
+-- ---- a peer is made
+
+-- the code, by what the text says
+abbrev pub session_code : (Game → ℕ) → Result Game SessionFault → ℕ
+session_code f (Ok game) = f game
+session_code f (Err (At line what)) = 3
+session_code f (Err Memory) = 2
+
+abbrev pub player_code : ℕ → ℕ → Game → ℕ
+player_code player code game = if nat_le (players_of game) player then 4 else code
+
+abbrev pub make_code : List ℕ → ℕ → ℕ
+make_code text player = session_code (player_code player 0) (game_at text)
+
+-- the line of the text that is at fault, and the rule that it breaks
+abbrev pub session_told : Result Game SessionFault → Refusal → Refusal
+session_told (Ok game) old = old
+session_told (Err (At line what)) old = record { line = line; rule = code_of_rule what; at = old.at; why = old.why; dropped = old.dropped }
+session_told (Err Memory) old = old
+
+-- a peer of this player and of the session with this text, whose log is empty
+pub record IsMade (text : List ℕ) (player : ℕ) (s : Standing) : Type 0 where
+  pub said : game_at text ≡ Ok s.peer.game
+  pub read : IsReadFrom s.peer.game text
+  pub me : s.peer.me ≡ player
+  pub entries : s.peer.entries ≡ []
+  pub links : s.links ≡ replicate LINKS at_start
+  pub given : s.given ≡ 0
+  pub stored : s.stored ≡ 0
+  pub sent : s.sent ≡ 0
+
+-- the text gave no session, and why: its first fault is told, or nothing where memory was wanting
+abbrev pub IsUnread : List ℕ → Refusal → Refusal → ℤ → Type 0
+IsUnread text old new code = ((code ≡ pos 3) × (session_code (λ game. 0) (game_at text) ≡ 3) × (new ≡ session_told (game_at text) old)) ⊎ ((code ≡ pos 2) × (new ≡ old))
+
+-- ---- a peer goes on from a log
+
+abbrev pub log_code : Option Fault → ℕ
+log_code None = 0
+log_code (Some f) = 5
+
+abbrev pub resumed_code : ℕ → List ℕ → Game → ℕ
+resumed_code player log game = if nat_le (players_of game) player then 4 else log_code (old_fault game player log)
+
+abbrev pub resume_code : List ℕ → ℕ → List ℕ → ℕ
+resume_code text player log = session_code (resumed_code player log) (game_at text)
+
+-- how many bytes of a log are kept: up to its first fault, if it has one, and none where it has no whole entry
+abbrev pub kept_at : List Entry → Option ℕ → ℕ → ℕ
+kept_at [] dropped len = 0
+kept_at (e ∷ es) None len = len
+kept_at (e ∷ es) (Some at) len = at
+
+-- the byte from which on the log can't be used, and why; or how many bytes are kept, and whether others follow
+abbrev pub log_told : Option Fault → ℕ → Option ℕ → Refusal → Refusal
+log_told (Some f) kept dropped old = record { line = old.line; rule = old.rule; at = f.at; why = code_of_log f.why; dropped = old.dropped }
+log_told None kept dropped old = record { line = old.line; rule = old.rule; at = kept; why = old.why; dropped = is_some dropped }
+
+abbrev pub resume_told : ℕ → List ℕ → Result Game SessionFault → Refusal → Refusal
+resume_told player log (Ok game) old = log_told (old_fault game player log) (kept_at (old_entries game log) (dropped_at game log) (length log)) (dropped_at game log) old
+resume_told player log (Err (At line what)) old = record { line = line; rule = code_of_rule what; at = old.at; why = old.why; dropped = old.dropped }
+resume_told player log (Err Memory) old = old
+
+-- the log begins with these bytes, which are so many, and has no others unless something is dropped
+pub record IsKept (log front : List ℕ) (at : ℕ) (dropped : Option ℕ) : Type 0 where
+  pub rest : List ℕ
+  pub bytes_are : log ≡ front ++ rest
+  pub at_is : length front ≡ at
+  pub whole : dropped ≡ None → rest ≡ []
+
+-- a peer of the session that goes on from the log with these bytes, whose entries count as handed out and stored: their bytes are the log's,
+-- up to the rest that is dropped
+pub record IsGoneOn (game : Game) (player : ℕ) (log : List ℕ) (s : Standing) : Type 0 where
+  pub game_is : s.peer.game ≡ game
+  pub me : s.peer.me ≡ player
+  pub entries : s.peer.entries ≡ old_entries game log
+  pub honest : IsHonest game player s.peer.entries
+  pub kept : IsKept log (log_front s.peer s.given) (kept_at (old_entries game log) (dropped_at game log) (length log)) (dropped_at game log)
+  pub links : s.links ≡ replicate LINKS at_start
+  pub given : s.given ≡ length s.peer.entries
+  pub stored : s.stored ≡ length s.peer.entries
+  pub sent : s.sent ≡ 0
+
+-- the same of the session with this text
+pub record IsOn (text : List ℕ) (player : ℕ) (log : List ℕ) (s : Standing) : Type 0 where
+  pub said : game_at text ≡ Ok s.peer.game
+  pub read : IsReadFrom s.peer.game text
+  pub on : IsGoneOn s.peer.game player log s
+
+-- ---- a choice
 
 -- the move that C tells
 abbrev pub move_of : MoveView → Move
 move_of m = record { to = record { x = m.x; y = m.y }; strike = if m.strikes then Some (record { x = m.strike_x; y = m.strike_y }) else None }
 
--- a peer of this player and of the session with this text, whose log is empty
-abbrev pub IsMade : List ℕ → ℕ → Option Standing → Type 0
-IsMade text player None = ⊥
-IsMade text player (Some s) = IsReadFrom s.peer.game text × (s.peer.me ≡ player) × (s.peer.entries ≡ []) × (s.given ≡ 0) × (s.stored ≡ 0) × (s.sent ≡ 0)
-
--- a peer of them that goes on from the log with these bytes, whose entries count as handed out and stored
-abbrev pub IsOn : List ℕ → ℕ → List ℕ → Option Standing → Type 0
-IsOn text player log None = ⊥
-IsOn text player log (Some s) = IsReadFrom s.peer.game text × (s.peer.me ≡ player) × (s.peer.entries ≡ old_entries s.peer.game log) × IsHonest s.peer.game s.peer.me s.peer.entries ×
-    (s.given ≡ length s.peer.entries) × (s.stored ≡ length s.peer.entries) × (s.sent ≡ 0)
-
--- the code of a choice
 abbrev pub code_of_choice : Option OwnFault → ℕ
 code_of_choice None = 0
 code_of_choice (Some fault) = code_of_fault fault
 
-abbrev pub choice_code : Move → Option Standing → ℕ
-choice_code m None = 1
-choice_code m (Some s) = code_of_choice (N.choice_fault s.peer.game s.peer.me s.peer.entries m)
+abbrev pub choice_code : Move → Standing → ℕ
+choice_code m s = code_of_choice (N.choice_fault s.peer.game s.peer.me s.peer.entries m)
 
--- the log with the choice
-abbrev pub with_choice : Move → List ℕ → PeerState → List Entry
-with_choice m nonce p = p.entries ++ E.Chose (length (chosen p.me p.entries)) m (record { bytes = nonce }) ∷ []
+-- the log with the choice, where it isn't refused
+abbrev pub with_choice : Move → List ℕ → PeerState → Option OwnFault → List Entry
+with_choice m nonce p None = p.entries ++ E.Chose (length (chosen p.me p.entries)) m (record { bytes = nonce }) ∷ []
+with_choice m nonce p (Some fault) = p.entries
 
--- the code that says how far a peer came
-abbrev pub progress_code : Option Standing → ℕ
-progress_code None = 1
-progress_code (Some s) = code_of_progress (A.progress s.peer.game s.peer.me s.peer.entries)
+abbrev pub after_choice : Move → List ℕ → Standing → Standing
+after_choice m nonce s = record s { peer = record s.peer { entries = with_choice m nonce s.peer (N.choice_fault s.peer.game s.peer.me s.peer.entries m) } }
 
--- the log with all frames made that are allowed
-abbrev pub advanced : PeerState → List Entry
-advanced p = A.advance p.game p.me p.entries
+-- ---- frames are made
 
--- the frame, whose entry is stored, is handed out
-abbrev pub IsFrameTaken : List ℕ → Option Standing → Option Standing → Type 0
-IsFrameTaken bytes (Some s) (Some t) = IsStoredFrame s.stored s.peer.entries s.sent t.sent bytes × (t.peer ≡ s.peer) × (t.given ≡ s.given) × (t.stored ≡ s.stored)
-IsFrameTaken bytes (Some s) None = ⊥
-IsFrameTaken bytes None t = ⊥
+abbrev pub progress_code : Standing → ℕ
+progress_code s = code_of_progress (A.progress s.peer.game s.peer.me s.peer.entries)
 
--- there is a next frame, and its entry isn't stored
-abbrev pub IsToBeStored : Option Standing → Type 0
-IsToBeStored None = ⊥
-IsToBeStored (Some s) = (made_count (take s.stored s.peer.entries) ≤ s.sent) × IsTrue (is_some (slice_get (made s.peer.entries) s.sent))
+abbrev pub after_advance : Standing → Standing
+after_advance s = record s { peer = record s.peer { entries = A.advance s.peer.game s.peer.me s.peer.entries } }
 
--- no frame is left
-abbrev pub IsSentAll : Option Standing → Type 0
-IsSentAll None = ⊥
-IsSentAll (Some s) = slice_get (made s.peer.entries) s.sent ≡ None
+-- how many frames are made
+abbrev pub made_of : Standing → ℕ
+made_of s = made_by (A.progress s.peer.game s.peer.me s.peer.entries)
 
--- an entry was handed out, and nothing else changed
-abbrev pub IsEntryTaken : Option Standing → Option Standing → Type 0
-IsEntryTaken (Some s) (Some t) = (s.given < length s.peer.entries) × (t ≡ record s { given = s.given + 1 })
-IsEntryTaken (Some s) None = ⊥
-IsEntryTaken None t = ⊥
+abbrev pub made_told : Option Standing → ℕ
+made_told None = 0
+made_told (Some s) = made_of s
 
--- each entry was handed out
-abbrev pub IsGivenAll : Option Standing → Type 0
-IsGivenAll None = ⊥
-IsGivenAll (Some s) = length s.peer.entries ≤ s.given
+-- ---- what is sent
 
--- what C is told of a need
-abbrev pub need_view : Need → NeedView
-need_view n = record { turn = n.turn; next = n.next; what = code_of_what n.what; player = n.player }
+abbrev pub sending_from : ℕ → Standing → Standing
+sending_from place s = record s { sent = place }
 
-abbrev pub need_told : Option Need → NeedView → NeedView
-need_told None out = out
-need_told (Some n) out = need_view n
+-- the hello of this peer for a player of its session
+abbrev pub hello : ℕ → List ℕ → Standing → List ℕ
+hello player pass s = spelling (Hello s.peer.game.id s.peer.me pass (player_view s.peer.game s.peer.me s.peer.entries player).next)
 
-abbrev pub need_at : Option Standing → ℕ → Option Need
-need_at None i = None
-need_at (Some s) i = slice_get (N.needs s.peer.game s.peer.me s.peer.entries) i
+-- 4 where the session has no such player
+abbrev pub known_code : ℕ → Standing → ℕ
+known_code player s = player_code player 0 s.peer.game
 
--- what C is told of a finding
-abbrev pub finding_view : Finding → FindingView
-finding_view f = record { turn = f.turn; kind = code_of_kind f.kind; first = f.first.entry; second = f.second.entry; player = f.player }
-
-abbrev pub finding_told : Option Finding → FindingView → FindingView
-finding_told None out = out
-finding_told (Some f) out = finding_view f
-
-abbrev pub finding_at : Option Standing → Option Finding
-finding_at None = None
-finding_at (Some s) = finding_of_log s.peer.game s.peer.entries
-
--- what C is told of a track
-abbrev pub track_view : ℕ → ℕ → Track → TrackView
-track_view turns next t = record { turns = turns; next = next; x = t.at.x; y = t.at.y; charge = t.charge }
-
--- what the log shows of this player
-abbrev pub IsOfPlayer : ℕ → Option Standing → TrackView → Type 0
-IsOfPlayer player None out = ⊥
-IsOfPlayer player (Some s) out = (player < players_of s.peer.game) ×
-    (out ≡ track_view (player_view s.peer.game s.peer.me s.peer.entries player).turns (player_view s.peer.game s.peer.me s.peer.entries player).next (player_view s.peer.game s.peer.me s.peer.entries player).track)
-
-abbrev pub IsNoPlayer : ℕ → Option Standing → Type 0
-IsNoPlayer player None = ⊥
-IsNoPlayer player (Some s) = players_of s.peer.game ≤ player
-
--- the next choice: its turn, the place of the next own frame, and the track before it
-abbrev pub IsNext : Option Standing → TrackView → Type 0
-IsNext None out = Unit {0}
-IsNext (Some s) out = out ≡ track_view (choice_of s.peer.game s.peer.me s.peer.entries).turn (made_count s.peer.entries) (choice_of s.peer.game s.peer.me s.peer.entries).track
-
-abbrev pub next_code : Option Standing → ℕ
-next_code None = 1
-next_code (Some s) = if N.may_choose s.peer.game s.peer.me s.peer.entries then 0 else 10
-
--- what the settled turns count
-abbrev pub IsScore : Option Standing → ScoreView → Type 0
-IsScore None out = Unit {0}
-IsScore (Some s) out = out ≡ record { settled = settled s.peer.game s.peer.me s.peer.entries; given = (settled_score s.peer.game s.peer.me s.peer.entries).given; taken = (settled_score s.peer.game s.peer.me s.peer.entries).taken }
+-- ---- what is told
 
 -- 0 where there is something to tell, else 7
 abbrev pub code_if : {X : Type 0} → Option X → ℕ
 code_if None = 7
 code_if (Some x) = 0
 
-abbrev pub need_code : Option Standing → ℕ → ℕ
-need_code None i = 1
-need_code (Some s) i = code_if (slice_get (N.needs s.peer.game s.peer.me s.peer.entries) i)
+-- a need
+abbrev pub need_view : Need → NeedView
+need_view n = record { turn = n.turn; next = n.next; what = code_of_what n.what; player = n.player }
 
-abbrev pub finding_code : Option Standing → ℕ
-finding_code None = 1
-finding_code (Some s) = code_if (finding_of_log s.peer.game s.peer.entries)
+abbrev pub need_told : Option Need → NeedView → NeedView
+need_told None old = old
+need_told (Some n) old = need_view n
 
--- a link brought something from this player, of which the code tells: one of 4 and 9 and the peer is as it was, or the code says what became of it
-abbrev pub IsHeard : ℕ → ℤ → Option Standing → Option Standing → Type 0
-IsHeard from code None t = (code ≡ pos 1) × (t ≡ None)
-IsHeard from code (Some s) t = (what : FedWhat) × (t ≡ Some (record s { peer = record s.peer { entries = heard from s.peer what } })) ×
-    ((code ≡ pos 4) ⊎ (code ≡ pos 9) ⊎ (code ≡ pos (code_of_heard from s.peer what)))
+abbrev pub need_at : ℕ → Standing → Option Need
+need_at i s = slice_get (N.needs s.peer.game s.peer.me s.peer.entries) i
 
--- at least as many entries are stored as before, of those that were handed out, and nothing else changed
-abbrev pub IsStoredOn : Option Standing → Option Standing → Type 0
-IsStoredOn None t = t ≡ None
-IsStoredOn (Some s) None = ⊥
-IsStoredOn (Some s) (Some t) = (t ≡ record s { stored = t.stored }) × (s.stored ≤ t.stored) × ((t.stored ≡ s.stored) ⊎ (t.stored ≤ s.given))
+-- a finding
+abbrev pub finding_view : Finding → FindingView
+finding_view f = record { turn = f.turn; kind = code_of_kind f.kind; first = f.first.entry; second = f.second.entry; player = f.player }
 
--- the bytes are the hello of this peer for a player of its session
-abbrev pub IsHello : ℕ → List ℕ → Option Standing → List ℕ → Type 0
-IsHello player pass None bytes = ⊥
-IsHello player pass (Some s) bytes = (player < players_of s.peer.game) ×
-    (bytes ≡ spelling (Hello s.peer.game.id s.peer.me pass (player_view s.peer.game s.peer.me s.peer.entries player).next))
+abbrev pub finding_told : Option Finding → FindingView → FindingView
+finding_told None old = old
+finding_told (Some f) old = finding_view f
 
--- there is no peer, and the code says so
-abbrev pub IsNoPeer : Option Standing → ℤ → Type 0
-IsNoPeer s code = (s ≡ None) × (code ≡ pos 1)
+abbrev pub finding_at : Standing → Option Finding
+finding_at s = finding_of_log s.peer.game s.peer.entries
 
--- 0 where there is a peer, else 1
-abbrev pub peer_code : Option Standing → ℕ
-peer_code None = 1
-peer_code (Some s) = 0
+-- a track
+abbrev pub track_view : ℕ → ℕ → Track → TrackView
+track_view turns next t = record { turns = turns; next = next; x = t.at.x; y = t.at.y; charge = t.charge }
 
--- how many frames are made
-abbrev pub made_told : Option Standing → ℕ
-made_told None = 0
-made_told (Some s) = made_by (A.progress s.peer.game s.peer.me s.peer.entries)
+abbrev pub player_told : PlayerView → TrackView
+player_told v = track_view v.turns v.next v.track
 
--- these are the bytes that are written for the next entry behind those that were handed out
-abbrev pub IsNextWritten : Option Seat → List ℕ → Type 0
-IsNextWritten None bytes = ⊥
-IsNextWritten (Some s) bytes = MatchOption (slice_get s.peer.entries s.given.entries) ⊥ (λ e. bytes ≡ written s.given.writer e)
+-- what the log shows of a player, where the session has it
+abbrev pub track_of : ℕ → PeerState → TrackView → TrackView
+track_of player p old = if nat_le (players_of p.game) player then old else player_told (player_view p.game p.me p.entries player)
 
--- how far the log was handed out: how many entries, the writer behind them, and how many bytes
-pub record MarkState : Type 0 where
-  pub count : ℕ
-  pub writer : Writing
-  pub bytes : ℕ
+abbrev pub track_told : ℕ → Standing → TrackView → TrackView
+track_told player s old = track_of player s.peer old
 
-abbrev pub mark_at : Option Seat → Option MarkState
-mark_at None = None
-mark_at (Some s) = Some (record { count = s.given.entries; writer = s.given.writer; bytes = s.given.bytes })
+-- the next choice: its turn, the place of the next own frame, and the track before it
+abbrev pub next_told : Standing → TrackView → TrackView
+next_told s old = track_view (choice_of s.peer.game s.peer.me s.peer.entries).turn (made_count s.peer.entries) (choice_of s.peer.game s.peer.me s.peer.entries).track
 
--- the writer went on by the next entry
-abbrev pub IsMarkOn : Option Seat → Option Seat → Type 0
-IsMarkOn (Some s) (Some t) = MatchOption (slice_get s.peer.entries s.given.entries) ⊥ (λ e. (t.given.writer ≡ after s.given.writer e) × (t.given.bytes ≡ s.given.bytes + length (written s.given.writer e)))
-IsMarkOn (Some s) None = ⊥
-IsMarkOn None t = ⊥
+abbrev pub next_code : Standing → ℕ
+next_code s = if N.may_choose s.peer.game s.peer.me s.peer.entries then 0 else 10
 
--- the writer stands behind the entries that count as handed out
-abbrev pub IsAtFront : Option Seat → Type 0
-IsAtFront None = ⊥
-IsAtFront (Some s) = StandsAt s.peer.game.id s.peer.me s.peer.entries s.given.entries s.given.writer s.given.bytes
+-- what the settled turns count
+abbrev pub score_told : Standing → ScoreView → ScoreView
+score_told s old = record {
+  settled = settled s.peer.game s.peer.me s.peer.entries;
+  given = (settled_score s.peer.game s.peer.me s.peer.entries).given;
+  taken = (settled_score s.peer.game s.peer.me s.peer.entries).taken;
+}
+
+-- 0 where there is a peer
+abbrev pub peer_code : Standing → ℕ
+peer_code s = 0

@@ -3,5 +3,8 @@ pub mod Codes
 pub mod Fronts
 pub mod Heard
 pub mod Holding
+pub mod Marks
+pub mod Runs
 pub mod Sending
 pub mod Showing
+pub mod Standings

@@ -1,11 +1,15 @@
-//! Laws of what is handed out: a function that does nothing, whose clauses are proved.
+//! Laws of what C has by its calls: functions that do nothing, whose clauses are proved.
 
-ghost use Rattle.lethwyrn_c.specs.Fronts.{BeginsAtTheFront, GoesOnByTheNext, StaysAsLogsGrow};
+ghost use Rattle.lethwyrn_c.specs.Runs.{RunsAreTold, FramesWaitForTheirEntries};
 
-/// A writer that stands behind the first entries of a player's log begins at the log's front, writes the log's next bytes for the next entry, and
-/// stays where it stands as the log grows: so what is written one behind the other is the log's bytes from the front.
+/// Whatever calls were made on a handle, in whatever order: the bytes of the log that were handed out are its first ones, one entry behind
+/// the other, and the entries that count as stored end within the bytes that were named as stored.
 pub fn logs_are_handed_out()
-    ensures begins { BeginsAtTheFront }
-    ensures next { GoesOnByTheNext }
-    ensures stays { StaysAsLogsGrow }
+    ensures { RunsAreTold }
+{}
+
+/// A frame that is handed out was made by the peer, its entry was handed out before, and the log up to and with this entry was named as
+/// stored.
+pub fn frames_wait_for_their_entries()
+    ensures { FramesWaitForTheirEntries }
 {}

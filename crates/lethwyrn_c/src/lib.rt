@@ -9,11 +9,13 @@
 
 mod codes;
 mod exports;
+mod handing;
 mod handle;
 pub mod laws;
 mod link;
 mod loose;
 mod mark;
+mod playing;
 mod seat;
 mod showing;
 mod telling;

@@ -1,8 +1,8 @@
 //! How far the bytes of a log go.
 
-ghost use Rattle.std.specs.Prelude.{◌≡◌, ◌+◌, ◌*◌, ◌≤◌, ◌<◌, ◌^◌, take, length, slice_get, MatchOption};
+ghost use Rattle.std.specs.Prelude.{◌≡◌, ℕ, List, ◌+◌, ◌*◌, ◌≤◌, ◌<◌, ◌^◌, ◌⊎◌, take, length};
 ghost use Rattle.session_log.specs.Writing.{fresh, written, after};
-ghost use Rattle.lethwyrn_c.specs.Fronts.{StandsAt};
+ghost use Rattle.lethwyrn_c.specs.Fronts.{GoesOn, StandsAt};
 
 use definitions::{Entry, PlayerId};
 use grid_world::Session;
@@ -59,15 +59,26 @@ impl Mark {
         count
     }
 
-    /// Goes on by the next of these entries, if there is one: writes its bytes and says how many they are, or 0.
+    /// Goes on by the next of these entries: writes its bytes and says how many they are.
     pub(crate) fn step(&mut self, entries: &[Entry], out: &mut [u8; 96]) -> usize
-        ensures step { MatchOption (slice_get entries.now self.old.entries) ((result ≡ 0) × (self.new ≡ self.old)) (λ e.
-            (take result out.new ≡ written self.old.writer e) × (result ≡ length (written self.old.writer e)) × (self.new.writer ≡ after self.old.writer e) ×
-            (self.new.entries ≡ self.old.entries + 1) × (self.new.bytes ≡ self.old.bytes + result)) }
+        requires there { self.old.entries < length entries.now }
+        ensures entries { self.new.entries ≡ self.old.entries + 1 }
+        ensures goes_on { (id : List ℕ) (me : ℕ) → StandsAt id me entries.now self.old.entries self.old.writer self.old.bytes →
+            GoesOn id me entries.now self.old.entries self.new.entries self.new.writer self.new.bytes (take result out.new) }
     {
-        match entries.get(self.entries) {
-            None => 0,
-            Some(entry) => self.add(entry, out),
+        self.add(&entries[self.entries], out)
+    }
+
+    /// Stands behind the entry of this number, having stood in front of it or behind it.
+    pub(crate) fn pass(&mut self, entries: &[Entry], number: usize)
+        requires near { (self.old.entries ≡ number) ⊎ (self.old.entries ≡ number + 1) }
+        requires there { number < length entries.now }
+        ensures passed { self.new.entries ≡ number + 1 }
+        ensures stands { (id : List ℕ) (me : ℕ) → StandsAt id me entries.now self.old.entries self.old.writer self.old.bytes →
+            StandsAt id me entries.now self.new.entries self.new.writer self.new.bytes }
+    {
+        if self.entries == number {
+            self.step(entries, &mut [0; 96]);
         }
     }
 }

@@ -1,13 +1,13 @@
 //! What C asks of a peer.
 
-ghost use Rattle.std.specs.Prelude.{◌≡◌, ◌≢◌, ◌++◌, ◌⊎◌, pos, Some, None, IfOk, take};
+ghost use Rattle.std.specs.Prelude.{◌≡◌, pos};
 ghost use Rattle.lethwyrn_c.specs.Calls as C;
-ghost use Rattle.lethwyrn_c.specs.Calls.{standing};
 
 use crate::codes;
 use crate::handle::{Handle, open, shut};
 use crate::views::{FindingView, NeedView, ScoreView, TrackView};
 use definitions::{Finding, Need};
+use peer_core::Peer;
 use std::alloc::Global;
 
 /// Tells a need, if there is one.
@@ -49,6 +49,25 @@ fn tell_finding(finding: Option<Finding>, out: &mut FindingView) -> i32
     }
 }
 
+/// Tells what the log shows of a player, if the session has it.
+fn tell_player(peer: &Peer, player: u8, out: &mut TrackView) -> i32
+    ensures told { out.new ≡ C.track_of player peer.now out.old }
+    ensures code { result ≡ pos (C.player_code player 0 peer.now.game) }
+{
+    if player >= peer.session().players() {
+        return codes::BAD_PLAYER;
+    }
+    let view = peer.player(player);
+    *out = TrackView {
+        turns: view.turns,
+        next: view.next,
+        x: view.track.at.x,
+        y: view.track.at.y,
+        charge: view.track.charge,
+    };
+    codes::OK
+}
+
 /// The need with this number, from 0, by rising player.
 #[unsafe(no_mangle)]
 pub extern "C" fn lethwyrn_need(
@@ -57,14 +76,14 @@ pub extern "C" fn lethwyrn_need(
     number: usize,
     out: &mut NeedView,
 ) -> i32
+    ensures code { result ≡ pos (C.code_or (λ s. C.code_if (C.need_at number s)) handle.old.value) }
+    ensures told { out.new ≡ C.told_or (λ s. C.need_told (C.need_at number s)) handle.old.value out.old }
     ensures same { handle.new.value ≡ handle.old.value }
-    ensures told { out.new ≡ C.need_told (C.need_at (standing handle.old.value) number) out.old }
-    ensures code { result ≡ pos (C.need_code (standing handle.old.value) number) }
 {
     let Some(seat) = open(alloc, handle) else {
         return codes::NO_PEER;
     };
-    let code = tell_need(seat.peer.needs().as_slice().get(number).copied(), out);
+    let code = tell_need(seat.peer().needs().as_slice().get(number).copied(), out);
     shut(handle, seat);
     code
 }
@@ -72,14 +91,14 @@ pub extern "C" fn lethwyrn_need(
 /// The first finding of the log.
 #[unsafe(no_mangle)]
 pub extern "C" fn lethwyrn_finding(alloc: Global, handle: &mut Handle, out: &mut FindingView) -> i32
+    ensures code { result ≡ pos (C.code_or (λ s. C.code_if (C.finding_at s)) handle.old.value) }
+    ensures told { out.new ≡ C.told_or (λ s. C.finding_told (C.finding_at s)) handle.old.value out.old }
     ensures same { handle.new.value ≡ handle.old.value }
-    ensures told { out.new ≡ C.finding_told (C.finding_at (standing handle.old.value)) out.old }
-    ensures code { result ≡ pos (C.finding_code (standing handle.old.value)) }
 {
     let Some(seat) = open(alloc, handle) else {
         return codes::NO_PEER;
     };
-    let code = tell_finding(seat.peer.finding(), out);
+    let code = tell_finding(seat.peer().finding(), out);
     shut(handle, seat);
     code
 }
@@ -92,50 +111,37 @@ pub extern "C" fn lethwyrn_player(
     player: u8,
     out: &mut TrackView,
 ) -> i32
+    ensures code { result ≡ pos (C.code_or (C.known_code player) handle.old.value) }
+    ensures told { out.new ≡ C.told_or (C.track_told player) handle.old.value out.old }
     ensures same { handle.new.value ≡ handle.old.value }
-    ensures told { result ≡ pos 0 → C.IsOfPlayer player (standing handle.old.value) out.new }
-    ensures none { result ≡ pos 4 → C.IsNoPlayer player (standing handle.old.value) }
-    ensures kept { result ≢ pos 0 → out.new ≡ out.old }
-    ensures code { (result ≡ pos 0) ⊎ (result ≡ pos 4) ⊎ C.IsNoPeer (standing handle.old.value) result }
 {
     let Some(seat) = open(alloc, handle) else {
         return codes::NO_PEER;
     };
-    if player >= seat.peer.session().players() {
-        shut(handle, seat);
-        return codes::BAD_PLAYER;
-    }
-    let view = seat.peer.player(player);
-    *out = TrackView {
-        turns: view.turns,
-        next: view.next,
-        x: view.track.at.x,
-        y: view.track.at.y,
-        charge: view.track.charge,
-    };
+    let code = tell_player(seat.peer(), player, out);
     shut(handle, seat);
-    codes::OK
+    code
 }
 
 /// The turn to be chosen next, the place of the next own frame, and the own track before the turn.
 #[unsafe(no_mangle)]
 pub extern "C" fn lethwyrn_next(alloc: Global, handle: &mut Handle, out: &mut TrackView) -> i32
+    ensures code { result ≡ pos (C.code_or C.next_code handle.old.value) }
+    ensures told { out.new ≡ C.told_or C.next_told handle.old.value out.old }
     ensures same { handle.new.value ≡ handle.old.value }
-    ensures told { C.IsNext (standing handle.old.value) out.new }
-    ensures code { result ≡ pos (C.next_code (standing handle.old.value)) }
 {
     let Some(seat) = open(alloc, handle) else {
         return codes::NO_PEER;
     };
-    let choice = seat.peer.choice();
+    let choice = seat.peer().choice();
     *out = TrackView {
         turns: choice.turn,
-        next: seat.peer.made_count(),
+        next: seat.peer().made_count(),
         x: choice.track.at.x,
         y: choice.track.at.y,
         charge: choice.track.charge,
     };
-    let may = seat.peer.may_choose();
+    let may = seat.peer().may_choose();
     shut(handle, seat);
     if may { codes::OK } else { codes::NOT_NOW }
 }
@@ -143,16 +149,16 @@ pub extern "C" fn lethwyrn_next(alloc: Global, handle: &mut Handle, out: &mut Tr
 /// How many own turns are settled, and the hits that the peer gave and took in them.
 #[unsafe(no_mangle)]
 pub extern "C" fn lethwyrn_score(alloc: Global, handle: &mut Handle, out: &mut ScoreView) -> i32
+    ensures code { result ≡ pos (C.code_or C.peer_code handle.old.value) }
+    ensures told { out.new ≡ C.told_or C.score_told handle.old.value out.old }
     ensures same { handle.new.value ≡ handle.old.value }
-    ensures told { C.IsScore (standing handle.old.value) out.new }
-    ensures code { result ≡ pos (C.peer_code (standing handle.old.value)) }
 {
     let Some(seat) = open(alloc, handle) else {
         return codes::NO_PEER;
     };
-    let score = seat.peer.score();
+    let score = seat.peer().score();
     *out = ScoreView {
-        settled: seat.peer.settled(),
+        settled: seat.peer().settled(),
         given: score.given,
         taken: score.taken,
     };
