@@ -1,4 +1,4 @@
-/* Each answer of each call, what it tells, and that no call takes memory but lethwyrn_make and lethwyrn_resume. It is linked with --wrap=malloc
+/* The answers of each call, what it tells, and that no call takes memory but lethwyrn_make and lethwyrn_resume. It is linked with --wrap=malloc
  * and --wrap=realloc. */
 #define _DEFAULT_SOURCE
 #include "harness.h"

@@ -6,3 +6,4 @@ pub mod Runs
 pub mod Kept
 pub mod Links
 pub mod Storing
+pub mod Convicting

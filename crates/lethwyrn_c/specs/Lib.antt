@@ -1,5 +1,6 @@
 pub mod Calls
 pub mod Codes
+pub mod Convicting
 pub mod Fronts
 pub mod Heard
 pub mod Holding

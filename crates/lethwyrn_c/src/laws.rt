@@ -1,5 +1,6 @@
 //! Laws of what C has by its calls: functions that do nothing, whose clauses are proved.
 
+ghost use Rattle.lethwyrn_c.specs.Convicting.{EvidenceConvicts};
 ghost use Rattle.lethwyrn_c.specs.Runs.{RunsAreTold, FramesWaitForTheirEntries};
 
 /// Whatever calls were made on a handle, in whatever order: the bytes of the log that were handed out are its first ones, one entry behind
@@ -12,4 +13,10 @@ pub fn logs_are_handed_out()
 /// stored.
 pub fn frames_wait_for_their_entries()
     ensures { FramesWaitForTheirEntries }
+{}
+
+/// The text that is written of a peer's finding is that of two frames which show it, to anybody who has the session and no log. It is there for
+/// each finding but an illegal move.
+pub fn evidence_convicts()
+    ensures { EvidenceConvicts }
 {}
