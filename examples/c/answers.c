@@ -154,13 +154,14 @@ static int32_t choose_of(lethwyrn *peer, uint16_t x, uint16_t y, int strike_x, i
 
 static int32_t hear_of(lethwyrn *peer, uint8_t from, const void *bytes, size_t size)
 {
-    greet = (lethwyrn_greeting) { 71, 72, false };
+    greet = (lethwyrn_greeting) { 71, 72, false, { 73 } };
     return lethwyrn_hear(peer, from, bytes, size, &used, &greet);
 }
 
-static void greeted(uint32_t next, uint8_t from, bool session)
+static void greeted(uint32_t next, uint8_t from, bool session, uint8_t pass)
 {
     want(greet.next == next && greet.player == from && greet.same_session == session, 1, "greet");
+    want(greet.pass[0] == pass && greet.pass[15] == (from == 1 ? 9 : 0), 1, "pass");
 }
 
 /* what may be chosen, and what is told before and behind it */
@@ -230,22 +231,22 @@ static void storing(lethwyrn *peer, uint8_t frame[LETHWYRN_FRAME_ROOM])
 /* what comes over a link */
 static void links(lethwyrn *peer, lethwyrn *other)
 {
-    static const uint8_t wanted[7] = { 4, 0, 4, 0, 0, 0, 3 }, bad[2] = { 4, 9 };
+    static const uint8_t wanted[7] = { 4, 0, 4, 0, 0, 0, 3 }, bad[2] = { 4, 9 }, pass[16] = { 8, 0, 0, 0, 0, 0, 0, 0, 0, 0, 0, 0, 0, 0, 0, 9 };
     uint8_t hello[LETHWYRN_FRAME_ROOM], far[40] = { 2, 0, 37, 1, 0, 0, 0, 5 }, foreign[40] = { 2, 0, 37, 0, 0, 0, 0, 0 };
     want(hear_of(peer, 2, wanted, 7), LETHWYRN_BAD_PLAYER, "hear of nobody");
     want((int32_t)used, 0, "bytes used");
     want(hear_of(peer, 1, wanted, 3), LETHWYRN_MORE, "a part");
     want((int32_t)used, 3, "bytes used");
-    greeted(71, 72, false);
+    greeted(71, 72, false, 73);
     want(hear_of(peer, 1, wanted + 3, 4), LETHWYRN_WANT, "a want");
-    greeted(3, 72, false);
-    want(lethwyrn_greet(other, 0, zero, hello, &len), LETHWYRN_OK, "greet");
+    greeted(3, 72, false, 73);
+    want(lethwyrn_greet(other, 0, pass, hello, &len), LETHWYRN_OK, "greet");
     want((int32_t)len, 56, "a hello's bytes");
     want(hear_of(peer, 1, hello, len), LETHWYRN_HELLO, "a hello");
-    greeted(0, 1, true);
+    greeted(0, 1, true, 8);
     hello[3] ^= 1;
     want(hear_of(peer, 1, hello, len), LETHWYRN_HELLO, "a hello of another session");
-    greeted(0, 1, false);
+    greeted(0, 1, false, 8);
     want(lethwyrn_greet(peer, 2, zero, hello, &len), LETHWYRN_BAD_PLAYER, "greet");
     want((int32_t)len, 0, "bytes");
     want(hear_of(peer, 1, far, 40), LETHWYRN_FAR, "past the window");

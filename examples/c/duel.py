@@ -34,7 +34,7 @@ class Hits(ctypes.Structure):
 
 
 class Greeting(ctypes.Structure):
-    _fields_ = [("next", c_uint32), ("player", c_uint8), ("same_session", c_bool)]
+    _fields_ = [("next", c_uint32), ("player", c_uint8), ("same_session", c_bool), ("pass_shown", c_uint8 * 16)]
 
 
 def declare(library):

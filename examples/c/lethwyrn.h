@@ -63,7 +63,7 @@ enum lethwyrn_code {
     LETHWYRN_WHOLE_LOG = 18,     /* evidence: an illegal move, which two frames alone don't show: the log does */
     /* hear */
     LETHWYRN_MORE = 30,          /* all bytes are used, and they end no frame */
-    LETHWYRN_HELLO = 31,         /* a hello came: greet says whose, whether it names this session, and the place wanted next */
+    LETHWYRN_HELLO = 31,         /* a hello came: greet says whose, whether it names this session, its pass, and the place wanted next */
     LETHWYRN_WANT = 32,          /* a want came: greet.next is the place wanted */
     LETHWYRN_BAD_BYTE = 33,      /* the next byte begins no frame: close the link */
     LETHWYRN_TAKEN = 40,         /* the player's next frame: it is in the log */
@@ -93,8 +93,8 @@ typedef struct { uint32_t turn, kind, first, second; uint8_t player; } lethwyrn_
 typedef struct { uint16_t x, y, strike_x, strike_y; bool strikes; } lethwyrn_move;
 /* how many own turns are settled, and the hits given and taken in them: what comes later changes nothing of it */
 typedef struct { uint32_t settled, given, taken; } lethwyrn_hits;
-/* a hello or a want */
-typedef struct { uint32_t next; uint8_t player; bool same_session; } lethwyrn_greeting;
+/* a hello or a want: the place wanted next; and of a hello whose it is, whether it names this session, and the pass that it shows */
+typedef struct { uint32_t next; uint8_t player; bool same_session; uint8_t pass[16]; } lethwyrn_greeting;
 
 /* Makes a peer for this player of the session with this text. OK, NO_MEMORY, BAD_SESSION, BAD_PLAYER, IN_USE. */
 int32_t lethwyrn_make(lethwyrn *h, const uint8_t *text, size_t text_len, uint8_t player, lethwyrn_refusal *why);

@@ -1,11 +1,10 @@
 -- Convicting: the two frames at a finding's entries show it.
-use Rattle.std.proofs.Common.{◌≡◌, ℕ, zero, suc, ◌+◌, ◌⊎◌, inl, inr, List, [], ◌∷◌, ◌++◌, length, refl, sym, ap, ◌∙◌, subst, arith}
+use Rattle.std.proofs.Common.{◌≡◌, ℕ, zero, suc, ◌⊎◌, inl, inr, List, [], ◌∷◌, ◌++◌, length, refl, sym, ap, ◌∙◌, subst, arith}
 use Rattle.std.specs.Prelude.{Option, Some, None, slice_get}
 use Rattle.definitions.specs.declared.frames.TurnFrame.{TurnFrame}
 use Rattle.definitions.specs.declared.logs.Entry.{Entry}
 use Rattle.definitions.specs.declared.logs.Entry.TheVariants.{Chose, Made, Got}
 use Rattle.definitions.specs.declared.findings.Finding.{Finding}
-use Rattle.definitions.specs.declared.findings.Spot.{Spot}
 use Rattle.definitions.specs.declared.findings.Kind.{Kind}
 use Rattle.definitions.specs.declared.findings.Kind.TheVariants.{TwoCommits, BadOpening, Collision, Illegal}
 use Rattle.definitions.specs.Lists.{item_or}
@@ -13,16 +12,14 @@ use Rattle.definitions.specs.Exhibits.{Shows}
 use Rattle.definitions.specs.Findings.{findings}
 use Rattle.definition_laws.proofs.Members.{slice_get_Has}
 use Rattle.definition_laws.proofs.WellFormed.{honest_well_formed}
-use Rattle.definition_laws.specs.First.{finding_of_log}
 use Rattle.grid_world.proofs.Reveals.{ahead_least}
 use Rattle.evidence.specs.Laws.{frame_count}
 use Rattle.evidence.specs.Showing as E
 use Rattle.evidence.specs.Text.{exhibit_text}
 use Rattle.evidence.proofs.Counted.{shown_counted}
 use Rattle.evidence.proofs.Showing.{pairs_shown}
-use Rattle.lethwyrn_c.specs.Convicting.{EvidenceConvicts, IsConvicting}
-use Rattle.lethwyrn_c.specs.Showing.{evidence_text, exhibit_of, frame_at, got_in, text_if, text_of_kind, text_of_two}
-use Rattle.lethwyrn_c.specs.Standings.{Standing}
+use Rattle.lethwyrn_c.specs.Convicting.{EvidenceConvicts}
+use Rattle.lethwyrn_c.specs.Showing.{exhibit_of, frame_at, got_in, text_if, text_of_kind, text_of_two}
 
 -- the frame of the entry, or none, both ways
 record IsGotThere (h : List Entry) (n e : ℕ) : Type 0 where

@@ -1,5 +1,5 @@
 -- Convicting: what the evidence of a peer's finding shows.
-use Rattle.std.specs.Prelude.{◌≡◌, ℕ, List, [], ◌∷◌, Option, Some}
+use Rattle.std.specs.Prelude.{◌≡◌, [], ◌∷◌, Some}
 use Rattle.definitions.specs.declared.frames.TurnFrame.{TurnFrame}
 use Rattle.definitions.specs.declared.findings.Kind.TheVariants.{Illegal}
 use Rattle.definitions.specs.declared.findings.Finding.{Finding}

@@ -34,8 +34,8 @@ code_of_heard from p (Whole (Turn frame)) = code_of_answer (got_answer p.game p.
 abbrev pub greeting : Game → FedWhat → GreetView → GreetView
 greeting game More old = old
 greeting game (Bad place) old = old
-greeting game (Whole (Hello id player pass next)) old = record { next = next; player = player; same_session = bytes_eq id game.id }
-greeting game (Whole (Want place)) old = record { next = place; player = old.player; same_session = old.same_session }
+greeting game (Whole (Hello id player pass next)) old = record { next = next; player = player; same_session = bytes_eq id game.id; pass = pass }
+greeting game (Whole (Want place)) old = record { next = place; player = old.player; same_session = old.same_session; pass = old.pass }
 greeting game (Whole (Turn frame)) old = old
 
 -- the reader of a player's link, and its step on these bytes

@@ -54,7 +54,7 @@ fn tell_greeting(session: &Session, what: &FedWhat, greet: &mut GreetView)
             Frame::Hello {
                 id,
                 player,
-                pass: _,
+                pass,
                 next,
             },
         ) => {
@@ -62,6 +62,7 @@ fn tell_greeting(session: &Session, what: &FedWhat, greet: &mut GreetView)
                 next: *next,
                 player: *player,
                 same_session: *id == *session.id(),
+                pass: *pass,
             };
         }
         FedWhat::Whole(Frame::Turn(_)) | FedWhat::More | FedWhat::Bad(_) => {}

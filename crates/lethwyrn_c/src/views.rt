@@ -65,11 +65,12 @@ pub struct ScoreView {
     pub taken: u32,
 }
 
-/// What a hello or a want told: the place that the other wants next, whose hello it is, and whether it names this session.
+/// What a hello or a want told: the place that the other wants next, whose hello it is, whether it names this session, and the pass that it shows.
 #[repr(C)]
 #[derive(Clone, Copy)]
 pub struct GreetView {
     pub next: u32,
     pub player: u8,
     pub same_session: bool,
+    pub pass: [u8; 16],
 }
