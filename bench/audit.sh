@@ -1,8 +1,8 @@
 #!/bin/sh
 # How fast the program audits logs, and how much memory it takes: sixteen honest logs of a long match; and hostile ones, of different
-# commitments to one turn, of one commitment again and again, and of different reveals that open nothing, each in two sizes, so that
-# one sees that the time goes by the size. README.md says how it is measured. Run it by hand, where ./build has built the program, on a
-# machine that does nothing else: bench/audit.sh
+# commitments to one turn, of such that differ in their last bytes alone, of one commitment again and again, and of different reveals that
+# open nothing, most in two sizes, so that one sees that the time goes by the size. README.md says how it is measured. Run it by hand, where
+# ./build has built the program, on a machine that does nothing else: bench/audit.sh
 cd "$(dirname "$0")" || exit 1
 program=$PWD/../crates/lethwyrn/out/lethwyrn
 if [ ! -x "$program" ]; then
@@ -36,6 +36,8 @@ END
 measure honest 16 0
 measure commitments 4 200000
 measure commitments 4 400000
+measure alike 4 200000
+measure alike 4 400000
 measure repeats 4 400000
 measure reveals 4 200000
 measure reveals 4 400000

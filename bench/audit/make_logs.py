@@ -40,6 +40,10 @@ def frames(kind, identity, players, turns, owner, log, entries):
         # different commitments of one turn, other ones in each log
         for i in range(entries):
             yield 15, commit(15, 0, sha(b"%d %d" % (log, i)))
+    elif kind == "alike":
+        # commitments of one turn that differ in their last bytes alone, each below the one before: the longest to compare
+        for i in range(entries):
+            yield 15, commit(15, 0, bytes(24) + (2**63 - log * entries - i).to_bytes(8, "big"))
     elif kind == "repeats":
         # one commitment again and again
         for i in range(entries):

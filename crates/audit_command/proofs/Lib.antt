@@ -1,5 +1,4 @@
 mod Players
 mod Reported
 mod Printed
-mod Padded
 pub mod Told

@@ -1,4 +1,5 @@
--- Laws of the command: where two logs resolve one turn of one player by different moves, the text shows it to whoever has the session.
+-- Laws of the command: where two logs resolve one turn of one player by different moves, by frames that they got, the text shows it to
+-- whoever has the session.
 use Rattle.std.specs.Prelude.{◌≡◌, ℕ, ◌<◌, List, [], ◌∷◌, ◌++◌, Option, Some, Ok, slice_get}
 use Rattle.sha2.specs.Sha256.{sha256}
 use Rattle.definitions.specs.declared.world.Move.{Move}
@@ -79,7 +80,8 @@ pub record TellsTwoFaces (game : Game) (owners : List (Option ℕ)) (logs : List
   -- and to which whoever judges it in this session says yes
   pub shows : Shows game exhibit.player exhibit.turn exhibit.kind exhibit.frames
 
--- where two logs of the session resolve a player's turn by different moves, whoever wrote them, the text shows two faces of the player
+-- where two logs of the session, whoever wrote them, resolve a player's turn by different moves, by frames that they got, the text shows two
+-- faces of the player
 abbrev pub DifferentMovesAreTold : Type 0
 DifferentMovesAreTold = (game : Game) (owners : List (Option ℕ)) (logs : List (List Entry)) (i j q t : ℕ) (g h : List Entry) (m k : Move) →
     IsSession game → EachIs (IsLogOf game) logs → AllFitText logs → q < players_of game →
@@ -87,7 +89,7 @@ DifferentMovesAreTold = (game : Game) (owners : List (Option ℕ)) (logs : List 
     (m ≡ k → ⊥) → TellsTwoFaces game owners logs q t
 
 -- What is behind the text of an audit of these logs: it shows two faces of each player of whom two of the logs resolve one turn by
--- different moves.
+-- different moves, by frames that they got.
 pub record TellsAudit (game : Game) (owners : List (Option ℕ)) (logs : List (List Entry)) (text : List ℕ) : Type 0 where
   pub text_is : text ≡ audit_text game owners logs
   pub faces : (i j q t : ℕ) (g h : List Entry) (m k : Move) → q < players_of game → slice_get logs i ≡ Some g → slice_get logs j ≡ Some h →

@@ -1,6 +1,6 @@
 //! The text of an audit, written piece by piece.
 
-ghost use Rattle.std.specs.Prelude.{◌≡◌, ◌++◌, List, IfOk, is_some};
+ghost use Rattle.std.specs.Prelude.{◌≡◌, ◌++◌, ℕ, List, Option, IfOk, is_some};
 ghost use Rattle.definitions.specs.declared.logs.Entry.{Entry};
 ghost use Rattle.definitions.specs.Findings as D;
 ghost use Rattle.definitions.specs.Lists.{EachIs};
@@ -8,7 +8,7 @@ ghost use Rattle.definitions.specs.World.{Game, players_of};
 ghost use Rattle.definition_laws.specs.Members.{Has};
 ghost use Rattle.evidence.specs.Text.{exhibit_text};
 ghost use Rattle.line_io.specs.Texts.{Puts};
-ghost use Rattle.auditor.specs.Audits.{IsAuditOf};
+ghost use Rattle.auditor.specs.Audits.{StandsFor};
 ghost use Rattle.auditor.specs.Reports.{agreed_by, found_in, world_by};
 ghost use Rattle.audit_command.specs.Lines as L;
 ghost use Rattle.audit_command.specs.Audit as A;
@@ -36,7 +36,7 @@ fn put_both<O: Sink>(first: &[u8], second: &[u8], out: &mut O) -> Written
 
 /// The text of the finding's exhibit.
 fn evidence_text(alloc: Global, auditor: &Auditor, finding: &Finding) -> Result<Vec<u8>, AllocError>
-    ensures { IfOk result (λ text. (game : Game) (logs : List (List Entry)) → IsAuditOf game logs auditor.now → Has (D.findings game logs) finding.now → text.items ≡ exhibit_text (A.exhibit_of game logs finding.now)) }
+    ensures { IfOk result (λ text. (game : Game) (owners : List (Option ℕ)) (logs : List (List Entry)) → StandsFor game owners logs auditor.now → Has (D.findings game logs) finding.now → text.items ≡ exhibit_text (A.exhibit_of game logs finding.now)) }
 {
     let exhibit = auditor.exhibit(alloc, finding)?;
     print_exhibit(alloc, &exhibit)
@@ -49,7 +49,7 @@ fn put_finding<O: Sink>(
     finding: &Finding,
     out: &mut O,
 ) -> Result<Written, AllocError>
-    ensures { (game : Game) (logs : List (List Entry)) → IsAuditOf game logs auditor.now → Has (D.findings game logs) finding.now → Prints (O.state out.old) (O.state out.new) (A.found_text game logs finding.now) result }
+    ensures { (game : Game) (owners : List (Option ℕ)) (logs : List (List Entry)) → StandsFor game owners logs auditor.now → Has (D.findings game logs) finding.now → Prints (O.state out.old) (O.state out.new) (A.found_text game logs finding.now) result }
 {
     let evidence = evidence_text(alloc, auditor, finding)?;
     Ok(put_both(finding_line(finding).as_slice(), &evidence, out))
@@ -62,7 +62,7 @@ fn put_findings<O: Sink>(
     found: &[Finding],
     out: &mut O,
 ) -> Result<Written, AllocError>
-    ensures { (game : Game) (logs : List (List Entry)) → IsAuditOf game logs auditor.now → EachIs (Has (D.findings game logs)) found.now → Prints (O.state out.old) (O.state out.new) (A.all_found_text game logs found.now) result }
+    ensures { (game : Game) (owners : List (Option ℕ)) (logs : List (List Entry)) → StandsFor game owners logs auditor.now → EachIs (Has (D.findings game logs)) found.now → Prints (O.state out.old) (O.state out.new) (A.all_found_text game logs found.now) result }
 {
     'findings: for finding in found {
         match put_finding(alloc, auditor, finding, out)? {
@@ -149,7 +149,7 @@ pub(crate) fn put_report<O: Sink>(
     report: &Report,
     out: &mut O,
 ) -> Result<Written, AllocError>
-    ensures { (logs : List (List Entry)) → IsAuditOf session.now logs auditor.now → EachIs (Has (D.findings session.now logs)) (found_in report.now) → Prints (O.state out.old) (O.state out.new) (A.report_text session.now logs report.now) result }
+    ensures { (owners : List (Option ℕ)) (logs : List (List Entry)) → StandsFor session.now owners logs auditor.now → EachIs (Has (D.findings session.now logs)) (found_in report.now) → Prints (O.state out.old) (O.state out.new) (A.report_text session.now logs report.now) result }
 {
     match put_findings(alloc, auditor, report.findings(), out)? {
         Written::All => Ok(put_rest(session, report, out)),

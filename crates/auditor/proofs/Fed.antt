@@ -1,6 +1,6 @@
 -- Fed: entries that a feed gives, and logs with several entries more.
 use Rattle.std.proofs.Common.{List, Some, [], ap, append_assoc, drop, length, refl, subst, sym, take, true, ℕ, ◌++◌, ◌-◌, ◌∙◌, ◌∷◌, ◌≡◌, Option}
-use Rattle.std.specs.Prelude.{◌&&◌, ◌==◌, nat_lt, not}
+use Rattle.std.specs.Prelude.{◌&&◌, ◌==◌, Err, Ok, OnErr, Result, nat_lt, not}
 use Rattle.std.proofs.lemmas.Bool.{and_parts}
 use Rattle.std.proofs.lemmas.List.{length-drop}
 use Rattle.definitions.specs.declared.logs.Entry.{Entry}
@@ -17,6 +17,11 @@ use Rattle.session_log.proofs.FedWell.{fed_well}
 use Rattle.auditor.specs.Audits.{IsAuditOf, is_of_its_sender}
 use Rattle.auditor.specs.Taking.{Takes, TakesNext, given_behind, with_entries}
 use Rattle.auditor.specs.declared.auditor.Auditor.{Auditor}
+
+-- what holds holds on an error
+pub on_err_always : {T E P : Type 0} (r : Result T E) → P → OnErr r P
+on_err_always (Ok x) p = tt
+on_err_always (Err e) p = p
 
 -- an entry that an owner may have is of its sender
 well_sent : (game : Game) (me : ℕ) (e : Entry) → is_well_formed game me e ≡ true → is_of_its_sender e ≡ true

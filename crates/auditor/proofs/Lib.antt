@@ -11,3 +11,5 @@ pub mod Owned
 pub mod Ranged
 pub mod Crossed
 pub mod Worlds
+pub mod Padded
+pub mod Joining

@@ -13,6 +13,7 @@ use Rattle.definitions.specs.Findings.{got_known}
 use Rattle.playout.specs.declared.standing.Standing.{Standing}
 use Rattle.playout.specs.Lockstep.{lockstep}
 use Rattle.auditor.specs.declared.world.WorldLine.{WorldLine}
+use Rattle.auditor.specs.Accords.{joined}
 
 -- the move by which the owner's log resolves the player's turn; a log of which no owner is known has no own entries
 abbrev pub resolved_by : Game → Option ℕ → List Entry → ℕ → ℕ → Option Move
@@ -68,3 +69,7 @@ world game owners logs q = world_by game (all_agreed_moves game owners logs) q
 -- each log of which an owner is known is one of the session that the owner may have written, honest or not
 abbrev pub AreOwned : Game → List (Option ℕ) → List (List Entry) → Type 0
 AreOwned game owners logs = (i o : ℕ) (h : List Entry) → slice_get logs i ≡ Some h → item_or owners i None ≡ Some o → AreWellFormed game o h
+
+-- these moves are the player's in the logs of others, and those in its own logs
+abbrev pub ArePlays : Game → List (Option ℕ) → List (List Entry) → ℕ → List Move → List Move → Type 0
+ArePlays game owners logs q got made = (t : ℕ) → t < game.turns → agreed_move game owners logs q t ≡ joined (slice_get got t) (slice_get made t)

@@ -220,8 +220,8 @@ impl Auditor {
         Ok(())
     }
 
-    /// The moves of the player's agreed turns, in order.
-    pub(crate) fn agreed_moves(
+    /// The moves of the player's agreed turns, in order, where the logs may show different ones.
+    fn agreed_each(
         &self,
         alloc: Global,
         walker: &mut Walker,
@@ -240,5 +240,22 @@ impl Auditor {
             self.put_agreed(walker, player, turn, &mut readings, &mut moves)?;
         }
         Ok(moves)
+    }
+
+    /// The moves of the player's agreed turns, in order.
+    pub(crate) fn agreed_moves(
+        &self,
+        alloc: Global,
+        walker: &mut Walker,
+        player: PlayerId,
+    ) -> Result<Vec<Move>, AllocError>
+        requires { player < players_of self.now.session }
+        ensures few { IfOk result (λ moves. length moves.items ≤ self.now.session.turns) }
+        ensures moves { IfOk result (λ moves. (logs : List (List Entry)) → R.IsReadable self.now logs → moves.items ≡ A.agreed_moves self.now.session self.now.owners logs player) }
+    {
+        match self.common_agreed(alloc, walker, player)? {
+            Some(moves) => Ok(moves),
+            None => self.agreed_each(alloc, walker, player),
+        }
     }
 }

@@ -12,7 +12,6 @@ use definitions::limits::LONGEST_LOG;
 use definitions::{Entry, PlayerId, Spot};
 use frame_index::{FrameIndex, MOST_LOGS, own_entries_change_nothing};
 use grid_world::Session;
-use reveal_check::frame_digest;
 use std::alloc::{AllocError, Global};
 
 /// How many logs an auditor has room for.
@@ -48,8 +47,8 @@ fn take_entry(
 {
     own_entries_change_nothing();
     match entry {
-        Entry::Got(_, frame) => index.take(*frame, frame_digest(session, frame), spot),
-        Entry::Made(frame) => made.take(*frame, frame_digest(session, frame), spot),
+        Entry::Got(_, frame) => index.take(session, frame, spot),
+        Entry::Made(frame) => made.take(session, frame, spot),
         Entry::Chose { .. } => Ok(()),
     }
 }

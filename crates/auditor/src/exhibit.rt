@@ -1,6 +1,6 @@
 //! The exhibit of a finding.
 
-ghost use Rattle.std.specs.Prelude.{◌≡◌, ◌++◌, ◌<◌, List, IfOk, OnOk};
+ghost use Rattle.std.specs.Prelude.{◌≡◌, ◌++◌, ◌<◌, ℕ, List, Option, IfOk, OnOk};
 ghost use Rattle.definitions.specs.declared.logs.Entry.{Entry};
 ghost use Rattle.definitions.specs.Exhibits.{Shows};
 ghost use Rattle.definitions.specs.Findings as D;
@@ -9,7 +9,7 @@ ghost use Rattle.definitions.specs.World.{Game, players_of};
 ghost use Rattle.definition_laws.specs.Members.{Has};
 ghost use Rattle.frame_index.specs.Frames.{IsIndex};
 ghost use Rattle.evidence.specs.Laws.{IsLogOf};
-ghost use Rattle.auditor.specs.Audits.{IsAuditOf};
+ghost use Rattle.auditor.specs.Audits.{IsAuditOf, StandsFor};
 ghost use Rattle.auditor.specs.Exhibits as X;
 
 use crate::auditor::Auditor;
@@ -81,15 +81,9 @@ fn put_before(
 }
 
 impl Auditor {
-    /// The frames by which a finding of the logs is shown that the auditor took so far: those at its two spots, and of an illegal
-    /// move before them the commitment and the reveal of each turn before, as the log of the first spot resolved it. Whoever has
-    /// the session can judge them without the logs.
-    ///
-    /// The exhibit takes memory from `alloc`, and an error comes where there is none. Of what is no finding of these logs it may
-    /// have any frames.
-    pub fn exhibit(&self, alloc: Global, finding: &Finding) -> Result<Exhibit, AllocError>
-        ensures frames { IfOk result (λ x. (game : Game) (logs : List (List Entry)) → IsAuditOf game logs self.now → Has (D.findings game logs) finding.now → X.IsExhibitOf game logs finding.now x) }
-        ensures shows { IfOk result (λ x. (game : Game) (logs : List (List Entry)) → IsAuditOf game logs self.now → Has (D.findings game logs) finding.now → EachIs (IsLogOf game) logs → Shows game x.player x.turn x.kind x.frames) }
+    /// The frames by which a finding of all logs is shown for which the auditor has room, the empty ones too.
+    fn exhibit_all(&self, alloc: Global, finding: &Finding) -> Result<Exhibit, AllocError>
+        ensures { IfOk result (λ x. (game : Game) (logs : List (List Entry)) → IsAuditOf game logs self.now → Has (D.findings game logs) finding.now → X.IsExhibitOf game logs finding.now x) }
     {
         let mut seen = Vec::new(alloc);
         let mut frames = Vec::new(alloc);
@@ -102,12 +96,25 @@ impl Auditor {
             &mut frames,
         )?;
         put_pair(&self.index, finding, &mut seen, &mut frames)?;
-        findings_are_shown();
         Ok(Exhibit {
             player: finding.player,
             turn: finding.turn,
             kind: finding.kind,
             frames: FrameList::new(frames),
         })
+    }
+
+    /// The frames by which a finding of the logs is shown that the auditor took so far: those at its two spots, and of an illegal
+    /// move before them the commitment and the reveal of each turn before, as the log of the first spot resolved it. Whoever has
+    /// the session can judge them without the logs.
+    ///
+    /// The exhibit takes memory from `alloc`, and an error comes where there is none. Of what is no finding of these logs it may
+    /// have any frames.
+    pub fn exhibit(&self, alloc: Global, finding: &Finding) -> Result<Exhibit, AllocError>
+        ensures frames { IfOk result (λ x. (game : Game) (owners : List (Option ℕ)) (logs : List (List Entry)) → StandsFor game owners logs self.now → Has (D.findings game logs) finding.now → X.IsExhibitOf game logs finding.now x) }
+        ensures shows { IfOk result (λ x. (game : Game) (owners : List (Option ℕ)) (logs : List (List Entry)) → StandsFor game owners logs self.now → Has (D.findings game logs) finding.now → EachIs (IsLogOf game) logs → Shows game x.player x.turn x.kind x.frames) }
+    {
+        findings_are_shown();
+        self.exhibit_all(alloc, finding)
     }
 }

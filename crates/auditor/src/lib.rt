@@ -12,6 +12,7 @@
 
 mod agreed;
 mod auditor;
+mod common;
 mod exhibit;
 mod frames;
 mod reading;

@@ -1,10 +1,10 @@
 //! What the logs that an auditor took show together.
 
-ghost use Rattle.std.specs.Prelude.{◌≡◌, List, IfOk, length, map};
+ghost use Rattle.std.specs.Prelude.{◌≡◌, ℕ, List, Option, IfOk, length, map};
 ghost use Rattle.definitions.specs.declared.logs.Entry.{Entry};
 ghost use Rattle.definitions.specs.World.{Game};
 ghost use Rattle.auditor.specs.Agreed as A;
-ghost use Rattle.auditor.specs.Audits.{IsAuditOf};
+ghost use Rattle.auditor.specs.Audits.{IsAuditOf, StandsFor};
 ghost use Rattle.auditor.specs.Reading.{IsReadable};
 ghost use Rattle.auditor.specs.Reports.{IsReportOf, agreed_by, found_in, world_by};
 
@@ -75,8 +75,8 @@ impl Auditor {
         Ok(Agreed { moves, counts })
     }
 
-    /// What the logs show that the auditor took so far. It takes memory from `alloc`, and an error comes where there is none.
-    pub fn report(&self, alloc: Global) -> Result<Report, AllocError>
+    /// What all logs show for which the auditor has room, the empty ones too.
+    fn report_all(&self, alloc: Global) -> Result<Report, AllocError>
         ensures { IfOk result (λ r. (game : Game) (logs : List (List Entry)) → IsAuditOf game logs self.now → IsReportOf game self.now.owners logs r) }
     {
         let mut walker = Walker::new(alloc, self.session.grid())?;
@@ -88,5 +88,12 @@ impl Auditor {
             agreed: agreed.counts,
             lines,
         })
+    }
+
+    /// What the logs show that the auditor took so far. It takes memory from `alloc`, and an error comes where there is none.
+    pub fn report(&self, alloc: Global) -> Result<Report, AllocError>
+        ensures { IfOk result (λ r. (game : Game) (owners : List (Option ℕ)) (logs : List (List Entry)) → StandsFor game owners logs self.now → IsReportOf game owners logs r) }
+    {
+        self.report_all(alloc)
     }
 }

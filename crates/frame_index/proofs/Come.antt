@@ -62,7 +62,7 @@ module _ (game : Game) (q : ℕ) (h : List Entry) (f : Front) (s : Stream) (is :
   resolves = let r = resolved in let m = ap length begins.moves_are in let n = length_more front.moves begins.moves_after in omega arith
 
   -- and no more, where the stream ended
-  ended_count : Ends game q (got_of q h) s → length (got_known game q h).moves ≡ s.resolved
+  pub ended_count : Ends game q (got_of q h) s → length (got_known game q h).moves ≡ s.resolved
   ended_count ends = ap (λ (k : Known). length k.moves) (ended ends) ∙ sym resolved
 
   -- a log whose stream has not come past a place resolves none of its turn

@@ -3,7 +3,6 @@ use Rattle.std.proofs.Common.{Bool, None, Some, ap, refl, sym, ◌∙◌, ◌≡
 use Rattle.std.specs.Prelude.{◌&&◌, ◌==◌, cond}
 use Rattle.std.specs.Option.{option_eq}
 use Rattle.std.proofs.Math.Bool.{and_assoc}
-use Rattle.indexmap.specs.IndexMap.{IndexMap, get, get_by}
 use Rattle.definitions.specs.declared.world.Cell.{Cell}
 use Rattle.definitions.specs.declared.frames.TurnFrame.{TurnFrame}
 use Rattle.definitions.specs.declared.frames.TurnFrame.TheVariants.{Commit, Reveal}
@@ -26,12 +25,3 @@ frame_test (Reveal p t m n) (Reveal q u k o) =
     ∙ ap (λ (b : Bool). (p == q) && b) (sym (and_assoc (t == u) (cell_eq m.to k.to && strike_eq m.strike k.strike) (nonce_eq n o)))
     ∙ sym (and_assoc (p == q) ((t == u) && (cell_eq m.to k.to && strike_eq m.strike k.strike)) (nonce_eq n o))
     ∙ ap (λ (b : Bool). b && nonce_eq n o) (sym (and_assoc (p == q) (t == u) (cell_eq m.to k.to && strike_eq m.strike k.strike)))
-
--- so a look-up by the one is one by the other
-pub by_frame : {V S : Type 0} (m : IndexMap TurnFrame V S) (f : TurnFrame) → get_by (eq-value.it f) m ≡ get_by (frame_eq f) m
-by_frame m f = ap (λ (test : TurnFrame → Bool). get_by test m) (λ i g. frame_test f g i)
-
--- what a change at one key says, by the definitions' test
-pub changed_by : {V S : Type 0} (m n : IndexMap TurnFrame V S) (f : TurnFrame) (w : Option V) → ((g : TurnFrame) → get eq-value.it n g ≡ cond (eq-value.it f g) w (get eq-value.it m g)) →
-    (g : TurnFrame) → get_by (frame_eq g) n ≡ cond (frame_eq f g) w (get_by (frame_eq g) m)
-changed_by m n f w h g = sym (by_frame n g) ∙ h g ∙ (λ i. cond (frame_test f g i) w (by_frame m g i))

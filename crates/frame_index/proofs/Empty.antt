@@ -1,6 +1,5 @@
 -- Empty: nothing kept stands for logs without entries.
 use Rattle.std.proofs.Common.{List, None, Some, [], ap, sym, ℕ, ◌∙◌, ◌≡◌, Option, slice_get}
-use Rattle.definitions.specs.declared.openings.Digest.{Digest}
 use Rattle.definitions.specs.declared.logs.Entry.{Entry}
 use Rattle.definitions.specs.declared.logs.Entry.TheVariants.{Got}
 use Rattle.definitions.specs.World.{Game}
@@ -15,6 +14,3 @@ keeps_none game q t logs bare = record { within = λ k m. absurd m; digests = λ
     nothing s w =
         let at : None ≡ Some (Got q s.frame) = ap (λ (h : List Entry). slice_get h s.spot.entry) (sym (bare s.spot.log w.log w.there)) ∙ w.got in
         absurd (cc)
-
-pub no_digest : (o : Option Digest) (d : Digest) → o ≡ None → o ≡ Some d → ⊥
-no_digest o d e h = let at : None ≡ Some d = sym e ∙ h in absurd (cc)

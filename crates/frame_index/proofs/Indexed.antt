@@ -1,181 +1,119 @@
--- Indexed: the tables of frames stand for the logs with one entry more.
-use Rattle.std.proofs.Common.{Bool, List, Some, [], ap, false, inl, inr, refl, subst, sym, true, ℕ, ◌∙◌, ◌∷◌, ◌≡◌, ◌⊎◌, Option, slice_get, length}
-use Rattle.std.specs.Prelude.{◌==◌, flat_map, map}
-use Rattle.std.proofs.lemmas.Bool.{eqb-true, eqb-false}
+-- Indexed: an index in which a frame was taken stands for the logs with one entry more.
+use Rattle.std.proofs.Common.{Bool, List, Some, [], ap, cond, false, inl, inr, refl, subst, sym, true, ℕ, ◌∙◌, ◌≡◌, ◌⊎◌, Option, slice_get, length}
+use Rattle.std.specs.Prelude.{◌&&◌, ◌==◌}
+use Rattle.std.specs.Option.{option_map_or}
+use Rattle.std.proofs.lemmas.Bool.{and_from, eq-eqb, eqb-true, eqb-false}
 use Rattle.definitions.specs.declared.findings.Spot.{Spot}
-use Rattle.definitions.specs.declared.openings.Digest.{Digest}
 use Rattle.definitions.specs.declared.frames.TurnFrame.{TurnFrame}
 use Rattle.definitions.specs.declared.logs.Entry.{Entry}
 use Rattle.definitions.specs.declared.logs.Entry.TheVariants.{Got}
 use Rattle.definitions.specs.World.{Game}
-use Rattle.definitions.specs.Held.{digest_of}
 use Rattle.definitions.specs.Logs.{player_of, turn_of}
 use Rattle.definition_laws.specs.Members.{Has}
-use Rattle.definition_laws.proofs.Members.{Has_flat_map, flat_map_Has, map_Has}
 use Rattle.frame_index.specs.declared.seen.Seen.{Seen}
+use Rattle.frame_index.specs.declared.kept.KeptFrame.{KeptFrame}
+use Rattle.frame_index.specs.declared.frames.FrameIndex.{FrameIndex}
 use Rattle.frame_index.specs.Keeps.{Keeps}
+use Rattle.frame_index.specs.Kept.{AreAlike, AreOf, Grows, seen_in, sight}
 use Rattle.frame_index.specs.Appended.{with_entry}
-use Rattle.frame_index.specs.Frames.{digest_or}
+use Rattle.frame_index.specs.Frames.{IsIndex, IsRefused, IsTaken, kept_in, kept_of}
 use Rattle.frame_index.proofs.Grows.{keeps_grown, keeps_other}
 
-Has_map : {X Y : Type 0} (f : X → Y) (xs : List X) (x : X) → Has xs x → Has (map f xs) (f x)
-Has_map {X} {Y} f (y ∷ ys) x (inl e) = inl (ap f e)
-Has_map f (y ∷ ys) x (inr h) = inr (Has_map f ys x h)
-Has_map f [] x h = absurd h
+module _ (game : Game) (logs : List (List Entry)) (h : List Entry) (f : TurnFrame) (s : Spot) (old new : FrameIndex) (there : slice_get logs s.log ≡ Some h) (last : s.entry ≡ length h)
+    (taken : IsTaken game f s old new) (w : IsIndex game logs old) where
+  abbrev After : List (List Entry)
+  After = with_entry logs s.log (Got (player_of f) f)
 
--- what is kept of a frame at a spot, by the digests
-abbrev pub seen_by : (TurnFrame → Option Digest) → TurnFrame → Spot → Seen
-seen_by D f s = record { spot = s; frame = f; digest = digest_or (D f) }
+  here : Keeps game (player_of f) (turn_of f) After (kept_in new (player_of f) (turn_of f))
+  here = keeps_grown game (player_of f) logs h (kept_in old (player_of f) (turn_of f)) (sight game f s) there last refl (kept_in new (player_of f) (turn_of f))
+      taken.own.stay (taken.own.come (player_of f) (turn_of f) (w.own (player_of f) (turn_of f))) (taken.own.one (player_of f) (turn_of f) (w.own (player_of f) (turn_of f)))
+      (w.stands (player_of f) (turn_of f))
 
--- what is kept of a player's turn, by the frames, their spots and their digests
-abbrev pub kept_by : (ℕ → ℕ → List TurnFrame) → (TurnFrame → List Spot) → (TurnFrame → Option Digest) → ℕ → ℕ → List Seen
-kept_by L S D q t = flat_map (λ f. map (seen_by D f) (S f)) (L q t)
+  apart : (q t : ℕ) → ((player_of f ≡ q) × (turn_of f ≡ t) → ⊥) → Keeps game q t After (kept_in new q t)
+  apart q t never = subst (λ (ks : List KeptFrame). Keeps game q t After (seen_in ks)) (sym (taken.others q t never))
+      (keeps_other q t logs s.log (Got (player_of f) f) h there game (kept_in old q t)
+      (λ g e turn. let player : player_of f ≡ q = cc in let frame : f ≡ g = cc in never (player, ap turn_of frame ∙ turn)) (w.stands q t))
 
-module _ (L : ℕ → ℕ → List TurnFrame) (S : TurnFrame → List Spot) (D : TurnFrame → Option Digest) (q t : ℕ) where
-  pub kept_has : (f : TurnFrame) (s : Spot) → Has (L q t) f → Has (S f) s → Has (kept_by L S D q t) (seen_by D f s)
-  kept_has f s m n = Has_flat_map (λ f. map (seen_by D f) (S f)) (L q t) f (seen_by D f s) m (Has_map (seen_by D f) (S f) s n)
+  stands : (q t : ℕ) → Keeps game q t After (kept_in new q t)
+  stands q t = go (player_of f == q) refl (turn_of f == t) refl
+    where
+      go : (b : Bool) → (player_of f == q) ≡ b → (c : Bool) → (turn_of f == t) ≡ c → Keeps game q t After (kept_in new q t)
+      go false x c y = apart q t (λ both. eqb-false _ _ x both.0)
+      go true x false y = apart q t (λ both. eqb-false _ _ y both.1)
+      go true x true y = subst (λ (u : ℕ). Keeps game q u After (kept_in new q u)) (eqb-true _ _ y)
+          (subst (λ (p : ℕ). Keeps game p (turn_of f) After (kept_in new p (turn_of f))) (eqb-true _ _ x) here)
 
-  pub has_kept : (k : Seen) → Has (kept_by L S D q t) k → (f : TurnFrame) × (s : Spot) × Has (L q t) f × Has (S f) s × (seen_by D f s ≡ k)
-  has_kept k m =
-      let a = flat_map_Has (λ f. map (seen_by D f) (S f)) (L q t) k m in
-      let b = map_Has (seen_by D a.0) (S a.0) k a.2 in
-      (a.0, b.0, a.1, b.1, b.2)
+  own : (q t : ℕ) → AreOf game q t (kept_of new q t)
+  own q t = go (player_of f == q) refl (turn_of f == t) refl
+    where
+      away : ((player_of f ≡ q) × (turn_of f ≡ t) → ⊥) → AreOf game q t (kept_of new q t)
+      away never = subst (AreOf game q t) (sym (taken.others q t never)) (w.own q t)
+
+      go : (b : Bool) → (player_of f == q) ≡ b → (c : Bool) → (turn_of f == t) ≡ c → AreOf game q t (kept_of new q t)
+      go false x c y = away (λ both. eqb-false _ _ x both.0)
+      go true x false y = away (λ both. eqb-false _ _ y both.1)
+      go true x true y = subst (λ (u : ℕ). AreOf game q u (kept_of new q u)) (eqb-true _ _ y)
+          (subst (λ (p : ℕ). AreOf game p (turn_of f) (kept_of new p (turn_of f))) (eqb-true _ _ x)
+          (taken.own.own (player_of f) (turn_of f) (w.own (player_of f) (turn_of f)) refl refl))
+
+  pub taken_stands : IsIndex game After new
+  taken_stands = record { stands = stands; own = own }
 
 -- with the same members, what is kept stands for the same logs
-keeps_members : (game : Game) (q t : ℕ) (logs : List (List Entry)) (kept more : List Seen) → ((k : Seen) → Has kept k → Has more k) → ((k : Seen) → Has more k → Has kept k) →
-    Keeps game q t logs kept → Keeps game q t logs more
-keeps_members game q t logs kept more to fro k = record {
-  within = λ x m. k.within x (fro x m);
-  digests = λ x m. k.digests x (fro x m);
-  firsts = λ u w. let r = k.firsts u w in (r.0, to r.0 r.1, r.2);
+pub refused_stands : (game : Game) (logs : List (List Entry)) (old new : FrameIndex) → IsRefused old new → IsIndex game logs old → IsIndex game logs new
+refused_stands game logs old new same w = record {
+  stands = λ q t. let k = w.stands q t in record {
+    within = λ x m. k.within x ((same q t).fro x m);
+    digests = λ x m. k.digests x ((same q t).fro x m);
+    firsts = λ u v. let r = k.firsts u v in (r.0, (same q t).to r.0 r.1, r.2);
+  };
+  own = λ q t. (same q t).own game q t (w.own q t);
 }
 
--- the tables after the frame f was taken at the spot s
-pub record IsStep (game : Game) (f : TurnFrame) (s : Spot) (L L' : ℕ → ℕ → List TurnFrame) (S S' : TurnFrame → List Spot) (D D' : TurnFrame → Option Digest) : Type 0 where
-  pub listed : (q t : ℕ) (g : TurnFrame) → Has (L' q t) g → Has (L q t) g ⊎ ((f ≡ g) × (player_of f ≡ q) × (turn_of f ≡ t) × ((x : Spot) → Has (S f) x → ⊥))
-  pub listed_still : (q t : ℕ) (g : TurnFrame) → Has (L q t) g → Has (L' q t) g
-  pub listed_now : Has (L' (player_of f) (turn_of f)) f
-  pub spots : (g : TurnFrame) (x : Spot) → Has (S' g) x → Has (S g) x ⊎ ((f ≡ g) × (s ≡ x))
-  pub spots_still : (g : TurnFrame) (x : Spot) → Has (S g) x → Has (S' g) x
-  pub spots_now : Has (S' f) s ⊎ ((x : Spot) × Has (S f) x × (x.log ≡ s.log))
-  pub digests : (g : TurnFrame) (x : Spot) → Has (S g) x → D' g ≡ D g
-  pub digest_now : digest_or (D' f) ≡ digest_of game f
-  pub known : (g : TurnFrame) (d : Digest) → D' g ≡ Some d → (D g ≡ Some d) ⊎ ((f ≡ g) × (d ≡ digest_of game f))
+-- the table has another value at one key
+module _ {V : Type 0} (items : V → List KeptFrame) (before after : ℕ → ℕ → Option V) (p u : ℕ) (v : V) (changed : (q t : ℕ) → after q t ≡ cond ((p == q) && (u == t)) (Some v) (before q t)) where
+  pub kept_here : option_map_or items (after p u) [] ≡ items v
+  kept_here = ap (λ (o : Option V). option_map_or items o []) (changed p u)
+      ∙ ap (λ (b : Bool). option_map_or items (cond b (Some v) (before p u)) []) (and_from _ _ (eq-eqb p p refl) (eq-eqb u u refl))
 
-module _ (game : Game) (logs : List (List Entry)) (h : List Entry) (f : TurnFrame) (s : Spot) (L L' : ℕ → ℕ → List TurnFrame) (S S' : TurnFrame → List Spot)
-    (D D' : TurnFrame → Option Digest) (there : slice_get logs s.log ≡ Some h) (last : s.entry ≡ length h) (step : IsStep game f s L L' S S' D D')
-    (own : (q t : ℕ) (g : TurnFrame) → Has (L q t) g → (player_of g ≡ q) × (turn_of g ≡ t)) where
-  pub own_still : (q t : ℕ) (g : TurnFrame) → Has (L' q t) g → (player_of g ≡ q) × (turn_of g ≡ t)
-  own_still q t g m = go (step.listed q t g m)
+  pub kept_away : (q t : ℕ) → ((p ≡ q) × (u ≡ t) → ⊥) → option_map_or items (after q t) [] ≡ option_map_or items (before q t) []
+  kept_away q t never = ap (λ (o : Option V). option_map_or items o []) (changed q t) ∙ go (p == q) refl (u == t) refl
     where
-      go : Has (L q t) g ⊎ ((f ≡ g) × (player_of f ≡ q) × (turn_of f ≡ t) × ((x : Spot) → Has (S f) x → ⊥)) → (player_of g ≡ q) × (turn_of g ≡ t)
-      go (inl a) = own q t g a
-      go (inr b) = (ap player_of (sym b.0) ∙ b.1, ap turn_of (sym b.0) ∙ b.2)
+      go : (b : Bool) → (p == q) ≡ b → (c : Bool) → (u == t) ≡ c → option_map_or items (cond (b && c) (Some v) (before q t)) [] ≡ option_map_or items (before q t) []
+      go false x c y = refl
+      go true x false y = refl
+      go true x true y = absurd (never (eqb-true _ _ x, eqb-true _ _ y))
 
-  pub known_still : ((g : TurnFrame) (d : Digest) → D g ≡ Some d → (d ≡ digest_of game g) × Has (L (player_of g) (turn_of g)) g) →
-      (g : TurnFrame) (d : Digest) → D' g ≡ Some d → (d ≡ digest_of game g) × Has (L' (player_of g) (turn_of g)) g
-  known_still k g d e = go (step.known g d e)
+  -- to which a frame was taken
+  pub taken_by : (game : Game) (f : TurnFrame) (s : Spot) (old new : FrameIndex) → ((q t : ℕ) → kept_of old q t ≡ option_map_or items (before q t) []) → ((q t : ℕ) → kept_of new q t ≡ option_map_or items (after q t) []) →
+      p ≡ player_of f → u ≡ turn_of f → (from : List KeptFrame) → from ≡ option_map_or items (before p u) [] → Grows game f s from (items v) → IsTaken game f s old new
+  taken_by game f s old new olds news player turn from was grows = record {
+    own = subst (λ (t : ℕ). Grows game f s (kept_of old (player_of f) t) (kept_of new (player_of f) t)) turn
+        (subst (λ (q : ℕ). Grows game f s (kept_of old q u) (kept_of new q u)) player
+        (subst (λ (ks : List KeptFrame). Grows game f s ks (kept_of new p u)) (was ∙ sym (olds p u))
+        (subst (Grows game f s from) (sym (news p u ∙ kept_here)) grows)));
+    others = λ q t never. news q t ∙ kept_away q t (λ both. never (sym player ∙ both.0, sym turn ∙ both.1)) ∙ sym (olds q t);
+  }
+
+  -- in which the same is kept
+  pub refused_by : (old new : FrameIndex) → ((q t : ℕ) → kept_of old q t ≡ option_map_or items (before q t) []) → ((q t : ℕ) → kept_of new q t ≡ option_map_or items (after q t) []) →
+      (from : List KeptFrame) → from ≡ option_map_or items (before p u) [] → AreAlike from (items v) → IsRefused old new
+  refused_by old new olds news from was alike q t = go (p == q) refl (u == t) refl
     where
-      go : (D g ≡ Some d) ⊎ ((f ≡ g) × (d ≡ digest_of game f)) → (d ≡ digest_of game g) × Has (L' (player_of g) (turn_of g)) g
-      go (inl a) = let r = k g d a in (r.0, step.listed_still (player_of g) (turn_of g) g r.1)
-      go (inr b) = (b.1 ∙ ap (digest_of game) b.0, subst (λ (x : TurnFrame). Has (L' (player_of x) (turn_of x)) x) b.0 step.listed_now)
+      same : (x : List KeptFrame) → x ≡ kept_of old q t → AreAlike (kept_of old q t) x
+      same x e = record {
+        own = λ game q t of. subst (AreOf game q t) (sym e) of;
+        to = λ k m. subst (λ (ks : List KeptFrame). Has (seen_in ks) k) (sym e) m;
+        fro = λ k m. subst (λ (ks : List KeptFrame). Has (seen_in ks) k) e m;
+      }
 
-  -- what was kept still is
-  stay : (q t : ℕ) (k : Seen) → Has (kept_by L S D q t) k → Has (kept_by L' S' D' q t) k
-  stay q t k m =
-      let r = has_kept L S D q t k m in
-      let same : seen_by D' r.0 r.1 ≡ seen_by D r.0 r.1 = ap (λ (o : Option Digest). (let x : Seen = record { spot = r.1; frame = r.0; digest = digest_or o } in x)) (step.digests r.0 r.1 r.3) in
-      subst (Has (kept_by L' S' D' q t)) (same ∙ r.4) (kept_has L' S' D' q t r.0 r.1 (step.listed_still q t r.0 r.2) (step.spots_still r.0 r.1 r.3))
+      away : ((p ≡ q) × (u ≡ t) → ⊥) → AreAlike (kept_of old q t) (kept_of new q t)
+      away never = same (kept_of new q t) (news q t ∙ kept_away q t never ∙ sym (olds q t))
 
-  -- what is kept was, or is the new sighting of the player's turn
-  come : (q t : ℕ) (k : Seen) → Has (kept_by L' S' D' q t) k → Has (kept_by L S D q t) k ⊎ ((seen_by D' f s ≡ k) × (player_of f ≡ q) × (turn_of f ≡ t))
-  come q t k m = go (has_kept L' S' D' q t k m)
-    where
-      go : (g : TurnFrame) × (x : Spot) × Has (L' q t) g × Has (S' g) x × (seen_by D' g x ≡ k) → Has (kept_by L S D q t) k ⊎ ((seen_by D' f s ≡ k) × (player_of f ≡ q) × (turn_of f ≡ t))
-      go (g, x, mg, mx, e) = at (step.spots g x mx) (step.listed q t g mg)
-        where
-          at : Has (S g) x ⊎ ((f ≡ g) × (s ≡ x)) → Has (L q t) g ⊎ ((f ≡ g) × (player_of f ≡ q) × (turn_of f ≡ t) × ((x : Spot) → Has (S f) x → ⊥)) →
-              Has (kept_by L S D q t) k ⊎ ((seen_by D' f s ≡ k) × (player_of f ≡ q) × (turn_of f ≡ t))
-          at (inl a) (inl b) =
-              let same : seen_by D g x ≡ seen_by D' g x = ap (λ (o : Option Digest). (let y : Seen = record { spot = x; frame = g; digest = digest_or o } in y)) (sym (step.digests g x a)) in
-              inl (subst (Has (kept_by L S D q t)) (same ∙ e) (kept_has L S D q t g x b a))
-          at (inl a) (inr b) = absurd (b.3 x (subst (λ (y : TurnFrame). Has (S y) x) (sym b.0) a))
-          at (inr a) o =
-              let r = own_still q t g mg in
-              inr ((λ i. seen_by D' (a.0 i) (a.1 i)) ∙ e, ap player_of a.0 ∙ r.0, ap turn_of a.0 ∙ r.1)
-
-  pub stands_still : ((q t : ℕ) → Keeps game q t logs (kept_by L S D q t)) → (q t : ℕ) → Keeps game q t (with_entry logs s.log (Got (player_of f) f)) (kept_by L' S' D' q t)
-  stands_still stands q t = go (player_of f == q) refl (turn_of f == t) refl
-    where
-      After : List (List Entry)
-      After = with_entry logs s.log (Got (player_of f) f)
-
-      apart : ((player_of f ≡ q) × (turn_of f ≡ t) → ⊥) → Keeps game q t (with_entry logs s.log (Got (player_of f) f)) (kept_by L' S' D' q t)
-      apart never = keeps_members game q t (with_entry logs s.log (Got (player_of f) f)) (kept_by L S D q t) (kept_by L' S' D' q t) (stay q t) (λ k m. old k (come q t k m))
-          (keeps_other q t logs s.log (Got (player_of f) f) h there game (kept_by L S D q t)
-          (λ g e turn. let player : player_of f ≡ q = cc in let frame : f ≡ g = cc in never (player, ap turn_of frame ∙ turn)) (stands q t))
-        where
-          old : (k : Seen) → Has (kept_by L S D q t) k ⊎ ((seen_by D' f s ≡ k) × (player_of f ≡ q) × (turn_of f ≡ t)) → Has (kept_by L S D q t) k
-          old k (inl a) = a
-          old k (inr b) = absurd (never (b.1, b.2))
-
-      here : Keeps game (player_of f) (turn_of f) (with_entry logs s.log (Got (player_of f) f)) (kept_by L' S' D' (player_of f) (turn_of f))
-      here = keeps_grown game (player_of f) logs h (kept_by L S D (player_of f) (turn_of f)) (seen_by D' f s) there last step.digest_now (kept_by L' S' D' (player_of f) (turn_of f))
-          (stay (player_of f) (turn_of f)) (λ k m. fresh k (come (player_of f) (turn_of f) k m)) (one step.spots_now) (stands (player_of f) (turn_of f))
-        where
-          fresh : (k : Seen) → Has (kept_by L S D (player_of f) (turn_of f)) k ⊎ ((seen_by D' f s ≡ k) × (player_of f ≡ player_of f) × (turn_of f ≡ turn_of f)) →
-              Has (kept_by L S D (player_of f) (turn_of f)) k ⊎ (seen_by D' f s ≡ k)
-          fresh k (inl a) = inl a
-          fresh k (inr b) = inr b.0
-
-          one : Has (S' f) s ⊎ ((x : Spot) × Has (S f) x × (x.log ≡ s.log)) →
-              Has (kept_by L' S' D' (player_of f) (turn_of f)) (seen_by D' f s) ⊎ ((k : Seen) × Has (kept_by L S D (player_of f) (turn_of f)) k × (k.spot.log ≡ s.log) × (k.frame ≡ f))
-          one (inl m) = inl (kept_has L' S' D' (player_of f) (turn_of f) f s step.listed_now m)
-          one (inr (x, m, log)) = inr (seen_by D f x, kept_has L S D (player_of f) (turn_of f) f x (listed (step.listed (player_of f) (turn_of f) f step.listed_now)) m, log, refl)
-            where
-              listed : Has (L (player_of f) (turn_of f)) f ⊎ ((f ≡ f) × (player_of f ≡ player_of f) × (turn_of f ≡ turn_of f) × ((x : Spot) → Has (S f) x → ⊥)) → Has (L (player_of f) (turn_of f)) f
-              listed (inl a) = a
-              listed (inr b) = absurd (b.3 x m)
-
-      go : (b : Bool) → (player_of f == q) ≡ b → (c : Bool) → (turn_of f == t) ≡ c → Keeps game q t (with_entry logs s.log (Got (player_of f) f)) (kept_by L' S' D' q t)
-      go false x c y = apart (λ both. eqb-false _ _ x both.0)
-      go true x false y = apart (λ both. eqb-false _ _ y both.1)
-      go true x true y = subst (λ (u : ℕ). Keeps game q u (with_entry logs s.log (Got (player_of f) f)) (kept_by L' S' D' q u)) (eqb-true _ _ y)
-          (subst (λ (p : ℕ). Keeps game p (turn_of f) (with_entry logs s.log (Got (player_of f) f)) (kept_by L' S' D' p (turn_of f))) (eqb-true _ _ x) here)
-
--- tables in which at most a frame without spots is listed besides stand for the same logs
-module _ (game : Game) (logs : List (List Entry)) (f : TurnFrame) (L L' : ℕ → ℕ → List TurnFrame) (S S' : TurnFrame → List Spot) (D D' : TurnFrame → Option Digest)
-    (listed : (q t : ℕ) (g : TurnFrame) → Has (L' q t) g → Has (L q t) g ⊎ ((f ≡ g) × (player_of f ≡ q) × (turn_of f ≡ t) × ((x : Spot) → Has (S f) x → ⊥)))
-    (still : (q t : ℕ) (g : TurnFrame) → Has (L q t) g → Has (L' q t) g) (spots : (g : TurnFrame) → S' g ≡ S g) (digests : (g : TurnFrame) → D' g ≡ D g) where
-  seen_same : (g : TurnFrame) (x : Spot) → seen_by D' g x ≡ seen_by D g x
-  seen_same g x = ap (λ (o : Option Digest). (let y : Seen = record { spot = x; frame = g; digest = digest_or o } in y)) (digests g)
-
-  pub same_own : ((q t : ℕ) (g : TurnFrame) → Has (L q t) g → (player_of g ≡ q) × (turn_of g ≡ t)) → (q t : ℕ) (g : TurnFrame) → Has (L' q t) g → (player_of g ≡ q) × (turn_of g ≡ t)
-  same_own own q t g m = go (listed q t g m)
-    where
-      go : Has (L q t) g ⊎ ((f ≡ g) × (player_of f ≡ q) × (turn_of f ≡ t) × ((x : Spot) → Has (S f) x → ⊥)) → (player_of g ≡ q) × (turn_of g ≡ t)
-      go (inl a) = own q t g a
-      go (inr b) = (ap player_of (sym b.0) ∙ b.1, ap turn_of (sym b.0) ∙ b.2)
-
-  pub same_known : ((g : TurnFrame) (d : Digest) → D g ≡ Some d → (d ≡ digest_of game g) × Has (L (player_of g) (turn_of g)) g) →
-      (g : TurnFrame) (d : Digest) → D' g ≡ Some d → (d ≡ digest_of game g) × Has (L' (player_of g) (turn_of g)) g
-  same_known k g d e = let r = k g d (sym (digests g) ∙ e) in (r.0, still (player_of g) (turn_of g) g r.1)
-
-  pub same_stands : ((q t : ℕ) → Keeps game q t logs (kept_by L S D q t)) → (q t : ℕ) → Keeps game q t logs (kept_by L' S' D' q t)
-  same_stands stands q t = keeps_members game q t logs (kept_by L S D q t) (kept_by L' S' D' q t) to fro (stands q t)
-    where
-      to : (k : Seen) → Has (kept_by L S D q t) k → Has (kept_by L' S' D' q t) k
-      to k m =
-          let r = has_kept L S D q t k m in
-          subst (Has (kept_by L' S' D' q t)) (seen_same r.0 r.1 ∙ r.4)
-          (kept_has L' S' D' q t r.0 r.1 (still q t r.0 r.2) (subst (λ (xs : List Spot). Has xs r.1) (sym (spots r.0)) r.3))
-
-      fro : (k : Seen) → Has (kept_by L' S' D' q t) k → Has (kept_by L S D q t) k
-      fro k m = go (has_kept L' S' D' q t k m)
-        where
-          go : (g : TurnFrame) × (x : Spot) × Has (L' q t) g × Has (S' g) x × (seen_by D' g x ≡ k) → Has (kept_by L S D q t) k
-          go (g, x, mg, mx, e) = at (listed q t g mg) (subst (λ (xs : List Spot). Has xs x) (spots g) mx)
-            where
-              at : Has (L q t) g ⊎ ((f ≡ g) × (player_of f ≡ q) × (turn_of f ≡ t) × ((x : Spot) → Has (S f) x → ⊥)) → Has (S g) x → Has (kept_by L S D q t) k
-              at (inl a) b = subst (Has (kept_by L S D q t)) (sym (seen_same g x) ∙ e) (kept_has L S D q t g x a b)
-              at (inr a) b = absurd (a.3 x (subst (λ (y : TurnFrame). Has (S y) x) (sym a.0) b))
+      go : (b : Bool) → (p == q) ≡ b → (c : Bool) → (u == t) ≡ c → AreAlike (kept_of old q t) (kept_of new q t)
+      go false x c y = away (λ both. eqb-false _ _ x both.0)
+      go true x false y = away (λ both. eqb-false _ _ y both.1)
+      go true x true y = subst (λ (t : ℕ). AreAlike (kept_of old q t) (kept_of new q t)) (eqb-true _ _ y)
+          (subst (λ (q : ℕ). AreAlike (kept_of old q u) (kept_of new q u)) (eqb-true _ _ x)
+          (subst (λ (ks : List KeptFrame). AreAlike ks (kept_of new p u)) (was ∙ sym (olds p u))
+          (subst (AreAlike from) (sym (news p u ∙ kept_here)) alike)))

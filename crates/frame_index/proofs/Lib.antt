@@ -3,13 +3,11 @@ pub mod Lifted
 pub mod Shown
 pub mod Grows
 pub mod InLog
-pub mod Tabled
 pub mod Derived
+pub mod Growing
 pub mod Indexed
-pub mod Stepped
 pub mod Empty
 pub mod OfTurn
-pub mod Refused
 pub mod InSight
 pub mod Wrong
 pub mod Judging
@@ -19,3 +17,6 @@ pub mod Illegals
 pub mod Fronts
 pub mod Joined
 pub mod Apart
+pub mod Plainly
+pub mod Commonly
+pub mod Leaving

@@ -5,5 +5,7 @@ pub mod Heads
 pub mod InLog
 pub mod Judged
 pub mod Keeps
+pub mod Kept
 pub mod Pairs
+pub mod Plain
 pub mod Wants

@@ -6,24 +6,24 @@ ghost use Rattle.frame_index.specs.Clashes as C;
 ghost use Rattle.frame_index.specs.declared.seen.Seen.{Seen};
 
 use crate::seen::Seen;
-use definitions::{Digest, TurnFrame};
-use indexmap::IndexMap;
+use definitions::TurnFrame;
 use std::alloc::{AllocError, Global};
+use std::collections::BTreeMap;
 use streams::is_commit;
 
 /// Whether another reveal stands in the table under the digest of this one; if not, this one does.
-fn clashes(table: &mut IndexMap<Digest, TurnFrame>, one: &Seen) -> Result<bool, AllocError>
-    ensures noted { IfOk result (λ found. found ≡ false → C.IsNoted table.old table.new one.now) }
-    ensures clash { IfOk result (λ found. found ≡ true → C.IsClash table.old one.now) }
-    ensures stays { OnOk result ((seen : List Seen) → Has seen one.now → C.IsFrom seen table.old → C.IsFrom seen table.new) }
+fn clashes(table: &mut BTreeMap<[u8; 32], TurnFrame>, one: &Seen) -> Result<bool, AllocError>
+    ensures noted { IfOk result (λ found. found ≡ false → C.IsNoted (C.look table.old) (C.look table.new) one.now) }
+    ensures clash { IfOk result (λ found. found ≡ true → C.IsClash (C.look table.old) one.now) }
+    ensures stays { OnOk result ((seen : List Seen) → Has seen one.now → C.IsFrom seen (C.look table.old) → C.IsFrom seen (C.look table.new)) }
 {
     if is_commit(&one.frame) {
         return Ok(false);
     }
-    if let Some(frame) = table.get(&one.digest) {
+    if let Some(frame) = table.get(&one.digest.bytes) {
         return Ok(*frame != one.frame);
     }
-    table.insert(one.digest, one.frame)?;
+    table.insert(one.digest.bytes, one.frame)?;
     Ok(false)
 }
 
@@ -33,7 +33,7 @@ pub(crate) fn are_apart(alloc: Global, seen: &[Seen]) -> Result<bool, AllocError
     ensures apart { IfOk result (λ apart. apart ≡ true → C.AreApart seen.now) }
     ensures clash { IfOk result (λ apart. apart ≡ false → C.HaveClash seen.now) }
 {
-    let mut table = IndexMap::new(alloc);
+    let mut table = BTreeMap::new(alloc);
     for one in seen {
         if clashes(&mut table, one)? {
             return Ok(false);

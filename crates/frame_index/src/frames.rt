@@ -1,20 +1,20 @@
 //! Each different frame once, with its first spot in each log.
 
-ghost use Rattle.std.specs.Prelude.{◌≡◌, ◌<◌, ℕ, List, [], ◌∷◌, ◌++◌, Some, slice_get, length, OnOk, OnErr, IfOk, ◌==◌, None, map};
-ghost use Rattle.std.specs.List.{list_any};
+ghost use Rattle.std.specs.Prelude.{◌≡◌, ◌<◌, ℕ, List, [], ◌++◌, Some, slice_get, length, OnOk, OnErr, map};
 ghost use Rattle.definitions.specs.declared.logs.Entry.{Entry};
-ghost use Rattle.definitions.specs.declared.frames.TurnFrame.{TurnFrame};
 ghost use Rattle.definitions.specs.World.{Game};
-ghost use Rattle.definitions.specs.Held.{digest_of};
 ghost use Rattle.definitions.specs.Logs as L;
 ghost use Rattle.frame_index.specs.Appended as A;
 ghost use Rattle.frame_index.specs.Frames as F;
+ghost use Rattle.frame_index.specs.Kept as K;
 ghost use Rattle.frame_index.specs.declared.frames.FrameIndex.{FrameIndex};
 
+use crate::kept::{KeptFrame, TurnFrames};
 use crate::limits::MOST_LOGS;
 use crate::seen::Seen;
 use definitions::limits::LONGEST_LOG;
 use definitions::{Digest, PlayerId, Spot, Turn, TurnFrame};
+use grid_world::Session;
 use indexmap::IndexMap;
 use std::alloc::{AllocError, Global};
 
@@ -25,19 +25,11 @@ pub(crate) struct TurnKey {
     pub turn: Turn,
 }
 
-/// A frame's digest, and its first spot in each log that got it.
-#[derive(Drop)]
-pub(crate) struct FrameSpots {
-    pub digest: Digest,
-    pub spots: Vec<Spot>,
-}
-
-/// Each different frame that logs got, once, with its first spot in each log that got it; and of each player's turn its frames.
+/// Of each player's turn the different frames that logs got, each once, with its first spot in each log that got it.
 #[derive(Drop)]
 pub struct FrameIndex {
     alloc: Global,
-    frames: IndexMap<TurnFrame, FrameSpots>,
-    turns: IndexMap<TurnKey, Vec<TurnFrame>>,
+    turns: IndexMap<TurnKey, TurnFrames>,
 }
 
 /// The key of the player's turn of which the frame is.
@@ -51,25 +43,6 @@ fn key_of(frame: &TurnFrame) -> TurnKey
     }
 }
 
-/// Whether one of the spots is in the log.
-fn has_log(spots: &[Spot], log: u32) -> bool
-    ensures { result ≡ list_any (λ x. x.log == log) spots.now }
-{
-    spots.iter().any(|other| other.log == log)
-}
-
-/// Notes a spot, unless its log has one.
-fn note_spot(spots: &mut Vec<Spot>, spot: Spot) -> Result<(), AllocError>
-    ensures ok { OnOk result (spots.new.items ≡ F.spot_noted spots.old.items spot) }
-    ensures err { OnErr result (spots.new.items ≡ spots.old.items) }
-{
-    if has_log(spots, spot.log) {
-        return Ok(());
-    }
-    spots.push(spot)?;
-    Ok(())
-}
-
 /// Puts what is kept of a frame behind the others.
 fn put_frame(
     out: &mut Vec<Seen>,
@@ -77,7 +50,7 @@ fn put_frame(
     digest: Digest,
     spots: &[Spot],
 ) -> Result<(), AllocError>
-    ensures { OnOk result (out.new.items ≡ out.old.items ++ map (F.seen_with frame digest) spots.now) }
+    ensures { OnOk result (out.new.items ≡ out.old.items ++ map (K.seen_with frame digest) spots.now) }
 {
     for spot in spots {
         out.push(Seen {
@@ -90,14 +63,12 @@ fn put_frame(
 }
 
 impl FrameIndex {
-    /// With empty tables.
+    /// With an empty table.
     fn bare(alloc: Global) -> Self
-        ensures frames { (q t : ℕ) → F.frames_of result q t ≡ [] }
-        ensures digests { (f : TurnFrame) → F.digest_in result f ≡ None }
+        ensures { (q t : ℕ) → F.kept_of result q t ≡ [] }
     {
         FrameIndex {
             alloc,
-            frames: IndexMap::new(alloc),
             turns: IndexMap::new(alloc),
         }
     }
@@ -109,23 +80,13 @@ impl FrameIndex {
         Self::bare(alloc)
     }
 
-    /// Puts what is kept of a frame behind the others.
-    fn gather_frame(&self, frame: &TurnFrame, out: &mut Vec<Seen>) -> Result<(), AllocError>
-        ensures { OnOk result (out.new.items ≡ out.old.items ++ F.kept_of_frame self.now frame.now) }
-    {
-        match self.frames.get(frame) {
-            None => Ok(()),
-            Some(known) => put_frame(out, *frame, known.digest, &known.spots),
-        }
-    }
-
-    /// The frames of the player's turn.
-    fn listed(&self, player: PlayerId, turn: Turn) -> &[TurnFrame]
-        ensures { result.now ≡ F.frames_of self.now player turn }
+    /// The frames that are kept of the player's turn.
+    pub(crate) fn kept(&self, player: PlayerId, turn: Turn) -> &[KeptFrame]
+        ensures { result.now ≡ F.kept_of self.now player turn }
     {
         match self.turns.get(&TurnKey { player, turn }) {
             None => &[],
-            Some(listed) => listed,
+            Some(frames) => &frames.kept,
         }
     }
 
@@ -140,65 +101,51 @@ impl FrameIndex {
         ensures { OnOk result (out.new.items ≡ F.kept_in self.now player turn) }
     {
         out.clear();
-        for frame in self.listed(player, turn) {
-            self.gather_frame(frame, out)?;
+        for one in self.kept(player, turn) {
+            put_frame(out, one.frame, one.digest, &one.spots)?;
         }
         Ok(())
     }
 
-    /// Puts the frame to those of its player's turn.
-    fn list(&mut self, frame: TurnFrame) -> Result<(), AllocError>
-        ensures ok { OnOk result ((q t : ℕ) → F.frames_of self.new q t ≡ F.listed_with frame q t (F.frames_of self.old q t)) }
-        ensures err { OnErr result ((q t : ℕ) → F.frames_of self.new q t ≡ F.frames_of self.old q t) }
-        ensures spots { (f : TurnFrame) → F.spots_of self.new f ≡ F.spots_of self.old f }
-        ensures digests { (f : TurnFrame) → F.digest_in self.new f ≡ F.digest_in self.old f }
+    /// Takes a frame to those of its player's turn.
+    fn take_frame(
+        &mut self,
+        session: &Session,
+        frame: &TurnFrame,
+        spot: Spot,
+    ) -> Result<(), AllocError>
+        ensures ok { OnOk result (F.IsTaken session.now frame.now spot self.old self.new) }
+        ensures err { OnErr result (F.IsRefused self.old self.new) }
     {
-        let key = key_of(&frame);
-        if let Some(listed) = self.turns.get_mut(&key) {
-            listed.push(frame)?;
-            return Ok(());
+        let key = key_of(frame);
+        let alloc = self.alloc;
+        if let Some(frames) = self.turns.get_mut(&key) {
+            return frames.take(alloc, session, frame, spot);
         }
-        let mut listed = Vec::new(self.alloc);
-        listed.push(frame)?;
-        self.turns.insert(key, listed)?;
+        let mut frames = TurnFrames::new(alloc);
+        frames.take(alloc, session, frame, spot)?;
+        self.turns.insert(key, frames)?;
         Ok(())
     }
 
-    /// Notes where a frame stands that is known.
-    fn note(&mut self, frame: &TurnFrame, spot: Spot) -> Result<bool, AllocError>
-        ensures frames { (q t : ℕ) → F.frames_of self.new q t ≡ F.frames_of self.old q t }
-        ensures known { IfOk result (λ known. F.IsNoted self.old self.new frame.now spot known) }
-        ensures err { OnErr result ((f : TurnFrame) → F.spots_of self.new f ≡ F.spots_of self.old f) }
-        ensures digests { (f : TurnFrame) → F.digest_in self.new f ≡ F.digest_in self.old f }
-    {
-        match self.frames.get_mut(frame) {
-            None => Ok(false),
-            Some(known) => {
-                note_spot(&mut known.spots, spot)?;
-                Ok(true)
-            }
-        }
-    }
-
-    /// Takes a frame that a log got from its player: what is kept stands for the logs with this entry at the end of its log.
+    /// Takes a frame that a log of the session got from its player: what is kept stands for the logs with this entry at the end of
+    /// its log.
     ///
-    /// The digest is the one that the frame carries, or that of its opening. The spot is that of the entry: the log's number
-    /// among the logs and how many entries the log had before, of whatever kind, both counted from 0. An error comes where the
-    /// index's allocator has no memory; what is kept then stands for the logs without the entry.
-    pub fn take(&mut self, frame: TurnFrame, digest: Digest, spot: Spot) -> Result<(), AllocError>
+    /// The spot is that of the entry: the log's number among the logs and how many entries the log had before, of whatever kind, both
+    /// counted from 0. An error comes where the index's allocator has no memory; what is kept then stands for the logs without the
+    /// entry. A frame that is one of the first few of its turn is found without a digest.
+    pub fn take(
+        &mut self,
+        session: &Session,
+        frame: &TurnFrame,
+        spot: Spot,
+    ) -> Result<(), AllocError>
         requires log { spot.log < MOST_LOGS }
         requires entry { spot.entry < LONGEST_LOG }
-        ensures stands { OnOk result ((game : Game) (logs : List (List Entry)) (h : List Entry) → slice_get logs spot.log ≡ Some h → spot.entry ≡ length h → digest ≡ digest_of game frame → F.IsIndex game logs self.old → F.IsIndex game (A.with_entry logs spot.log (Entry.Got (L.player_of frame) frame)) self.new) }
+        ensures stands { OnOk result ((logs : List (List Entry)) (h : List Entry) → slice_get logs spot.log ≡ Some h → spot.entry ≡ length h → F.IsIndex session.now logs self.old → F.IsIndex session.now (A.with_entry logs spot.log (Entry.Got (L.player_of frame.now) frame.now)) self.new) }
         ensures err { OnErr result ((game : Game) (logs : List (List Entry)) → F.IsIndex game logs self.old → F.IsIndex game logs self.new) }
     {
-        if self.note(&frame, spot)? {
-            return Ok(());
-        }
-        let mut spots = Vec::new(self.alloc);
-        spots.push(spot)?;
-        self.list(frame)?;
-        self.frames.insert(frame, FrameSpots { digest, spots })?;
-        Ok(())
+        self.take_frame(session, frame, spot)
     }
 }
 

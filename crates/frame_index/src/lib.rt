@@ -5,9 +5,10 @@
 //! that got it. From this alone [`findings`] lists every finding of the logs with its least pair of spots, in the words of the
 //! definitions, whatever the number of turns that players commit ahead. What a log shows of a player's stream is read place by
 //! place, all logs at once, and never kept: [`start_heads`], [`read_first`] and [`read_turn`] read it for whoever wants more than
-//! the findings.
+//! the findings. A player of whom all that is kept is one legal play is judged once for all logs, and [`common_moves`] gives its moves.
 //!
-//! A frame is taken in time that doesn't grow with what is kept. An index keeps the allocator that it was made with, and takes
+//! A frame is found among few others of its turn by comparing them, and among many by its digest in an ordered map, so that no log can be
+//! made for which the look-ups take long. An index keeps the allocator that it was made with, and takes
 //! from it the memory for what it keeps; all other calls say in their parameters where memory comes from. A want of memory
 //! changes nothing that the index promises. Nothing outside is touched.
 //!
@@ -16,19 +17,23 @@
 #![tactic(auto)]
 
 mod clashes;
+mod common;
 mod frames;
 mod heads;
 mod illegal;
 mod in_log;
 pub mod judged;
+mod kept;
 pub mod least;
 mod limits;
 mod listing;
 mod pairs;
+mod plain;
 mod seen;
 #[cfg(test)]
 mod tests;
 
+pub use common::{Chosen, common_moves};
 pub use definitions::{Digest, Finding, Kind, Spot, TurnFrame};
 pub use frames::{FrameIndex, own_entries_change_nothing};
 pub use heads::{Heads, read_first, read_turn, start_heads};

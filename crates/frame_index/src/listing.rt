@@ -15,6 +15,7 @@ use crate::heads::{Heads, read_first, read_turn, start_heads};
 use crate::illegal::illegal;
 use crate::limits::MOST_LOGS;
 use crate::pairs::{bad_opening, collision, two_commits};
+use crate::plain::is_plain_player;
 use crate::seen::Seen;
 use definitions::{Finding, Kind, PlayerId, Spot, Turn};
 use grid_world::Session;
@@ -106,6 +107,9 @@ fn put_player(
     requires player { player < players_of session.now }
     ensures { OnOk result ((logs : List (List Entry)) → length logs ≤ MOST_LOGS → F.IsIndex session.now logs index.now → out.new.items ≡ out.old.items ++ flat_map (D.findings_in session.now logs player) (range_with_len 0 session.now.turns)) }
 {
+    if is_plain_player(index, session, walker, player) {
+        return Ok(());
+    }
     let mut heads = start_heads(session, player);
     read_first(index, session, walker, player, seen, &mut heads)?;
     for turn in 0..session.turns() {
@@ -120,7 +124,8 @@ fn put_player(
 /// spots, for each player, turn and kind that the logs show.
 ///
 /// The list and what is kept of one turn at a time take memory from `alloc`, and an error comes where there is none. The time
-/// is linear in what the index keeps and in the turns of all players, each for `MOST_LOGS` logs. Frames of one turn are compared
+/// is linear in what the index keeps and in the turns of all players, each for `MOST_LOGS` logs; a player of whom all logs show the same
+/// legal play is judged once for all of them. Frames of one turn are compared
 /// two by two where few are kept of it or two different reveals have one digest; a frame is never looked for among all frames.
 pub fn findings(
     alloc: Global,

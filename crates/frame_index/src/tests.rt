@@ -1,6 +1,7 @@
 //! Logs that show what a player did, and logs that show nothing, by counts by hand.
 
-use crate::{FrameIndex, MOST_LOGS, findings};
+use crate::pairs::{bad_opening, collision};
+use crate::{FrameIndex, MOST_LOGS, Seen, findings};
 use commitment::digest_of;
 use definitions::limits::LONGEST_LOG;
 use definitions::{
@@ -8,7 +9,6 @@ use definitions::{
 };
 use grid_world::{Session, read_session};
 use move_rules::Walker;
-use reveal_check::frame_digest;
 use std::alloc::{AllocError, Global};
 use std::test::Fail;
 
@@ -272,27 +272,17 @@ fn frame_of(session: &Session, what: What, opening: &Opening) -> TurnFrame {
     }
 }
 
-/// Takes a frame with this digest. It is passed over past the numbers that an index takes.
-fn take_as(
-    index: &mut FrameIndex,
-    frame: TurnFrame,
-    digest: Digest,
-    spot: Spot,
-) -> Result<(), AllocError> {
-    if spot.log < MOST_LOGS && (spot.entry as usize) < LONGEST_LOG {
-        index.take(frame, digest, spot)?;
-    }
-    Ok(())
-}
-
-/// Takes a frame that a log got.
+/// Takes a frame that a log got. It is passed over past the numbers that an index takes.
 fn take(
     index: &mut FrameIndex,
     session: &Session,
     frame: TurnFrame,
     spot: Spot,
 ) -> Result<(), AllocError> {
-    take_as(index, frame, frame_digest(session, &frame), spot)
+    if spot.log < MOST_LOGS && (spot.entry as usize) < LONGEST_LOG {
+        index.take(session, &frame, spot)?;
+    }
+    Ok(())
 }
 
 /// Takes the frames of a row.
@@ -371,47 +361,37 @@ fn many_reveals_of_one_turn_are_not_compared_one_by_one(rt: HostRuntime) -> Resu
     Ok(())
 }
 
-/// Takes a hundred different reveals of a turn, each with a digest of its own, but for the one of number 70, which has that of
-/// number 5. These are not the digests of their openings: no two openings with one are known.
-fn take_colliding(index: &mut FrameIndex, session: &Session) -> Result<(), AllocError> {
+/// A hundred different reveals of a turn, each with a digest of its own, but for the one of number 70, which has that of number 5.
+/// These are not the digests of their openings: no two openings with one are known.
+fn colliding(alloc: Global, session: &Session) -> Result<Vec<Seen>, AllocError> {
+    let mut seen = Vec::new(alloc);
     for number in 0..100 {
         let mut own = opening(0, 11, 0);
         own.nonce = numbered(number);
-        let reveal = frame_of(session, What::Reveal, &own);
-        let digest = Digest {
-            bytes: numbered(if number == 70 { 5 } else { number }).bytes,
-        };
-        let spot = Spot {
-            log: 0,
-            entry: number,
-        };
-        take_as(index, reveal, digest, spot)?;
+        seen.push(Seen {
+            spot: Spot {
+                log: 0,
+                entry: number,
+            },
+            frame: frame_of(session, What::Reveal, &own),
+            digest: Digest {
+                bytes: numbered(if number == 70 { 5 } else { number }).bytes,
+            },
+        })?;
     }
-    Ok(())
+    Ok(seen)
 }
 
 #[test]
 fn a_collision_is_found_among_many(rt: HostRuntime) -> Result<(), Fail> {
     let alloc = rt.alloc();
     let session = read_session(alloc, CORRIDOR).map_err(|_| "refused")?;
-    let mut walker = Walker::new(alloc, session.grid())?;
-    let mut index = FrameIndex::new(alloc);
-    take_colliding(&mut index, &session)?;
-    let found = findings(alloc, &session, &mut walker, &index)?;
-    let differ = Finding {
-        player: PLAYER,
-        turn: 0,
-        kind: Kind::BadOpening,
-        first: Spot { log: 0, entry: 0 },
-        second: Spot { log: 0, entry: 1 },
-    };
-    let collide = Finding {
-        player: PLAYER,
-        turn: 0,
-        kind: Kind::Collision,
-        first: Spot { log: 0, entry: 5 },
-        second: Spot { log: 0, entry: 70 },
-    };
-    assert!(rt; found.as_slice() == [differ, collide].as_slice());
+    let seen = colliding(alloc, &session)?;
+    let first = Spot { log: 0, entry: 0 };
+    let second = Spot { log: 0, entry: 1 };
+    assert!(rt; bad_opening(&seen) == Some((first, second)));
+    let first = Spot { log: 0, entry: 5 };
+    let second = Spot { log: 0, entry: 70 };
+    assert!(rt; collision(alloc, &seen)? == Some((first, second)));
     Ok(())
 }

@@ -62,10 +62,10 @@ in_part game calls a a' log (Some bytes) front behind fronted parts takes =
     }
 
 -- a log that isn't too long has the fault that its reader says
-fault_short : (game : Game) (bytes : List ℕ) (end : Next) → length bytes ≤ LONGEST_LOG → (read_log game bytes).reader.said ≡ Some end → log_fault game bytes ≡ fault_of end
+pub fault_short : (game : Game) (bytes : List ℕ) (end : Next) → length bytes ≤ LONGEST_LOG → (read_log game bytes).reader.said ≡ Some end → log_fault game bytes ≡ fault_of end
 fault_short game bytes end short said = rw (le-ltb LONGEST_LOG (length bytes) short) (ap fault_said said)
 
-fault_long : (game : Game) (bytes : List ℕ) → LONGEST_LOG < length bytes → log_fault game bytes ≡ Some (LONGEST_LOG, why.TooLong)
+pub fault_long : (game : Game) (bytes : List ℕ) → LONGEST_LOG < length bytes → log_fault game bytes ≡ Some (LONGEST_LOG, why.TooLong)
 fault_long game bytes long = rw (lt-ltb LONGEST_LOG (length bytes) long) refl
 
 not_failed : (fault : Option (ℕ × LogWhy)) → is_failed (taken_by fault) ≡ false

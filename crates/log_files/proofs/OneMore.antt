@@ -63,7 +63,7 @@ item_last [] x = refl
 item_last (y ∷ xs) x = item_last xs x
 
 -- the auditor stands for one log more
-one_more_log : (game : Game) (owners : List (Option ℕ)) (logs : List (List Entry)) (a a' : Auditor) (number : ℕ) (es : List Entry) (o : Option ℕ) → number < MOST_LOGS → length logs ≡ number →
+pub one_more_log : (game : Game) (owners : List (Option ℕ)) (logs : List (List Entry)) (a a' : Auditor) (number : ℕ) (es : List Entry) (o : Option ℕ) → number < MOST_LOGS → length logs ≡ number →
     StandsFor game owners logs a → Takes a a' number es → owner_in a' number ≡ o → LeavesOthers a a' number → StandsFor game (owners ++ o ∷ []) (logs ++ es ∷ []) a'
 one_more_log game owners logs a a' number es o few long stands takes owner others =
     let at : length owners ≡ number = stands.each ∙ long in

@@ -10,7 +10,7 @@ use Rattle.audit_command.proofs.Printed.{begun_err, begun_on, each_at, found_nex
 use Rattle.audit_command.proofs.printing.put_findings.Goals as goal
 
 pub returns-in_err-put_finding : goal.returns-in_err-put_finding
-returns-in_err-put_finding g c = λ game logs w m.
+returns-in_err-put_finding g c = λ game owners logs w m.
     let fs = c.args.found.now in
     let i = c.findings.finding-index in
     let f = get_or fs i no_finding in
@@ -18,32 +18,32 @@ returns-in_err-put_finding g c = λ game logs w m.
     let p = err_from_is_err_and c.from_residual.result c.from_residual.ensures.1 in
     begun_err _ _ _ c.from_residual.result p.0 p.1
     (begun_on (g.O.Sink.state c.args.out.now) (g.O.Sink.state c.findings.out) (g.O.Sink.state c.put_finding.new.out) (all_found_text game logs fs) (all_found_text game logs (drop i fs)) (found_text game logs f)
-    (all_found_text game logs (drop (i + 1) fs)) (c.findings.invariant game logs w m) (found_next game logs fs i lt) (c.in_err-put_finding.ensures game logs w (each_at (Has (findings game logs)) fs i no_finding lt m)))
+    (all_found_text game logs (drop (i + 1) fs)) (c.findings.invariant game owners logs w m) (found_next game logs fs i lt) (c.in_err-put_finding.ensures game owners logs w (each_at (Has (findings game logs)) fs i no_finding lt m)))
 
 pub returns-in-Failed : goal.returns-in-Failed
-returns-in-Failed g c = λ game logs w m.
+returns-in-Failed g c = λ game owners logs w m.
     let fs = c.args.found.now in
     let i = c.findings.finding-index in
     let f = get_or fs i no_finding in
     let lt : i < length fs = grind (arith, common_steps) in
     underway_cut (g.O.Sink.state c.args.out.now) (g.O.Sink.state c.findings.out) (g.O.Sink.state c.put_finding.new.out) (all_found_text game logs fs) (all_found_text game logs (drop i fs)) (found_text game logs f)
-    (all_found_text game logs (drop (i + 1) fs)) (c.findings.invariant game logs w m) (found_next game logs fs i lt)
-    (puts_as (g.O.Sink.state c.findings.out) (g.O.Sink.state c.put_finding.new.out) (found_text game logs f) c.in_ok-put_finding.field-0 Failed c.in-Failed.is (c.in_ok-put_finding.ensures game logs w (each_at (Has (findings game logs)) fs i no_finding lt m)))
+    (all_found_text game logs (drop (i + 1) fs)) (c.findings.invariant game owners logs w m) (found_next game logs fs i lt)
+    (puts_as (g.O.Sink.state c.findings.out) (g.O.Sink.state c.put_finding.new.out) (found_text game logs f) c.in_ok-put_finding.field-0 Failed c.in-Failed.is (c.in_ok-put_finding.ensures game owners logs w (each_at (Has (findings game logs)) fs i no_finding lt m)))
 
 pub findings-preserved : goal.findings-preserved
-findings-preserved g c = λ game logs w m.
+findings-preserved g c = λ game owners logs w m.
     let fs = c.args.found.now in
     let i = c.findings.finding-index in
     let f = get_or fs i no_finding in
     let lt : i < length fs = grind (arith, common_steps) in
     underway_more (g.O.Sink.state c.args.out.now) (g.O.Sink.state c.findings.out) (g.O.Sink.state c.put_finding.new.out) (all_found_text game logs fs) (all_found_text game logs (drop i fs)) (found_text game logs f)
-    (all_found_text game logs (drop (i + 1) fs)) (c.findings.invariant game logs w m) (found_next game logs fs i lt)
-    (puts_as (g.O.Sink.state c.findings.out) (g.O.Sink.state c.put_finding.new.out) (found_text game logs f) c.in_ok-put_finding.field-0 All c.in-All.is (c.in_ok-put_finding.ensures game logs w (each_at (Has (findings game logs)) fs i no_finding lt m)))
+    (all_found_text game logs (drop (i + 1) fs)) (c.findings.invariant game owners logs w m) (found_next game logs fs i lt)
+    (puts_as (g.O.Sink.state c.findings.out) (g.O.Sink.state c.put_finding.new.out) (found_text game logs f) c.in_ok-put_finding.field-0 All c.in-All.is (c.in_ok-put_finding.ensures game owners logs w (each_at (Has (findings game logs)) fs i no_finding lt m)))
 
 pub returns : goal.returns
-returns g c = λ game logs w m.
+returns g c = λ game owners logs w m.
     let fs = c.args.found.now in
     let i = c.findings.finding-index in
     let none : drop i fs ≡ [] = grind (arith, common_steps) in
-    underway_end (g.O.Sink.state c.args.out.now) (g.O.Sink.state c.findings.out) (all_found_text game logs fs) (all_found_text game logs (drop i fs)) (c.findings.invariant game logs w m)
+    underway_end (g.O.Sink.state c.args.out.now) (g.O.Sink.state c.findings.out) (all_found_text game logs fs) (all_found_text game logs (drop i fs)) (c.findings.invariant game owners logs w m)
     (ap (all_found_text game logs) none ∙ found_none game logs)

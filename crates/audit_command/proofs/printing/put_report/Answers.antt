@@ -11,7 +11,7 @@ use Rattle.audit_command.proofs.Printed.{begun_err, begun_first}
 use Rattle.audit_command.proofs.printing.put_report.Goals as goal
 
 pub returns-in_err-put_findings : goal.returns-in_err-put_findings
-returns-in_err-put_findings g c = λ logs w m.
+returns-in_err-put_findings g c = λ owners logs w m.
     let game = c.args.session.now in
     let r = c.args.report.now in
     let p = err_from_is_err_and c.from_residual.result c.from_residual.ensures.1 in
@@ -19,4 +19,4 @@ returns-in_err-put_findings g c = λ logs w m.
     let rest = rest_text game (agreed_by r) (is_some (world_by r 0)) (world_by r) in
     begun_err _ _ _ c.from_residual.result p.0 p.1
     (begun_first (g.O.Sink.state c.args.out.now) (g.O.Sink.state c.put_findings.new.out) (all_found_text game logs c.findings.result.now) (all_found_text game logs (found_in r)) rest (ap (all_found_text game logs) c.findings.ensures)
-    (c.in_err-put_findings.ensures game logs w each))
+    (c.in_err-put_findings.ensures game owners logs w each))

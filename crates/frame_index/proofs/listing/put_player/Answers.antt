@@ -1,8 +1,14 @@
-use Rattle.std.proofs.Common.{sym}
+use Rattle.std.proofs.Common.{refl, arith, List, ap, sym, ◌++◌, ◌∙◌}
 use Rattle.std.proofs.lemmas.List.{append-nil}
+use Rattle.definitions.specs.declared.findings.Finding.{Finding}
 use Rattle.definitions.specs.Findings.{findings_in}
 use Rattle.frame_index.proofs.Joined.{joined_more}
+use Rattle.frame_index.proofs.Plainly.{none_found}
 use Rattle.frame_index.proofs.listing.put_player.Goals as goal
+
+pub returns-then-is_plain_player : goal.returns-then-is_plain_player
+returns-then-is_plain_player c = λ logs few index. sym (append-nil c.args.out.now.items)
+    ∙ ap (λ (fs : List Finding). c.args.out.now.items ++ fs) (sym (none_found (findings_in c.args.session.now logs c.args.player) 0 c.args.session.now.turns (λ t le lt. c.if-is_plain_player.ensures refl logs index t (omega (arith, lt)))))
 
 pub loop-turn-init : goal.loop-turn-init
 loop-turn-init c = record {

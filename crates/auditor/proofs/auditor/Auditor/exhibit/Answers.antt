@@ -1,34 +1,20 @@
-use Rattle.std.proofs.Common.{◌≡◌, ◌++◌, ◌∙◌, ap, refl, subst, sym, List}
-use Rattle.definitions.specs.declared.frames.TurnFrame.{TurnFrame}
-use Rattle.definitions.specs.declared.logs.Entry.{Entry}
-use Rattle.definitions.specs.World.{Game}
+use Rattle.std.proofs.Common.{subst, sym, ℕ}
+use Rattle.definitions.specs.declared.findings.Kind.{Kind}
 use Rattle.definitions.specs.Exhibits.{Shows}
-use Rattle.definitions.specs.Findings.{findings}
-use Rattle.definition_laws.specs.Members.{Has}
-use Rattle.frame_index.specs.Frames.{IsIndex}
-use Rattle.evidence.specs.Showing.{frames_of_finding}
-use Rattle.auditor.specs.Audits.{IsAuditOf}
-use Rattle.auditor.specs.Exhibits.{before_pair, is_illegal, pair_shown}
-use Rattle.auditor.proofs.Paired.{frames_are}
+use Rattle.auditor.proofs.Padded.{all, exhibit_stands, finding_stands, if_ok}
 use Rattle.auditor.proofs.auditor.Auditor.exhibit.Goals as goal
 
--- the frames are those by which the finding is shown
-frames : (c : goal.After-drop-seen-2) (game : Game) (logs : List (List Entry)) → IsAuditOf game logs c.args.self.now → Has (findings game logs) c.args.finding.now → c.new.result ≡ frames_of_finding game logs c.args.finding.now
-frames c game logs w m = subst At w.session at m w.index
-  where
-    At : Game → Type 0
-    At g = Has (findings g logs) c.args.finding.now → IsIndex g logs c.args.self.now.index → c.new.result ≡ frames_of_finding g logs c.args.finding.now
-
-    at : At c.args.self.now.session
-    at n i =
-        let before = c.in_ok-put_before.ensures logs i n ∙ ap (λ (fs : List TurnFrame). fs ++ before_pair (is_illegal c.args.finding.now.kind) c.args.self.now.session logs c.args.finding.now) c.new-frames.ensures.items in
-        frames_are c.args.self.now.session logs c.args.finding.now c.new.result
-        (c.new.ensures ∙ c.in_ok-put_pair.ensures c.args.self.now.session logs i n ∙ ap (λ (fs : List TurnFrame). fs ++ pair_shown logs c.args.finding.now) before)
-
 pub returns-clause-frames : goal.returns-clause-frames
-returns-clause-frames c = λ game logs w m. record { player = refl; turn = refl; kind = refl; frames = frames c game logs w m }
+returns-clause-frames c = if_ok c.exhibit_all.result (λ x is game owners logs stands m.
+    exhibit_stands game owners logs c.args.self.now stands c.args.finding.now x
+    (is game (all game owners logs c.args.self.now stands) stands.audit (finding_stands game owners logs c.args.self.now stands c.args.finding.now m))) c.exhibit_all.ensures
 
 pub returns-clause-shows : goal.returns-clause-shows
-returns-clause-shows c = λ game logs w m all.
+returns-clause-shows c = if_ok c.exhibit_all.result (λ x is game owners logs stands m each.
     let f = c.args.finding.now in
-    subst (Shows game f.player f.turn f.kind) (sym (frames c game logs w m)) (c.findings_are_shown.ensures.shown game logs f all m)
+    let so = exhibit_stands game owners logs c.args.self.now stands f x
+    (is game (all game owners logs c.args.self.now stands) stands.audit (finding_stands game owners logs c.args.self.now stands f m)) in
+    subst (λ (q : ℕ). Shows game q x.turn x.kind x.frames) (sym so.player)
+    (subst (λ (t : ℕ). Shows game f.player t x.kind x.frames) (sym so.turn)
+    (subst (λ (k : Kind). Shows game f.player f.turn k x.frames) (sym so.kind)
+    (subst (Shows game f.player f.turn f.kind) (sym so.frames) (c.findings_are_shown.ensures.shown game logs f each m))))) c.exhibit_all.ensures

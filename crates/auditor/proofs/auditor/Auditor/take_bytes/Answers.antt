@@ -5,9 +5,8 @@ use Rattle.definitions.specs.World.{Game}
 use Rattle.session_log.specs.Fed.{Fed, IsFeedOf}
 use Rattle.session_log.specs.Feeding.{LogFeeding, LogGiven, given_of}
 use Rattle.auditor.specs.declared.auditor.Auditor.{Auditor}
-use Rattle.frame_index.proofs.Tabled.{on_err_always}
 use Rattle.auditor.specs.Taking.{Takes, TakesNext, given_behind}
-use Rattle.auditor.proofs.Fed.{cut_rest, so_on}
+use Rattle.auditor.proofs.Fed.{cut_rest, on_err_always, so_on}
 use Rattle.auditor.proofs.auditor.Auditor.take_bytes.Goals as goal
 
 pub loop-used-init : goal.loop-used-init

@@ -1,0 +1,29 @@
+use Rattle.std.proofs.Common.{List, ap, arith, length, map, subst, sym, ℕ, ◌≤◌, ◌∙◌, ◌≡◌, Option}
+use Rattle.definitions.specs.declared.world.Move.{Move}
+use Rattle.definitions.specs.Lists.{item_or}
+use Rattle.definitions.specs.World.{Game}
+use Rattle.auditor.specs.declared.report.Report.{Report}
+use Rattle.auditor.specs.Agreed.{all_agreed_moves, world_by}
+use Rattle.auditor.specs.Audits.{IsAuditOf}
+use Rattle.auditor.specs.Played.{AreLegalIfWhole}
+use Rattle.auditor.specs.Reports.{IsReportOf}
+use Rattle.auditor.proofs.Worlds.{agreed_item, agreed_legal, item_length, map_lengths}
+use Rattle.auditor.proofs.auditor.Auditor.report_all.Goals as goal
+
+pub returns : goal.returns
+returns c = λ game logs w.
+    let self = c.args.self.now in
+    let here : IsAuditOf self.session logs self = subst (λ (g : Game). IsAuditOf g logs self) (sym w.session) w in
+    let r : Report = record { found = c.in_ok-found.found; agreed = c.in_ok-agreed.agreed.counts; lines = c.in_ok-lines.lines } in
+    subst (λ (g : Game). IsReportOf g self.owners logs r) w.session (record {
+      found = c.in_ok-found.ensures logs (let n = w.many in omega (arith, n)) here.index;
+      agreed = λ owned q lt.
+          let moves = c.in_ok-agreed.ensures.moves logs (record { audit = here; owned = owned }) in
+          ap (λ (ns : List ℕ). item_or ns q 0) (c.in_ok-agreed.ensures.counts ∙ map_lengths c.in_ok-agreed.agreed.moves.items ∙ ap (map length) moves)
+          ∙ item_length (all_agreed_moves self.session self.owners logs) q ∙ ap length (agreed_item self.session self.owners logs q lt);
+      world = λ owned q lt.
+          let moves : map (λ own. own.items) c.deref.result.now ≡ all_agreed_moves self.session self.owners logs =
+          ap (map (λ own. own.items)) c.deref.ensures.value ∙ c.in_ok-agreed.ensures.moves logs (record { audit = here; owned = owned }) in
+          c.in_ok-lines.ensures (subst (AreLegalIfWhole self.session) (sym moves) (agreed_legal self.session self.owners logs)) q lt
+          ∙ ap (λ (ms : List (List Move)). world_by self.session ms q) moves;
+    })
