@@ -7,3 +7,4 @@ pub mod Holding
 pub mod Stepped
 pub mod Begun
 pub mod Refusals
+pub mod Ended

@@ -20,6 +20,7 @@ mod tests;
 mod whole_matches;
 
 pub use definitions::{Entry, GotAnswer, Move, Nonce, OwnFault, Place, PlayerId, Turn, TurnFrame};
+pub use peer_core::Choice;
 pub use stands::Stand;
 pub use steps::{Step, StepAnswer, has_players};
 pub use table::Table;

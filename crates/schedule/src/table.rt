@@ -5,6 +5,7 @@ ghost use Rattle.definitions.specs.Lists.{EachIs, item_or};
 ghost use Rattle.definitions.specs.World.{players_of};
 ghost use Rattle.definitions.specs.Honest.{made_count};
 ghost use Rattle.definitions.specs.Steps as D;
+ghost use Rattle.peer_core.specs.Views as V;
 ghost use Rattle.schedule.specs.Steps as S;
 ghost use Rattle.schedule.specs.Steps.{HasPlayers, first_logs};
 ghost use Rattle.schedule.specs.Tallies.{no_tally, tallied};
@@ -17,7 +18,7 @@ use crate::steps::{Step, StepAnswer};
 use crate::tallies::{Tally, blank_tallies, count};
 use definitions::{Entry, Move, Nonce, Place, PlayerId, TurnFrame};
 use grid_world::Session;
-use peer_core::Peer;
+use peer_core::{Choice, Peer};
 use std::alloc::{AllocError, Global};
 use std::marker::Model;
 
@@ -119,6 +120,17 @@ impl Table {
         match self.peer(player) {
             None => unreachable!(),
             Some(peer) => peer.made_count(),
+        }
+    }
+
+    /// The turn that an honest player chooses next, and where it stands by then. None of a hostile player.
+    pub fn choice(&self, player: PlayerId) -> Option<Choice>
+        requires player { player < players_of self.now.game }
+        ensures { result ≡ option_map (λ h. V.choice_of self.now.game player h) (D.log_of self.now.logs player) }
+    {
+        match self.peer(player) {
+            None => None,
+            Some(peer) => Some(peer.choice()),
         }
     }
 

@@ -2,3 +2,4 @@ pub mod Readings
 pub mod Named
 pub mod Answered
 pub mod Opened
+pub mod Commanded

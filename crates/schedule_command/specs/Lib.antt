@@ -3,4 +3,6 @@ pub mod Hostile
 pub mod Lines
 pub mod Schedule
 pub mod Played
+pub mod Matches
+pub mod Causes
 pub mod Words
