@@ -9,19 +9,15 @@ use Rattle.line_io.specs.Inputs.{AtEnd, Input, input_of}
 use Rattle.line_io.proofs.Writing.{bytes_none}
 use Rattle.run_frame.specs.Frame.{Answer, Lacked, OnDone, Ran, bare_answer, is_input_fault}
 use Rattle.run_frame.specs.declared.statuses.Status.{Status}
-use Rattle.run_frame.specs.declared.statuses.Status.TheVariants.{BadLine, BadLog, BadSession, Done, InputFault, NoMemory, OutputFault}
-use Rattle.peer_cli.specs.Commands.{ReadsFor, ReadsThrough, answer_of, takes_late}
+use Rattle.run_frame.specs.declared.statuses.Status.TheVariants.{BadLine, BadLog, BadSession, Caught, Done, InputFault, NoMemory, OutputFault}
+use Rattle.schedule_command.specs.Played.{is_end}
+use Rattle.peer_cli.specs.Commands.{ReadsFor, ReadsThrough, answer_of, takes_first, takes_late}
 use Rattle.line_io.specs.Files.{AreContents, Calls, Contents}
 use Rattle.peer_cli.specs.Outside.{CountsFaults}
 use Rattle.peer_cli.specs.Runs.{Works}
-use Rattle.peer_cli.specs.Words.{Command}
+use Rattle.peer_cli.specs.Words.{Audit, Command, Drive, Judge, Schedule, Upgrade}
 use Rattle.peer_cli.proofs.Counts.{where_no_memory}
 use Rattle.peer_cli.proofs.Running.{contents_fit, no_command, some_contents}
-
--- what is asked of the input at the end is nothing
-pub on_done : (s : Status) → OnDone s (Unit {0})
-on_done Done = tt
-on_done s = tt
 
 -- where neither the source nor the shelf can have failed, it is as if they could
 ran_weaker : (a b : SinkState) (due : Answer) (late : Bool) (source shelf : Type 0) (s : Status) → Ran a b due late ⊥ ⊥ s → Ran a b due late source shelf s
@@ -79,10 +75,23 @@ refused_done : (due : Answer) (s : Status) (P : Type 0) → IsRefused due s → 
 refused_done due Done P d = absurd d
 refused_done due s P d = tt
 
+refused_end : (due : Answer) (s : Status) → IsRefused due s → is_end s ≡ true → ⊥
+refused_end due Done d e = d
+refused_end due Caught d e = d
+refused_end due s d e = let never : false ≡ true = e in cc
+
+-- a run that is refused came to no end
+refused_through : (command : Command) (due : Answer) (s : Status) (ended : Bool) → IsRefused due s → ReadsThrough (Some command) s ended
+refused_through (Drive x) due s ended d = refused_done due s (ended ≡ true) d
+refused_through (Upgrade session) due s ended d = tt
+refused_through (Judge j) due s ended d = tt
+refused_through (Audit a) due s ended d = tt
+refused_through (Schedule session) due s ended d = λ e. absurd (refused_end due s d e)
+
 module _ (command : Command) (i : SourceState) (a : SinkState) (h h' : ShelfState) (alone : Type 0) (left : alone) (calls : Calls) (files : ReadsFor (Some command) h h' calls) where
   -- the answer is told
   pub told_works : (b : SinkState) (s : Status) → h'.faults ≡ h.faults →
-      ((contents : Contents) (input : Input) → AreContents contents calls → Ran a b (answer_of (Some command) contents input) (takes_late (Some command)) ⊥ ⊥ s) → OnDone s (ReadsThrough (Some command) i.ended) →
+      ((contents : Contents) (input : Input) → AreContents contents calls → Ran a b (answer_of (Some command) contents input) (takes_late (Some command)) ⊥ ⊥ s) → ReadsThrough (Some command) s i.ended →
       Works (record { command = Some command; before = record { input = i; output = a; shelf = h }; after = record { input = i; output = b; shelf = h' } }) alone s
   told_works b s f ran over =
       let some : Contents = some_contents calls in
@@ -95,13 +104,13 @@ module _ (command : Command) (i : SourceState) (a : SinkState) (h h' : ShelfStat
         text = λ contents behind m. ran_weaker a b (answer_of (Some command) contents _) (takes_late (Some command)) _ _ s (ran contents _ m.given);
         usage = no_command command _;
         faults = ran_counts i a b h h' answer (takes_late (Some command)) s f (ran some none (contents_fit (Some command) h h' calls files));
-        untouched = record { over = λ contents behind m over. left; no_memory = where_no_memory s alone left };
+        untouched = record { over = λ contents behind m over. left; no_memory = where_no_memory s (takes_first (Some command) ≡ true → alone) (λ e. left) };
         over = over;
       }
 
   -- the answer is one that is due for all contents
   pub told_so : (b : SinkState) (due : Answer) (s : Status) → ((contents : Contents) (input : Input) → AreContents contents calls → answer_of (Some command) contents input ≡ due) →
-      h'.faults ≡ h.faults → Ran a b due (takes_late (Some command)) ⊥ ⊥ s → OnDone s (ReadsThrough (Some command) i.ended) →
+      h'.faults ≡ h.faults → Ran a b due (takes_late (Some command)) ⊥ ⊥ s → ReadsThrough (Some command) s i.ended →
       Works (record { command = Some command; before = record { input = i; output = a; shelf = h }; after = record { input = i; output = b; shelf = h' } }) alone s
   told_so b due s is f r over = told_works b s f (λ contents input given. subst (λ (d : Answer). Ran a b d (takes_late (Some command)) ⊥ ⊥ s) (sym (is contents input given)) r) over
 
@@ -118,6 +127,6 @@ module _ (command : Command) (i : SourceState) (a : SinkState) (h h' : ShelfStat
         text = λ contents behind m. refused_ran i a a h h' _ (takes_late (Some command)) _ _ s (is contents _ m.given) (λ e. (f ∙ ap (λ x. faults_behind x h.faults) (ap is_input_fault e), left));
         usage = no_command command _;
         faults = refused_counts i a a h h' _ s some f;
-        untouched = record { over = λ contents behind m over. left; no_memory = where_no_memory s alone left };
-        over = refused_done _ s (ReadsThrough (Some command) i.ended) some;
+        untouched = record { over = λ contents behind m over. left; no_memory = where_no_memory s (takes_first (Some command) ≡ true → alone) (λ e. left) };
+        over = refused_through command _ s i.ended some;
       }

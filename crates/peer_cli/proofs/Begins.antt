@@ -17,7 +17,7 @@ memory_taken P before now due NoMemory e = absurd e
 memory_taken P before now due s e = tt
 
 -- a run over its input that ended is a command that ran
-ended_ran : (source shelf : Type 0) (before now : SinkState) (due : Answer) (s : Status) → Ends before now due s → (s ≡ InputFault → source) → Ran before now due false source shelf s
+pub ended_ran : (source shelf : Type 0) (before now : SinkState) (due : Answer) (s : Status) → Ends before now due s → (s ≡ InputFault → source) → Ran before now due false source shelf s
 ended_ran source shelf before now due NoMemory e c = absurd e
 ended_ran source shelf before now due InputFault e c = inr (c refl, e.1, e.0)
 ended_ran source shelf before now due OutputFault e c = e

@@ -30,6 +30,9 @@ use Rattle.evidence.specs.declared.exhibit.Exhibit.{Exhibit}
 use Rattle.evidence.specs.Reading.{exhibit_at}
 use Rattle.judge_command.specs.Judge.{JudgeCause, is_shown, judge_answer, verdict_answer}
 use Rattle.judge_command.specs.Words.{Judging}
+use Rattle.schedule_command.specs.Causes.{ScheduleCause, TellsMatch, answer_in}
+use Rattle.schedule_command.specs.Schedule.{schedule_answer}
+use Rattle.schedule_command.proofs.Commanded.{schedule_caused, schedule_done, schedule_tells}
 use Rattle.definitions.specs.declared.findings.Finding.{Finding}
 use Rattle.definitions.specs.Findings.{findings}
 use Rattle.definitions.specs.Lists.{is_empty}
@@ -43,7 +46,7 @@ use Rattle.peer_cli.specs.Commands.{answer_of, begins_with}
 use Rattle.line_io.specs.Files.{Contents, content}
 use Rattle.peer_cli.specs.Games.{begun, empty_beginning, ended_by, front_of, log_front_of, old_beginning, session_in, with_old, with_player}
 use Rattle.peer_cli.specs.Outside.{CountsFaults, OneFailed, Outside}
-use Rattle.peer_cli.specs.Words.{Audit, Command, Drive, Judge, Upgrade}
+use Rattle.peer_cli.specs.Words.{Audit, Command, Drive, Judge, Schedule, Upgrade}
 use Rattle.peer_cli.proofs.AuditMeant.{two_faces}
 use Rattle.peer_cli.proofs.Begun.{begun_honest}
 
@@ -168,6 +171,23 @@ audit_answer_is a contents game is =
     ap (λ (r : Result Game SessionFault). audit_for (ended_by r) (behind_first contents) (length a.logs)) is.read ∙
     ap (λ (f : Option LogFault). audit_by f game (behind_first contents) (length a.logs)) is.sound
 
+-- The command to step a match.
+schedule_read : (session : List ℕ) (contents : Contents) (input : Input) → ending_of input ≡ AtEnd → (r : Result Game SessionFault) → game_at (front_of (content contents 0)) ≡ r →
+    HasCause (Some (Schedule session)) contents input (answer_in (ended_by r) input).status
+schedule_read session contents input ends (Ok game) f = go (schedule_answer game input).status (schedule_caused game input ends (game_found _ game f).session.ahead.0)
+  where
+    go : (s : Status) → ScheduleCause game input s → HasCause (Some (Schedule session)) contents input s
+    go NoMemory c = tt
+    go InputFault c = tt
+    go OutputFault c = tt
+    go (BadSession line what) c = absurd c
+    go s c = record { game = game; read = f; cause = c }
+schedule_read session contents input ends (Err Memory) f = tt
+schedule_read session contents input ends (Err (At line what)) f = fault_said (front_of (content contents 0)) (At line what) f
+
+schedule_answer_is : (contents : Contents) (input : Input) (game : Game) → game_at (front_of (content contents 0)) ≡ Ok game → answer_in (session_in (content contents 0)) input ≡ schedule_answer game input
+schedule_answer_is contents input game read = ap (λ (r : Result Game SessionFault). answer_in (ended_by r) input) read
+
 -- Each command.
 pub caused : (command : Option Command) (contents : Contents) (input : Input) → ending_of input ≡ AtEnd → HasCause command contents input (answer_of command contents input).status
 caused None contents input ends = tt
@@ -175,6 +195,7 @@ caused (Some (Drive d)) contents input ends = read d contents input ends (game_a
 caused (Some (Upgrade session)) contents input ends = upgrade_read session contents input (game_at (front_of (content contents 0))) refl
 caused (Some (Judge j)) contents input ends = judge_read j contents input (game_at (front_of (content contents 0))) refl
 caused (Some (Audit a)) contents input ends = audit_read a contents input (game_at (front_of (content contents 0))) refl
+caused (Some (Schedule session)) contents input ends = schedule_read session contents input ends (game_at (front_of (content contents 0))) refl
 
 -- where all is good, the end of the command is due
 pub good_done : (command : Option Command) (contents : Contents) (input : Input) → ending_of input ≡ AtEnd → IsGood command contents input → (answer_of command contents input).status ≡ Done
@@ -184,6 +205,8 @@ good_done (Some (Drive d)) contents input ends (b, set, played) =
 good_done (Some (Upgrade session)) contents input ends good = ap (λ (a : Answer). a.status) (upgrade_answer_is contents good.game good.read)
 good_done (Some (Judge j)) contents input ends (case, is, none) = ap (λ (a : Answer). a.status) (case_answer contents case is) ∙ ap (λ (b : Bool). (verdict_answer b).status) none
 good_done (Some (Audit a)) contents input ends (game, is, none) = ap (λ (x : Answer). x.status) (audit_answer_is a contents game is) ∙ ap status_by none
+good_done (Some (Schedule session)) contents input ends (game, read, played) =
+    ap (λ (x : Answer). x.status) (schedule_answer_is contents input game read) ∙ schedule_done game input ends played
 
 -- what is behind the answer
 pub meant : (command : Option Command) (contents : Contents) (input : Input) → IsMeant command contents input
@@ -200,6 +223,8 @@ meant (Some (Audit a)) contents input = λ game is bytes. record {
   text_is = ap (λ (x : Answer). x.body) (audit_answer_is a contents game is);
   faces = two_faces game (behind_first contents) (length a.logs) (game_found _ game is.read).session bytes;
 }
+meant (Some (Schedule session)) contents input = λ game read.
+    subst (λ (x : Answer). TellsMatch game input x) (sym (schedule_answer_is contents input game read)) (schedule_tells game input (game_found _ game read).session.ahead.0)
 
 -- what holds of the status that is due, of want of memory and of faults holds of the status that comes
 module _ (before now : SinkState) (whole cut : Answer) (late : Bool) (source shelf : Type 0) where

@@ -8,6 +8,7 @@ pub mod Counts
 pub mod InMemory
 pub mod Alone
 pub mod Upgrades
+pub mod Scheduled
 pub mod Judged
 pub mod AuditOpened
 pub mod Rooms

@@ -1,5 +1,5 @@
 -- Running: what the parts of a run make of its promises.
-use Rattle.std.proofs.Common.{◌≡◌, ◌⊎◌, false, true, inl, inr, List, [], ◌∷◌, ◌++◌, append-nil, ℕ, zero, suc, Option, Some, None, refl, ap, sym, ◌∙◌, subst}
+use Rattle.std.proofs.Common.{Bool, ◌≡◌, ◌⊎◌, false, true, inl, inr, List, [], ◌∷◌, ◌++◌, append-nil, ℕ, zero, suc, Option, Some, None, refl, ap, sym, ◌∙◌, subst}
 use Rattle.std.specs.Prelude.{Result, Ok, Err, map}
 use Rattle.station.specs.Outside.{Rose, faults_behind}
 use Rattle.station.specs.Pieces.{AllGive}
@@ -16,7 +16,7 @@ use Rattle.line_io.specs.Inputs.{AtEnd, Input, input_of}
 use Rattle.line_io.proofs.Contents.{reading_fits}
 use Rattle.line_io.proofs.Writing.{bytes_none}
 use Rattle.run_frame.specs.Ends.{Refuses}
-use Rattle.run_frame.specs.Frame.{Answer, OnDone, OnNoMemory, is_input_fault}
+use Rattle.run_frame.specs.Frame.{Answer, OnNoMemory, is_input_fault}
 use Rattle.run_frame.specs.Turns.{Plays}
 use Rattle.run_frame.specs.declared.statuses.Status.{Status}
 use Rattle.run_frame.specs.declared.statuses.Status.TheVariants.{Done, InputFault, NoMemory, OutputFault, Usage}
@@ -24,13 +24,13 @@ use Rattle.run_frame.proofs.Finish.{finished}
 use Rattle.drive_command.specs.Begin.{Beginning, NeedsNoInput, begun_answer}
 use Rattle.drive_command.specs.Words.{Driving}
 use Rattle.peer_cli.specs.Causes.{HasCause}
-use Rattle.peer_cli.specs.Commands.{ReadsFor, answer_of, begins_with, names_of, takes_late}
+use Rattle.peer_cli.specs.Commands.{ReadsFor, ReadsThrough, answer_of, begins_with, names_of, takes_first, takes_late}
 use Rattle.line_io.specs.Files.{AreContents, AreReadings, Calls, Contents, content}
 use Rattle.peer_cli.specs.Files.{OpensPeer, log_names}
 use Rattle.peer_cli.specs.Games.{IsStartFor}
 use Rattle.peer_cli.specs.Outside.{CountsFaults, Outside}
 use Rattle.peer_cli.specs.Runs.{MayBe, Run, Runs, Works, Writes, read_by}
-use Rattle.peer_cli.specs.Words.{Command, Drive}
+use Rattle.peer_cli.specs.Words.{Audit, Command, Drive, Judge, Schedule, Upgrade}
 use Rattle.peer_cli.proofs.Begins.{begun_ran, memory_taken, unbegun_ran}
 use Rattle.peer_cli.proofs.Causes.{caused, completed, ends_at_end, finished_cause, good_done, meant}
 use Rattle.peer_cli.proofs.Counts.{ended_counts, refused_counts, unbegun_counts, unbegun_done, where_no_memory}
@@ -91,7 +91,7 @@ module _ (i i' : SourceState) (a b : SinkState) (h h' : ShelfState) (alone : Typ
     faults = ended_counts i i' a b h h' _ s p.drew o.counted (p.ends [] (λ e. refl));
     untouched = record {
       over = λ contents behind m over. let start = o.due contents m.given in left (needs_none d.player _ start.due_is start.player_is over);
-      no_memory = memory_taken alone a b _ s (p.ends [] (λ e. refl));
+      no_memory = memory_taken (takes_first (Some (Drive d)) ≡ true → alone) a b _ s (p.ends [] (λ e. refl));
     };
     over = p.over;
   }
@@ -109,14 +109,22 @@ module _ (i : SourceState) (a : SinkState) (h h' : ShelfState) (alone : Type 0) 
     text = λ contents behind m. unbegun_ran _ _ a d.player _ _ s (o.due contents m.given) (λ e. (o.counted ∙ ap (λ f. faults_behind f h.faults) (ap is_input_fault e), left));
     usage = no_command _ _;
     faults = unbegun_counts i a h h' d.player _ s start.1 o.counted;
-    untouched = record { over = λ contents behind m over. left; no_memory = where_no_memory s alone left };
+    untouched = record { over = λ contents behind m over. left; no_memory = where_no_memory s (takes_first (Some (Drive d)) ≡ true → alone) (λ e. left) };
     over = unbegun_done i a h h' d.player _ s start.1 (i.ended ≡ true);
   }
 
 -- a status that stays or gives way to a fault of the sink
-done_stays : (P : Type 0) (before now : SinkState) (s result : Status) → Refuses before now s result → OnDone s P → OnDone result P
-done_stays P before now s result (inl h) p = subst (λ (r : Status). OnDone r P) (sym h.0) p
-done_stays P before now s result (inr h) p = subst (λ (r : Status). OnDone r P) (sym h.0) tt
+through_none : (command : Option Command) (ended : Bool) → ReadsThrough command OutputFault ended
+through_none None ended = tt
+through_none (Some (Drive d)) ended = tt
+through_none (Some (Upgrade session)) ended = tt
+through_none (Some (Judge j)) ended = tt
+through_none (Some (Audit a)) ended = tt
+through_none (Some (Schedule session)) ended = λ e. absurd (let never : false ≡ true = e in cc)
+
+through_stays : (command : Option Command) (ended : Bool) (before now : SinkState) (s result : Status) → Refuses before now s result → ReadsThrough command s ended → ReadsThrough command result ended
+through_stays command ended before now s result (inl h) p = subst (λ (r : Status). ReadsThrough command r ended) (sym h.0) p
+through_stays command ended before now s result (inr h) p = subst (λ (r : Status). ReadsThrough command r ended) (sym h.0) (through_none command ended)
 
 memory_stays : (P : Type 0) (before now : SinkState) (s result : Status) → Refuses before now s result → OnNoMemory s P → OnNoMemory result P
 memory_stays P before now s result (inl h) p = subst (λ (r : Status). OnNoMemory r P) (sym h.0) p
@@ -167,12 +175,12 @@ module _ (command : Option Command) (before : Outside) (i' : SourceState) (mid n
       faults = faults;
       untouched = record {
         over = λ contents behind m over. w.untouched.over contents behind (before_line m) over;
-        no_memory = memory_stays alone mid now s result r w.untouched.no_memory;
+        no_memory = memory_stays (takes_first command ≡ true → alone) mid now s result r w.untouched.no_memory;
       };
       complete = record {
         done = λ contents behind m good ni ns no.
             done_or_memory _ _ (good_done command contents _ (ends_at_end (read_by over ++ behind)) good) (completed _ _ _ _ _ _ _ before over.after result (text contents behind m) faults ni ns no);
-        over = done_stays _ mid now s result r w.over;
+        over = through_stays command i'.ended mid now s result r w.over;
       };
       meant = meant command;
     }

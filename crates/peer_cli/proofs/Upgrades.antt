@@ -9,7 +9,7 @@ use Rattle.run_frame.specs.declared.statuses.Status.{Status}
 use Rattle.run_frame.specs.declared.statuses.Status.TheVariants.{BadSession, InputFault, NoMemory}
 use Rattle.upgrade_command.specs.Upgrade.{upgrade_answer}
 use Rattle.peer_cli.specs.Commands.{ReadsFor}
-use Rattle.line_io.specs.Files.{Calls}
+use Rattle.line_io.specs.Files.{Calls, ReadsFiles}
 use Rattle.peer_cli.specs.Files.{OpensSession}
 use Rattle.peer_cli.specs.Games.{IsDue}
 use Rattle.peer_cli.specs.Words.{Upgrade}
@@ -18,15 +18,15 @@ use Rattle.peer_cli.proofs.Alone.{IsRefused}
 abbrev pub session_calls : ShelfState → ShelfState → Calls
 session_calls h h' = since h.pieces h'.pieces ∷ []
 
-pub session_reads : (h h' : ShelfState) (name : List ℕ) (r : Result Game Status) → OpensSession h h' name r → ReadsFor (Some (Upgrade name)) h h' (session_calls h h')
-session_reads h h' name r o = record {
-  reads = record {
-    same = o.fetched.same;
-    answered = o.fetched.grows ∙ ap (λ (x : List Piece). h.pieces ++ x) (sym (append-nil (since h.pieces h'.pieces)));
-    readings = (o.fetched.reading, o.fetched.shown, refl);
-  };
-  due = tt;
+pub session_read : (h h' : ShelfState) (name : List ℕ) (r : Result Game Status) → OpensSession h h' name r → ReadsFiles (name ∷ []) h h' (session_calls h h')
+session_read h h' name r o = record {
+  same = o.fetched.same;
+  answered = o.fetched.grows ∙ ap (λ (x : List Piece). h.pieces ++ x) (sym (append-nil (since h.pieces h'.pieces)));
+  readings = (o.fetched.reading, o.fetched.shown, refl);
 }
+
+pub session_reads : (h h' : ShelfState) (name : List ℕ) (r : Result Game Status) → OpensSession h h' name r → ReadsFor (Some (Upgrade name)) h h' (session_calls h h')
+session_reads h h' name r o = record { reads = session_read h h' name r o; due = tt }
 
 -- what is due for a session that is none
 pub unread_refused : (due : Result Game Status) (s : Status) → IsDue due (Err s) → IsRefused (upgrade_answer due) s

@@ -20,6 +20,7 @@ use Rattle.judge_command.specs.Judge.{JudgeCause, is_shown}
 use Rattle.definitions.specs.Findings.{findings}
 use Rattle.audit_command.specs.Audit.{AuditCause}
 use Rattle.audit_command.specs.Laws.{TellsAudit}
+use Rattle.schedule_command.specs.Causes.{AreClean, IsPlayedOut, ScheduleCause, TellsMatch}
 use Rattle.log_files.specs.Several.{behind_first, first_fault, logs_in, owners_in}
 use Rattle.peer_cli.specs.Audits.{AreFiles}
 use Rattle.peer_cli.specs.Commands.{answer_of}
@@ -27,7 +28,7 @@ use Rattle.peer_cli.specs.Exhibits.{evidence_front_of}
 use Rattle.line_io.specs.Files.{Contents, content}
 use Rattle.peer_cli.specs.Files.{HasGame}
 use Rattle.peer_cli.specs.Games.{begun, front_of, log_front_of}
-use Rattle.peer_cli.specs.Words.{Audit, Command, Drive, Judge, Upgrade}
+use Rattle.peer_cli.specs.Words.{Audit, Command, Drive, Judge, Schedule, Upgrade}
 
 -- The session's file has this session, and the player is one of it.
 pub record IsSeated (d : Driving) (contents : Contents) (game : Game) : Type 0 where
@@ -88,6 +89,12 @@ pub record IsAuditedSo (contents : Contents) (many : ℕ) (status : Status) : Ty
   pub files : AreAudited contents many game
   pub cause : AuditCause (findings game (logs_in game (behind_first contents) many)) status
 
+-- The file has a session, and a match in it has this cause.
+pub record IsScheduledSo (contents : Contents) (input : Input) (status : Status) : Type 0 where
+  pub game : Game
+  pub read : game_at (front_of (content contents 0)) ≡ Ok game
+  pub cause : ScheduleCause game input status
+
 -- Why the program may end so with this command, these files and this input. Want of memory and faults have their causes outside.
 abbrev pub HasCause : Option Command → Contents → Input → Status → Type 0
 HasCause command contents input NoMemory = Unit {0}
@@ -107,6 +114,8 @@ HasCause (Some (Judge j)) contents input status = IsJudged contents status
 HasCause (Some (Audit a)) contents input (BadSession line what) = session_fault (front_of (content contents 0)) ≡ Some (At line what)
 HasCause (Some (Audit a)) contents input (BadLog log at why) = IsBadLog contents (length a.logs) log at why
 HasCause (Some (Audit a)) contents input status = IsAuditedSo contents (length a.logs) status
+HasCause (Some (Schedule session)) contents input (BadSession line what) = session_fault (front_of (content contents 0)) ≡ Some (At line what)
+HasCause (Some (Schedule session)) contents input status = IsScheduledSo contents input status
 
 -- Words, files and input are such that the command can come to its end.
 abbrev pub IsGood : Option Command → Contents → Input → Type 0
@@ -115,6 +124,7 @@ IsGood (Some (Drive d)) contents input = (b : Beginning) × IsSet d contents b �
 IsGood (Some (Upgrade session)) contents input = HasGame (content contents 0)
 IsGood (Some (Judge j)) contents input = (case : Game × Exhibit) × IsCase contents case × (is_shown case.0 case.1 ≡ false)
 IsGood (Some (Audit a)) contents input = (game : Game) × AreAudited contents (length a.logs) game × (findings game (logs_in game (behind_first contents) (length a.logs)) ≡ [])
+IsGood (Some (Schedule session)) contents input = (game : Game) × (game_at (front_of (content contents 0)) ≡ Ok game) × IsPlayedOut game input AreClean
 
 -- What is behind the answer.
 abbrev pub IsMeant : Option Command → Contents → Input → Type 0
@@ -124,3 +134,4 @@ IsMeant (Some (Upgrade session)) contents input = (game : Game) → game_at (fro
 IsMeant (Some (Judge j)) contents input = Unit {0}
 IsMeant (Some (Audit a)) contents input = (game : Game) → AreAudited contents (length a.logs) game → AreFiles (behind_first contents) (length a.logs) →
     TellsAudit game (owners_in game (behind_first contents) (length a.logs)) (logs_in game (behind_first contents) (length a.logs)) (answer_of (Some (Audit a)) contents input).body
+IsMeant (Some (Schedule session)) contents input = (game : Game) → game_at (front_of (content contents 0)) ≡ Ok game → TellsMatch game input (answer_of (Some (Schedule session)) contents input)

@@ -1,17 +1,17 @@
 -- Runs: what the program promises of a run.
-use Rattle.std.specs.Prelude.{◌≡◌, ◌⊎◌, ℕ, None, Option, List, ◌++◌}
+use Rattle.std.specs.Prelude.{◌≡◌, ◌⊎◌, ℕ, None, Option, List, ◌++◌, true}
 use Rattle.station.specs.Outside.{Rose}
 use Rattle.station.specs.Since.{since, Grows}
 use Rattle.station.specs.Sources.{SourceState}
 use Rattle.run_frame.specs.Ends.{Finished}
-use Rattle.run_frame.specs.Frame.{OnDone, OnNoMemory, Ran}
+use Rattle.run_frame.specs.Frame.{OnNoMemory, Ran}
 use Rattle.line_io.specs.Inputs.{AtEnd, AtFault, Input, MayFollow, input_of}
 use Rattle.run_frame.specs.Turns.{input_by}
 use Rattle.run_frame.specs.declared.statuses.Status.{Status}
 use Rattle.run_frame.specs.declared.statuses.Status.TheVariants.{Done, NoMemory, OutputFault, Usage}
 use Rattle.peer_cli.specs.Words.{Command}
 use Rattle.line_io.specs.Files.{AreContents, Calls, Contents}
-use Rattle.peer_cli.specs.Commands.{IsOverAtFirst, ReadsFor, ReadsThrough, answer_of, takes_late}
+use Rattle.peer_cli.specs.Commands.{IsOverAtFirst, ReadsFor, ReadsThrough, answer_of, takes_first, takes_late}
 use Rattle.peer_cli.specs.Causes.{HasCause, IsGood, IsMeant}
 use Rattle.peer_cli.specs.Outside.{CountsFaults, Outside}
 
@@ -70,8 +70,8 @@ pub record IsCaused (run : Run) (calls : Calls) (status : Status) : Type 0 where
 pub record LeavesAlone (run : Run) (calls : Calls) (alone : Type 0) (status : Status) : Type 0 where
   -- where there is no session, player or log to begin with, or that log has a finding
   pub over : ForAny run calls (λ contents behind. IsOverAtFirst run.command contents → alone)
-  -- where memory is wanting
-  pub no_memory : OnNoMemory status alone
+  -- where memory is wanting, by a command that takes it first
+  pub no_memory : OnNoMemory status (takes_first run.command ≡ true → alone)
 
 -- When the run comes to its end.
 pub record Completes (run : Run) (calls : Calls) (status : Status) : Type 0 where
@@ -80,7 +80,7 @@ pub record Completes (run : Run) (calls : Calls) (status : Status) : Type 0 wher
       ¬ Rose run.before.input.faults run.after.input.faults → ¬ Rose run.before.shelf.faults run.after.shelf.faults → ¬ Rose run.before.output.faults run.after.output.faults →
       (status ≡ Done) ⊎ (status ≡ NoMemory))
   -- at its end the input was read to its end, where it is read
-  pub over : OnDone status (ReadsThrough run.command run.after.input.ended)
+  pub over : ReadsThrough run.command status run.after.input.ended
 
 -- What the program promises of a run that ended with this status. `alone` says that the input was left alone.
 pub record Runs (run : Run) (alone : Type 0) (status : Status) : Type 0 where
@@ -115,4 +115,4 @@ pub record Works (run : Run) (alone : Type 0) (status : Status) : Type 0 where
   pub usage : run.command ≡ None → status ≡ Usage
   pub faults : CountsFaults run.before run.after status
   pub untouched : LeavesAlone run calls alone status
-  pub over : OnDone status (ReadsThrough run.command run.after.input.ended)
+  pub over : ReadsThrough run.command status run.after.input.ended

@@ -17,6 +17,7 @@ mod memory;
 mod old_logs;
 mod peers;
 mod program;
+mod scheduling;
 mod sessions;
 mod upgrading;
 mod words;

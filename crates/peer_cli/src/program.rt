@@ -8,6 +8,7 @@ ghost use Rattle.peer_cli.specs.Runs.{Runs, Works};
 use crate::auditing::audit_for;
 use crate::driving::drive_for;
 use crate::judging::judge_for;
+use crate::scheduling::schedule_for;
 use crate::upgrading::upgrade_for;
 use crate::words::{Command, read_command};
 use run_frame::{Status, refuse};
@@ -36,6 +37,7 @@ fn obey<I: Source, O: Sink, H: Shelf>(
         Command::Upgrade(session) => upgrade_for(alloc, session, input, out, shelf),
         Command::Judge(words) => judge_for(alloc, words, input, out, shelf),
         Command::Audit(words) => audit_for(alloc, words, input, out, shelf),
+        Command::Schedule(session) => schedule_for(alloc, session, input, out, shelf),
     }
 }
 
@@ -65,7 +67,8 @@ fn work<I: Source, O: Sink, H: Shelf>(
 /// for the player of the session in that file, and writes what the peer does; `drive SESSION PLAYER OLD` does so with a peer
 /// that goes on from the log in the file OLD; `upgrade SESSION` prints the session in version 2; `judge SESSION EVIDENCE` says whether
 /// the frames of the exhibit in the file EVIDENCE show what it says; `audit SESSION LOG..` prints what the logs in these files, from 1 to
-/// 16, show together. The words are asked first, then the session, the player, the log, and then the
+/// 16, show together; `schedule SESSION` steps the honest peers of a match in that session by the lines of the input, and writes what
+/// came of each. The words are asked first, then the session, the player, the log, and then the
 /// input line by line; the first that is refused decides.
 pub fn run<I: Source, O: Sink, H: Shelf>(
     alloc: Global,

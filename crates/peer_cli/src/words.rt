@@ -8,6 +8,7 @@ ghost use Rattle.peer_cli.specs.Words as W;
 use audit_command::{AuditWords, read_audit_words};
 use drive_command::{DriveWords, read_drive_words};
 use judge_command::{JudgeWords, read_judge_words};
+use schedule_command::read_schedule_words;
 use std::str::from_utf8;
 use upgrade_command::read_upgrade_words;
 
@@ -22,6 +23,8 @@ pub(crate) enum Command<'a> {
     Judge(JudgeWords<'a>),
     /// What the logs of files show is printed.
     Audit(AuditWords<'a>),
+    /// The honest peers of a match in the session of this file are stepped by the input.
+    Schedule(&'a [u8]),
 }
 
 /// Whether the bytes are UTF-8.
@@ -76,6 +79,9 @@ fn read_named<'a>(name: &[u8], words: &'a [Vec<u8>]) -> Option<Command<'a>>
     } else if name == b"audit".as_slice() {
         let words = read_audit_words(words)?;
         Some(Command::Audit(words))
+    } else if name == b"schedule".as_slice() {
+        let session = read_schedule_words(words)?;
+        Some(Command::Schedule(session))
     } else {
         None
     }

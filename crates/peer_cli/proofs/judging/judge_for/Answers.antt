@@ -2,7 +2,7 @@ use Rattle.std.proofs.Common.{refl, ap}
 use Rattle.peer_cli.specs.Words.{Judge}
 use Rattle.judge_command.specs.Judge.{judge_answer}
 use Rattle.judge_command.specs.Words.{judging_said}
-use Rattle.peer_cli.proofs.Alone.{on_done, refused_works, told_so}
+use Rattle.peer_cli.proofs.Alone.{refused_works, told_so}
 use Rattle.peer_cli.proofs.Judged.{case_reads, case_refused}
 use Rattle.peer_cli.proofs.judging.judge_for.Goals as goal
 
@@ -10,7 +10,7 @@ pub returns-in-Ok : goal.returns-in-Ok
 returns-in-Ok g c =
     let o = c.in-Ok.ensures in
     told_so (Judge (judging_said c.args.words)) _ _ _ _ _ refl o.calls (case_reads _ _ (judging_said c.args.words) _ o) _ _ c.judge_exhibit.result
-    (λ contents input given. ap judge_answer (o.due contents given)) o.counted c.judge_exhibit.ensures (on_done c.judge_exhibit.result)
+    (λ contents input given. ap judge_answer (o.due contents given)) o.counted c.judge_exhibit.ensures tt
 
 pub returns-in-Err : goal.returns-in-Err
 returns-in-Err g c =

@@ -2,7 +2,7 @@ use Rattle.std.proofs.Common.{refl, ap}
 use Rattle.line_io.specs.Files.{content}
 use Rattle.peer_cli.specs.Words.{Upgrade}
 use Rattle.upgrade_command.specs.Upgrade.{upgrade_answer}
-use Rattle.peer_cli.proofs.Alone.{on_done, refused_works, told_so}
+use Rattle.peer_cli.proofs.Alone.{refused_works, told_so}
 use Rattle.peer_cli.proofs.Upgrades.{session_reads, unread_refused}
 use Rattle.peer_cli.proofs.upgrading.upgrade_for.Goals as goal
 
@@ -10,7 +10,7 @@ pub returns-in-Ok : goal.returns-in-Ok
 returns-in-Ok g c =
     let o = c.in-Ok.ensures in
     told_so (Upgrade c.args.session.now) _ _ _ _ _ refl _ (session_reads _ _ _ _ o) _ _ c.upgrade.result
-    (λ contents input given. ap upgrade_answer (o.due (content contents 0) (given 0))) o.fetched.counted c.upgrade.ensures (on_done c.upgrade.result)
+    (λ contents input given. ap upgrade_answer (o.due (content contents 0) (given 0))) o.fetched.counted c.upgrade.ensures tt
 
 pub returns-in-Err : goal.returns-in-Err
 returns-in-Err g c =
