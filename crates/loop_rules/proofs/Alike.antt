@@ -14,7 +14,7 @@ use Rattle.socket_lines.specs.declared.giving.Due.TheVariants as U
 use Rattle.socket_lines.specs.declared.line.Line.{Line}
 use Rattle.socket_lines.specs.declared.seat.Seat.{Seat}
 use Rattle.socket_lines.specs.Seats.{obeys, may_want}
-use Rattle.socket_lines.specs.Lines.{player_of, is_named, named_line, doomed, moved_to}
+use Rattle.socket_lines.specs.Lines.{player_of, is_named, named_line, doomed, moved_to, closed, quieted, blocked, woken}
 use Rattle.socket_lines.specs.Giving.{Desk, Speaker, due_on, due_bytes, marked, begun, ended_with, left_with}
 use Rattle.loop_rules.specs.Tables.{Table, line_of, seat_of, seat_by, in_lines, at_line, at_seat, desk_with}
 use Rattle.loop_rules.specs.Hearing.{Hearer, names, ousted, named, with_name_free, heard_first, obeyed, arrived, heard_named, heard_by, heard_on, heard, counted, counted_on, read_on, read_at, heard_all, took_with}
@@ -87,13 +87,25 @@ differ_alike (l ∷ ls) (m ∷ ms) a d = (not_in_other l.socket m.socket ms (sym
 
 -- ---- the changes of the rules
 
-doomed_same : (l : Line) → Same l (doomed l)
+pub closed_same : (l : Line) → Same l (closed l)
+closed_same l = record { socket = refl; opened = λ e. absurd (false≢true e); dialled = refl; wrong = λ e. e }
+
+pub quieted_same : (l : Line) → Same l (quieted l)
+quieted_same l = record { socket = refl; opened = λ e. e; dialled = refl; wrong = λ e. e }
+
+pub blocked_same : (l : Line) → Same l (blocked l)
+blocked_same l = record { socket = refl; opened = λ e. e; dialled = refl; wrong = λ e. e }
+
+pub woken_same : (l : Line) → Same l (woken l)
+woken_same l = record { socket = refl; opened = λ e. e; dialled = refl; wrong = λ e. e }
+
+pub doomed_same : (l : Line) → Same l (doomed l)
 doomed_same l = record { socket = refl; opened = λ e. e; dialled = refl; wrong = λ e. refl }
 
-ousted_same : (q : ℕ) (l : Line) → Same l (ousted q l)
+pub ousted_same : (q : ℕ) (l : Line) → Same l (ousted q l)
 ousted_same q l = same_if (is_named q l) l (doomed l) (doomed_same l)
 
-named_same : (q from next : ℕ) (l : Line) → Same l (named_line q from next l)
+pub named_same : (q from next : ℕ) (l : Line) → Same l (named_line q from next l)
 named_same q from next l = record { socket = refl; opened = λ e. e; dialled = refl; wrong = λ e. e }
 
 pub alike_named : (h : Hearer) (t : Table) (s : ℕ) (l : Line) (q from : ℕ) → Alike t.lines (named h t s l q from).lines
@@ -114,7 +126,7 @@ alike_first h t s l (Hello id q pass from) = alike_if t.lines (names h t l id q 
 alike_first h t s l (Turn f) = alike_doomed s t
 alike_first h t s l (Want place) = alike_doomed s t
 
-moved_same : (place : ℕ) (l : Line) → Same l (moved_to place l)
+pub moved_same : (place : ℕ) (l : Line) → Same l (moved_to place l)
 moved_same place l = go l.sending
   where
     go : (o : Option ℕ) → Same l (moved_to place (record l { sending = o }))
@@ -151,7 +163,7 @@ alike_heard_all h s g t =
     let u = fold (heard h s) t g.frames in
     alike_if t.lines g.reader.bad (at_line s doomed u) u (alike_then t.lines u.lines (at_line s doomed u).lines (alike_frames h s t g.frames) (alike_doomed s u)) (alike_frames h s t g.frames)
 
-read_same : (count : ℕ) (g : Given) (l : Line) → Same l (read_on count g l)
+pub read_same : (count : ℕ) (g : Given) (l : Line) → Same l (read_on count g l)
 read_same count g l = go l.name
   where
     go : (o : Option ℕ) → Same l (record (counted_on o count l) { reader = g.reader })

@@ -9,6 +9,7 @@ use Rattle.socket_station.specs.declared.answers.Ready.TheVariants.{Opened, Sock
 use Rattle.socket_station.specs.declared.answers.Standing.{Standing}
 use Rattle.socket_station.specs.declared.answers.Standing.TheVariants.{Fresh, Open, Closed}
 use Rattle.socket_station.specs.Items.{Item, ListenCall, LogCall, DialCall, PollCall, ReadCall, WriteCall, KeepCall, SyncCall, Listening, LogBegun, Dialled, Polled, Took, Gave, ReadNotYet, WriteNotYet, Ended, Failed, Shut, Kept, Synced}
+use Rattle.socket_station.proofs.Histories.{standing-more}
 use Rattle.socket_station.specs.Standings.{opens, standing_after, standing_in, AreNew, OpensNew}
 use Rattle.socket_lines.specs.declared.limits.TheConstants.{MOST_ACCEPTED}
 use Rattle.socket_lines.specs.declared.line.Line.{Line}
@@ -32,7 +33,7 @@ use Rattle.loop_rules.specs.Laws.{ToldGoesOn}
 use Rattle.loop_rules.specs.Histories.{are_allowed}
 use Rattle.loop_rules.proofs.Prefixes.{added}
 use Rattle.loop_rules.proofs.Kept.{keeps_took, keeps_sorted}
-use Rattle.loop_rules.proofs.Alike.{Same, Alike, alike, alike_at, each_alike, differ_alike, alike_took, alike_gave}
+use Rattle.loop_rules.proofs.Alike.{Same, Alike, alike, alike_at, each_alike, differ_alike, alike_took, alike_gave, closed_same, quieted_same, blocked_same, woken_same}
 
 fold_last : {X Y : Type 0} (f : Y → X → Y) (y : Y) (xs : List X) (x : X) → fold f y (xs ++ x ∷ []) ≡ f (fold f y xs) x
 fold_last f y [] x = refl
@@ -46,10 +47,6 @@ eqb-sym m n = go (m == n) (n == m) refl refl
     go false false p q = refl
     go true false p q = sym (eq-eqb n m (sym (eqb-true m n p))) ∙ q
     go false true p q = sym p ∙ eq-eqb m n (sym (eqb-true n m q))
-
--- how a number stands behind one more item
-pub standing_behind : (items : List Item) (item : Item) (n : ℕ) → standing_in (items ++ item ∷ []) n ≡ standing_after n (standing_in items n) item
-standing_behind items item n = fold_last (standing_after n) Fresh items item
 
 passed_lines : (v : View) (a : Arrival) → (passed v a).table.lines ≡ v.table.lines
 passed_lines v a = go (is_far v.setting.game v.setting.me v.kept a.player a.frame)
@@ -67,7 +64,7 @@ IsStill item = (n : ℕ) (old : Standing) → standing_after n old item ≡ old
 stands_still : (items : List Item) (item : Item) (l m : Line) → IsStill item → Same l m → LineStands items l → LineStands (items ++ item ∷ []) m
 stands_still items item l m still k st =
     let eq : standing_in (items ++ item ∷ []) m.socket ≡ standing_in items l.socket =
-    standing_behind items item m.socket ∙ still m.socket (standing_in items m.socket) ∙ ap (standing_in items) k.socket in
+    standing-more items item m.socket ∙ still m.socket (standing_in items m.socket) ∙ ap (standing_in items) k.socket in
     record { used = λ e. st.used (sym eq ∙ e); opened = λ e. eq ∙ st.opened (k.opened e) }
 
 pub each_still : (items : List Item) (item : Item) (ls ms : List Line) → IsStill item → Alike ls ms → EachIs (LineStands items) ls → EachIs (LineStands (items ++ item ∷ [])) ms
@@ -82,14 +79,11 @@ each_still items item (l ∷ ls) (m ∷ ms) still a e = (stands_still items item
 abbrev pub Closes : ℕ → Item → Type 0
 Closes s item = (n : ℕ) (old : Standing) → standing_after n old item ≡ (if s == n then Closed else old)
 
-closed_same : (l : Line) → Same l (closed l)
-closed_same l = record { socket = refl; opened = λ e. absurd (false≢true e); dialled = refl; wrong = λ e. e }
-
 stands_closed : (items : List Item) (item : Item) (s : ℕ) (l : Line) → Closes s item → LineStands items l → LineStands (items ++ item ∷ []) (if l.socket == s then closed l else l)
 stands_closed items item s l c st = go (l.socket == s) refl
   where
     after_it : standing_in (items ++ item ∷ []) l.socket ≡ (if s == l.socket then Closed else standing_in items l.socket)
-    after_it = standing_behind items item l.socket ∙ c l.socket (standing_in items l.socket)
+    after_it = standing-more items item l.socket ∙ c l.socket (standing_in items l.socket)
 
     not_fresh : (b : Bool) → (if b then Closed else standing_in items l.socket) ≡ Fresh → ⊥
     not_fresh true e = cc
@@ -122,17 +116,17 @@ other_socket items s l f st = go (s == l.socket) refl
 each_dialled : (items : List Item) (s q next : ℕ) (item : Item) (ls : List Line) → ((n : ℕ) (old : Standing) → standing_after n old item ≡ (if s == n then Open else old)) →
     standing_in items s ≡ Fresh → EachIs (LineStands items) ls → EachIs (LineStands (items ++ item ∷ [])) (ls ++ dialled_line s q next ∷ [])
 each_dialled items s q next item [] c f e =
-    let eq : standing_in (items ++ item ∷ []) s ≡ Open = standing_behind items item s ∙ c s (standing_in items s) ∙ ap (λ (b : Bool). if b then Open else standing_in items s) (eq-eqb s s refl) in
+    let eq : standing_in (items ++ item ∷ []) s ≡ Open = standing-more items item s ∙ c s (standing_in items s) ∙ ap (λ (b : Bool). if b then Open else standing_in items s) (eq-eqb s s refl) in
     (record { used = λ x. (let y : Open ≡ Fresh = sym eq ∙ x in cc); opened = λ o. eq }, tt)
 each_dialled items s q next item (l ∷ ls) c f e =
-    let eq = standing_behind items item l.socket ∙ c l.socket (standing_in items l.socket) ∙ ap (λ (b : Bool). if b then Open else standing_in items l.socket) (other_socket items s l f e.0) in
+    let eq = standing-more items item l.socket ∙ c l.socket (standing_in items l.socket) ∙ ap (λ (b : Bool). if b then Open else standing_in items l.socket) (other_socket items s l f e.0) in
     (stands_if_fresh items item l eq e.0, each_dialled items s q next item ls c f e.1)
 
 pub not_in_fresh : (items : List Item) (s : ℕ) (ls : List Line) → standing_in items s ≡ Fresh → EachIs (LineStands items) ls → IsNotIn s ls
 not_in_fresh items s [] f e = tt
 not_in_fresh items s (l ∷ ls) f e = (λ q. e.0.used (ap (standing_in items) q ∙ f), not_in_fresh items s ls f e.1)
 
-not_in_last : (s : ℕ) (ls : List Line) (m : Line) → IsNotIn s ls → (m.socket ≡ s → ⊥) → IsNotIn s (ls ++ m ∷ [])
+pub not_in_last : (s : ℕ) (ls : List Line) (m : Line) → IsNotIn s ls → (m.socket ≡ s → ⊥) → IsNotIn s (ls ++ m ∷ [])
 not_in_last s [] m n k = (k, tt)
 not_in_last s (l ∷ ls) m n k = (n.0, not_in_last s ls m n.1 k)
 
@@ -142,7 +136,7 @@ differ_last (l ∷ ls) m n d = (not_in_last l.socket ls m d.0 (λ e. n.0 (sym e)
 
 -- ---- polls
 
-kept_open : (P : Line → Type 0) (ls : List Line) → EachIs P ls → EachIs P (filter (λ l. l.is_open) ls)
+pub kept_open : (P : Line → Type 0) (ls : List Line) → EachIs P ls → EachIs P (filter (λ l. l.is_open) ls)
 kept_open P [] e = tt
 kept_open P (l ∷ ls) e = go l.is_open (kept_open P ls e.1)
   where
@@ -150,7 +144,7 @@ kept_open P (l ∷ ls) e = go l.is_open (kept_open P ls e.1)
     go true r = (e.0, r)
     go false r = r
 
-differ_open : (ls : List Line) → Differ ls → Differ (filter (λ l. l.is_open) ls)
+pub differ_open : (ls : List Line) → Differ ls → Differ (filter (λ l. l.is_open) ls)
 differ_open [] d = tt
 differ_open (l ∷ ls) d = go l.is_open (differ_open ls d.1)
   where
@@ -182,7 +176,7 @@ opened_then s list standing n = go (s == n) (opens list n)
     go false true = refl
     go false false = refl
 
-or_false : (a b : Bool) → (a || b) ≡ false → (a ≡ false) × (b ≡ false)
+pub or_false : (a b : Bool) → (a || b) ≡ false → (a ≡ false) × (b ≡ false)
 or_false true b e = absurd (false≢true (sym e))
 or_false false b e = (refl, e)
 
@@ -211,9 +205,6 @@ new_to : (standing : ℕ → Standing) (s : ℕ) (ls : List Line) → standing s
 new_to standing s [] f e = tt
 new_to standing s (l ∷ ls) f e = (λ q. e.0.0 (ap standing q ∙ f), new_to standing s ls f e.1)
 
-woken_same : (l : Line) → Same l (woken l)
-woken_same l = record { socket = refl; opened = λ e. e; dialled = refl; wrong = λ e. e }
-
 stands_same : (standing : ℕ → Standing) (l m : Line) → Same l m → StandsBehind standing l → StandsBehind standing m
 stands_same standing l m k e = (λ q. e.0 (ap standing (sym k.socket) ∙ q), λ o. ap standing k.socket ∙ e.1 (k.opened o))
 
@@ -239,7 +230,7 @@ each_behind items (l ∷ ls) e = ((e.0.used, e.0.opened), each_behind items ls e
 each_in : (items : List Item) (list : List Ready) (ls : List Line) → EachIs (StandsBehind (opened_by list (standing_in items))) ls → EachIs (LineStands (items ++ Polled list ∷ [])) ls
 each_in items list [] e = tt
 each_in items list (l ∷ ls) e =
-    let eq = standing_behind items (Polled list) l.socket in
+    let eq = standing-more items (Polled list) l.socket in
     (record { used = λ q. e.0.0 (sym eq ∙ q); opened = λ o. eq ∙ e.0.1 o }, each_in items list ls e.1)
 
 setting_kept : (v : View) (o : Option Entry) → (kept_entry v o).setting ≡ v.setting
@@ -320,12 +311,6 @@ polled items v list t new =
     let u = rested v.table in
     let r = each_listed (standing_in items) list u new (each_behind items u.lines (kept_open (LineStands items) v.table.lines t.stand)) (differ_open v.table.lines t.differ) in
     (each_in items list (after v (Polled list)).table.lines r.0, r.1)
-
-quieted_same : (l : Line) → Same l (quieted l)
-quieted_same l = record { socket = refl; opened = λ e. e; dialled = refl; wrong = λ e. e }
-
-blocked_same : (l : Line) → Same l (blocked l)
-blocked_same l = record { socket = refl; opened = λ e. e; dialled = refl; wrong = λ e. e }
 
 stands_after : (items : List Item) (v : View) (item : Item) → IsTold items v → OpensNew items item → StandsAfter items v item
 stands_after items v (LogBegun name) t o = still items v (LogBegun name) t (λ n old. refl) (alike v.table.lines)

@@ -6,7 +6,7 @@ use Rattle.std.proofs.lemmas.Bool.{false≢true, ltb-true}
 use Rattle.std.proofs.lemmas.Option.{get_or_from_slice_get}
 use Rattle.std.proofs.Math.Seq.{take-append_seam}
 use Rattle.definitions.specs.Lists.{EachIs}
-use Rattle.socket_lines.specs.Lines.{closed, quieted, blocked, doomed, named_line, is_named, moved_to, unnamed_room}
+use Rattle.socket_lines.specs.Lines.{doomed, named_line, is_named, moved_to, unnamed_room}
 use Rattle.socket_lines.specs.Asks.{is_asked}
 use Rattle.socket_lines.specs.Seats as S
 use Rattle.wire_frames.specs.Streams.{Given}
@@ -17,7 +17,7 @@ use Rattle.socket_lines.specs.declared.line.Line.{Line}
 use Rattle.socket_lines.specs.declared.seat.Seat.{Seat}
 use Rattle.loop_rules.specs.Tables.{Table, at_line, at_seat}
 use Rattle.loop_rules.specs.Told.{HasNone, DiffersBy}
-use Rattle.loop_rules.proofs.Alike.{Same, same, Alike, alike, alike_map, differ_alike}
+use Rattle.loop_rules.proofs.Alike.{Same, same, Alike, alike, alike_map, differ_alike, ousted_same}
 use Rattle.socket_table.specs.Sound.{IsFitLine, IsFitSeat, HasLineRoom, IsSound, is_fine, is_dialled_for, spent_by, spent_of}
 use Rattle.socket_table.proofs.Keys.{put_at}
 use Rattle.socket_table.proofs.Counting.{count_cons, count_alike, fine_before, dialled_before, length_alike}
@@ -87,18 +87,6 @@ line_changed t v a b k socket f x m e s at i c kind fit =
       sound_line t a b k l m g (subst (Same l) (sym made) (kind l)) (subst (IsFitLine t.seats) (sym made) (fit l at.1 (each_at (IsFitLine t.seats) t.lines k l s.lines g))) s,
       line_put t a b k socket f l m s g at.2 made ∙ ap (at_line socket f) e,
     )
-
-pub closed_same : (l : Line) → Same l (closed l)
-closed_same l = record { socket = refl; opened = λ e. absurd (false≢true e); dialled = refl; wrong = λ e. e }
-
-pub quieted_same : (l : Line) → Same l (quieted l)
-quieted_same l = record { socket = refl; opened = λ e. e; dialled = refl; wrong = λ e. e }
-
-pub blocked_same : (l : Line) → Same l (blocked l)
-blocked_same l = record { socket = refl; opened = λ e. e; dialled = refl; wrong = λ e. e }
-
-pub doomed_same : (l : Line) → Same l (doomed l)
-doomed_same l = record { socket = refl; opened = λ e. e; dialled = refl; wrong = λ e. refl }
 
 -- ---- seats
 
@@ -212,9 +200,6 @@ fit_named cs q from next l e f =
     let z = ap (spent_of cs) e in
     record { taken = f.taken; read = omega (arith, r, z); sending = f.sending; dialled = f.dialled }
 
-pub named_same : (q from next : ℕ) (l : Line) → Same l (named_line q from next l)
-named_same q from next l = record { socket = refl; opened = λ e. e; dialled = refl; wrong = λ e. e }
-
 pub names_same : (taken from : ℕ) (c : Seat) → SameSeat c (S.names taken from c)
 names_same taken from c = record { link = refl; spent = omega arith; dialled = refl }
 
@@ -232,9 +217,6 @@ ousted_is P q l x y = go (is_named q l)
     go : (b : Bool) → P (if b then doomed l else l)
     go true = y
     go false = x
-
-pub ousted_same : (q : ℕ) (l : Line) → Same l (ousted q l)
-ousted_same q l = ousted_is (Same l) q l (same l) (doomed_same l)
 
 pub fit_ousted : (cs : List Seat) (q : ℕ) (l : Line) → IsFitLine cs l → IsFitLine cs (ousted q l)
 fit_ousted cs q l f = ousted_is (IsFitLine cs) q l f (record { taken = f.taken; read = f.read; sending = f.sending; dialled = f.dialled })
@@ -273,9 +255,6 @@ moved_is P want l x y = go (is_some l.sending)
     go true = x
     go false = y
 
-pub moved_same : (want : ℕ) (l : Line) → Same l (moved_to want l)
-moved_same want l = moved_is (Same l) want l (record { socket = refl; opened = λ e. e; dialled = refl; wrong = λ e. e }) (record { socket = refl; opened = λ e. e; dialled = refl; wrong = λ e. e })
-
 pub fit_moved : (cs : List Seat) (want : ℕ) (l : Line) → IsFitLine cs l → IsFitLine cs (moved_to want l)
 fit_moved cs want l f = moved_is (IsFitLine cs) want l (record { taken = f.taken; read = f.read; sending = f.sending; dialled = f.dialled }) (record { taken = f.taken; read = f.read; sending = f.sending; dialled = f.dialled })
 
@@ -299,13 +278,6 @@ pub fit_spends : (count : ℕ) (c : Seat) → count ≤ S.room_of c → IsFitSea
 fit_spends count c r f = omega (arith, r, f)
 
 -- ---- bytes on a socket
-
-pub read_same : (count : ℕ) (g : Given) (l : Line) → Same l (read_on count g l)
-read_same count g l = go l.name
-  where
-    go : (o : Option ℕ) → Same l (record (counted_on o count l) { reader = g.reader })
-    go None = record { socket = refl; opened = λ e. e; dialled = refl; wrong = λ e. e }
-    go (Some q) = record { socket = refl; opened = λ e. e; dialled = refl; wrong = λ e. e }
 
 pub fit_read : (cs : List Seat) (count : ℕ) (g : Given) (l : Line) → g.reader.place ≤ l.reader.place + count → IsFitLine cs l → (l.name ≡ None → count ≤ unnamed_room l) →
     ((q : ℕ) → l.name ≡ Some q → l.reader.place + count ≤ l.taken + spent_of cs (Some q)) → IsFitLine cs (read_on count g l)

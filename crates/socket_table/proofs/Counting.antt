@@ -1,5 +1,5 @@
 -- Counting: lines that change are no more than they were.
-use Rattle.std.proofs.Common.{◌≡◌, ℕ, suc, ◌+◌, ◌≤◌, Bool, true, false, refl, sym, ap, ◌∙◌, List, [], ◌∷◌, arith, length}
+use Rattle.std.proofs.Common.{◌≡◌, ℕ, suc, ◌+◌, ◌≤◌, Bool, true, false, refl, sym, ap, ◌∙◌, List, [], ◌∷◌, ◌++◌, arith, length}
 use Rattle.std.specs.Prelude.{Option, ◌&&◌, not, is_none, cond}
 use Rattle.std.specs.List.{count_by}
 use Rattle.std.proofs.lemmas.Bool.{and_parts, false≢true}
@@ -55,3 +55,7 @@ length_alike [] [] a = refl
 length_alike [] (m ∷ ms) a = absurd a
 length_alike (l ∷ ls) [] a = absurd a
 length_alike (l ∷ ls) (m ∷ ms) a = ap suc (length_alike ls ms a.1)
+
+pub length_more : {X : Type 0} (xs : List X) (x : X) → length (xs ++ x ∷ []) ≡ length xs + 1
+length_more [] x = omega arith
+length_more (y ∷ ys) x = let r = length_more ys x in omega (arith, r)

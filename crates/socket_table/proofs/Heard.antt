@@ -1,5 +1,5 @@
 -- Heard: what the frames do that come on a socket, by the places of its line and its player's seat.
-use Rattle.std.proofs.Common.{◌≡◌, ℕ, zero, suc, ◌+◌, ◌<◌, ◌≤◌, Bool, true, false, refl, sym, ap, subst, ◌∙◌, List, [], ◌∷◌, ◌++◌, arith, length, get_or}
+use Rattle.std.proofs.Common.{◌≡◌, ℕ, zero, suc, ◌+◌, ◌<◌, ◌≤◌, Bool, true, false, refl, sym, ap, subst, ◌∙◌, List, [], ◌∷◌, arith, length, get_or}
 use Rattle.std.specs.Prelude.{Option, Some, None, ◌==◌, drop, find, map, slice_get, if◌then◌else◌}
 use Rattle.std.specs.List.{fold}
 use Rattle.std.proofs.lemmas.Bool.{eq-eqb}
@@ -22,6 +22,7 @@ use Rattle.loop_rules.proofs.Alike.{Alike, alike_heard}
 use Rattle.socket_table.specs.Finding.{IsAt, IsSeatAt, IsNaming}
 use Rattle.socket_table.specs.Hearers.{ArePlayers}
 use Rattle.socket_table.specs.Sound.{IsSound}
+use Rattle.socket_table.proofs.Counting.{length_more}
 use Rattle.socket_table.proofs.Keys.{found_at, none_changed}
 use Rattle.socket_table.proofs.Changed.{each_at}
 
@@ -187,14 +188,10 @@ obeyed_waits : (t : Table) (s q want : ℕ) (o : Option Seat) → length (obeyed
 obeyed_waits t s q want None = omega arith
 obeyed_waits t s q want (Some c) = more_waits t.waiting (S.may_want c) (at_seat q S.obeys (at_line s (moved_to want) t)) t (omega arith) (omega arith)
 
-length_last : (ws : List Arrival) (a : Arrival) → length (ws ++ a ∷ []) ≡ length ws + 1
-length_last [] a = omega arith
-length_last (w ∷ ws) a = let r = length_last ws a in omega (arith, r)
-
 named_waits : (t : Table) (s q : ℕ) (f : Frame) → length (heard_named t s q f).waiting ≤ length t.waiting + 1
 named_waits t s q (Hello id p pass from) = omega arith
 named_waits t s q (Turn f) =
-    let r = length_last t.waiting (record { player = q; frame = f }) in
+    let r = length_more t.waiting (record { player = q; frame = f }) in
     more_waits t.waiting (G.player_of f == q) (arrived t q f) (at_line s doomed t) (omega (arith, r)) (omega arith)
 named_waits t s q (Want place) = obeyed_waits t s q place (seat_of t q)
 

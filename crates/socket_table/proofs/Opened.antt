@@ -20,7 +20,7 @@ use Rattle.socket_table.specs.Finding.{IsSeatAt}
 use Rattle.socket_table.specs.Opening.{HasDialRoom}
 use Rattle.socket_table.specs.Sound.{IsFitLine, IsFitSeat, IsSound, is_fine, is_dialled_for, spent_by, spent_of}
 use Rattle.socket_table.proofs.Keys.{put_at}
-use Rattle.socket_table.proofs.Counting.{count_cons}
+use Rattle.socket_table.proofs.Counting.{count_cons, length_more}
 use Rattle.socket_table.proofs.Changed.{whole_written, sound_map, each_set, each_at, each_rises, rises_set, differ_seats, length_set}
 
 -- ---- all lines are changed
@@ -110,10 +110,6 @@ dial_changed t v a b k q x m e s at i c =
 pub each_last : (P : Line → Type 0) (xs : List Line) (x : Line) → EachIs P xs → P x → EachIs P (xs ++ x ∷ [])
 each_last P [] x e p = (p, tt)
 each_last P (y ∷ ys) x e p = (e.0, each_last P ys x e.1 p)
-
-pub length_more : (xs : List Line) (x : Line) → length (xs ++ x ∷ []) ≡ length xs + 1
-length_more [] x = omega arith
-length_more (y ∷ ys) x = let r = length_more ys x in omega (arith, r)
 
 pub sound_open : (t : Table) (a b c s : ℕ) (wrong : Bool) (n : ℕ) (ms : List Line) → IsSound t a b → a ≤ c → IsNotIn s t.lines → length t.lines < MOST_LINES → ms ≡ t.lines ++ accepted_line s wrong ∷ [] →
     t.accepted ≤ n → n ≤ MOST_ACCEPTED → (wrong ≡ false → t.accepted + 1 ≤ n) → IsSound (record t { lines = ms; accepted = n }) c b

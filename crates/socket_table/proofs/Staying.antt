@@ -14,16 +14,17 @@ use Rattle.socket_station.specs.Standings.{opens}
 use Rattle.socket_lines.specs.declared.limits.TheConstants.{MOST_ACCEPTED}
 use Rattle.socket_lines.specs.Seats as S
 use Rattle.socket_lines.specs.Lines.{is_player, accepted_line, woken}
-use Rattle.loop_rules.specs.Told.{Differ, IsNotIn}
+use Rattle.loop_rules.specs.Told.{IsNotIn}
 use Rattle.loop_rules.specs.After.{listed, opened_on, rested}
+use Rattle.loop_rules.proofs.Told.{kept_open, differ_open, not_in_last, or_false}
 use Rattle.loop_rules.proofs.Alike.{Alike, alike_map, not_in_alike}
 use Rattle.socket_table.specs.declared.table.TheConstants.{MOST_LINES}
 use Rattle.socket_table.specs.Opening.{AreNewTo}
 use Rattle.loop_rules.specs.Tables.{Table, room_on, asks_shut, at_line, in_lines}
 use Rattle.loop_rules.specs.Licence.{all_is_shut}
 use Rattle.socket_table.specs.Sound.{IsFitLine, IsByte, IsSound, is_fine, is_dialled_for}
-use Rattle.socket_table.proofs.Counting.{count_cons, length_alike}
-use Rattle.socket_table.proofs.Opened.{length_more, woken_same}
+use Rattle.socket_table.proofs.Counting.{count_cons, length_alike, length_more}
+use Rattle.socket_table.proofs.Opened.{woken_same}
 
 -- an open socket that was dialled for a player with a number below
 abbrev below : ℕ → Option ℕ → Bool
@@ -129,22 +130,6 @@ few_stay t v a b e s shut =
 
 -- ---- the table without those that are closed
 
-each_open : (P : Line → Type 0) (ls : List Line) → EachIs P ls → EachIs P (filter (λ l. l.is_open) ls)
-each_open P [] e = tt
-each_open P (l ∷ ls) e = go l.is_open (each_open P ls e.1)
-  where
-    go : (b : Bool) → EachIs P (filter (λ m. m.is_open) ls) → EachIs P (if b then l ∷ filter (λ m. m.is_open) ls else filter (λ m. m.is_open) ls)
-    go true r = (e.0, r)
-    go false r = r
-
-differ_open : (ls : List Line) → Differ ls → Differ (filter (λ l. l.is_open) ls)
-differ_open [] d = tt
-differ_open (l ∷ ls) d = go l.is_open (differ_open ls d.1)
-  where
-    go : (b : Bool) → Differ (filter (λ m. m.is_open) ls) → Differ (if b then l ∷ filter (λ m. m.is_open) ls else filter (λ m. m.is_open) ls)
-    go true r = (each_open (λ m. m.socket ≡ l.socket → ⊥) ls d.0, r)
-    go false r = r
-
 count_open : (p : Line → Bool) (ls : List Line) → count_by p (filter (λ l. l.is_open) ls) ≤ count_by p ls
 count_open p [] = omega arith
 count_open p (l ∷ ls) = go l.is_open (count_open p ls)
@@ -160,7 +145,7 @@ pub sound_stays : (t : Table) (a b c : ℕ) (ms : List Line) → IsSound t a b �
 sound_stays t a b c ms s e cap = subst (λ (ls : List Line). IsSound (record t { lines = ls }) c b) (sym e) (record {
   sockets = differ_open t.lines s.sockets;
   players = s.players;
-  lines = each_open (IsFitLine t.seats) t.lines s.lines;
+  lines = kept_open (IsFitLine t.seats) t.lines s.lines;
   seats = s.seats;
   room = record {
     accepted = s.room.accepted;
@@ -176,25 +161,17 @@ sound_stays t a b c ms s e cap = subst (λ (ls : List Line). IsSound (record t {
 -- ---- what a poll lists is new to the lines
 
 not_in_open : (n : ℕ) (ls : List Line) → IsNotIn n ls → IsNotIn n (filter (λ l. l.is_open) ls)
-not_in_open n ls d = each_open (λ m. m.socket ≡ n → ⊥) ls d
+not_in_open n ls d = kept_open (λ m. m.socket ≡ n → ⊥) ls d
 
 pub new_to_open : (ls : List Line) (list : List Ready) → AreNewTo ls list → AreNewTo (filter (λ l. l.is_open) ls) list
 new_to_open ls [] n = tt
 new_to_open ls (Opened s ∷ list) n = (not_in_open s ls n.0, n.1, new_to_open ls list n.2)
 new_to_open ls (Seems s ∷ list) n = new_to_open ls list n
 
-not_in_last : (s : ℕ) (ls : List Line) (m : Line) → IsNotIn s ls → (m.socket ≡ s → ⊥) → IsNotIn s (ls ++ m ∷ [])
-not_in_last s [] m n k = (k, tt)
-not_in_last s (l ∷ ls) m n k = (n.0, not_in_last s ls m n.1 k)
-
-or_none : (a b : Bool) → (a || b) ≡ false → (a ≡ false) × (b ≡ false)
-or_none true b e = absurd (false≢true (sym e))
-or_none false b e = (refl, e)
-
 pub new_to_more : (s : ℕ) (wrong : Bool) (ls : List Line) (list : List Ready) → opens list s ≡ false → AreNewTo ls list → AreNewTo (ls ++ accepted_line s wrong ∷ []) list
 new_to_more s wrong ls [] o n = tt
 new_to_more s wrong ls (Opened m ∷ list) o n =
-    let p = or_none (m == s) (opens list s) o in
+    let p = or_false (m == s) (opens list s) o in
     (not_in_last m ls (accepted_line s wrong) n.0 (λ e. false≢true (sym p.0 ∙ eq-eqb m s (sym e))), n.1, new_to_more s wrong ls list p.1 n.2)
 new_to_more s wrong ls (Seems m ∷ list) o n = new_to_more s wrong ls list o n
 

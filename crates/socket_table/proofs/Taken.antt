@@ -12,8 +12,7 @@ use Rattle.loop_rules.specs.Hearing.{Hearer, heard, counted, read_on, read_at, h
 use Rattle.socket_table.specs.Finding.{IsAt, IsSeatAt, IsNamedSeat}
 use Rattle.socket_table.specs.Sound.{IsFitLine, spent_by, spent_of}
 use Rattle.wire_frames.specs.declared.frames.Frame.{Frame}
-use Rattle.loop_rules.proofs.Alike.{alike_at, alike_frames}
-use Rattle.socket_table.proofs.Changed.{read_same}
+use Rattle.loop_rules.proofs.Alike.{alike_at, alike_frames, read_same}
 use Rattle.socket_table.proofs.Heard.{Linked, linked_seats, at_alike}
 
 -- ---- whose bytes they are

@@ -1,5 +1,6 @@
 use Rattle.socket_lines.specs.Lines.{blocked}
-use Rattle.socket_table.proofs.Changed.{line_changed, blocked_same}
+use Rattle.loop_rules.proofs.Alike.{blocked_same}
+use Rattle.socket_table.proofs.Changed.{line_changed}
 use Rattle.socket_table.proofs.table.Table.block.Goals as goal
 
 pub invariant_of-self : goal.invariant_of-self

@@ -1,5 +1,6 @@
 use Rattle.socket_lines.specs.Lines.{closed}
-use Rattle.socket_table.proofs.Changed.{line_changed, closed_same}
+use Rattle.loop_rules.proofs.Alike.{closed_same}
+use Rattle.socket_table.proofs.Changed.{line_changed}
 use Rattle.socket_table.proofs.table.Table.close.Goals as goal
 
 pub invariant_of-self : goal.invariant_of-self

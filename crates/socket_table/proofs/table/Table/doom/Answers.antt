@@ -1,5 +1,6 @@
 use Rattle.socket_lines.specs.Lines.{doomed}
-use Rattle.socket_table.proofs.Changed.{line_changed, doomed_same}
+use Rattle.loop_rules.proofs.Alike.{doomed_same}
+use Rattle.socket_table.proofs.Changed.{line_changed}
 use Rattle.socket_table.proofs.table.Table.doom.Goals as goal
 
 pub invariant_of-self : goal.invariant_of-self

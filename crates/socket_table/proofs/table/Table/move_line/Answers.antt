@@ -1,5 +1,6 @@
 use Rattle.socket_lines.specs.Lines.{moved_to}
-use Rattle.socket_table.proofs.Changed.{line_changed, moved_same, fit_moved}
+use Rattle.loop_rules.proofs.Alike.{moved_same}
+use Rattle.socket_table.proofs.Changed.{line_changed, fit_moved}
 use Rattle.socket_table.proofs.table.Table.move_line.Goals as goal
 
 pub invariant_of-self : goal.invariant_of-self

@@ -1,5 +1,6 @@
 use Rattle.socket_lines.specs.Lines.{named_line}
-use Rattle.socket_table.proofs.Changed.{line_changed, named_same, fit_named}
+use Rattle.loop_rules.proofs.Alike.{named_same}
+use Rattle.socket_table.proofs.Changed.{line_changed, fit_named}
 use Rattle.socket_table.proofs.table.Table.put_name.Goals as goal
 
 pub invariant_of-self : goal.invariant_of-self

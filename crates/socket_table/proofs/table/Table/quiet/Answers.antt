@@ -1,5 +1,6 @@
 use Rattle.socket_lines.specs.Lines.{quieted}
-use Rattle.socket_table.proofs.Changed.{line_changed, quieted_same}
+use Rattle.loop_rules.proofs.Alike.{quieted_same}
+use Rattle.socket_table.proofs.Changed.{line_changed}
 use Rattle.socket_table.proofs.table.Table.quiet.Goals as goal
 
 pub invariant_of-self : goal.invariant_of-self

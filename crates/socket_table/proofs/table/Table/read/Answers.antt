@@ -6,7 +6,8 @@ use Rattle.socket_lines.specs.declared.seat.Seat.{Seat}
 use Rattle.loop_rules.specs.Tables.{Table, at_line}
 use Rattle.loop_rules.specs.Hearing.{read_on}
 use Rattle.socket_table.specs.Sound.{spent_of}
-use Rattle.socket_table.proofs.Changed.{line_changed, line_read, line_fits, place_few, read_same, fit_read}
+use Rattle.loop_rules.proofs.Alike.{read_same}
+use Rattle.socket_table.proofs.Changed.{line_changed, line_read, line_fits, place_few, fit_read}
 use Rattle.socket_table.proofs.table.Table.read.Goals as goal
 
 pub read_line-requires-clause-place : goal.read_line-requires-clause-place
