@@ -28,9 +28,9 @@ log_name (LogBegun name) = Some name
 log_name (Failed call) = name_asked call
 log_name _ = None
 
--- the first item begins the log of this name, or is the failure of that
+-- there is a first item, and it begins the log of this name, or is the failure of that
 abbrev pub BeginsLog : (name : List ℕ) → List Item → Type 0
-BeginsLog name [] = Unit {0}
+BeginsLog name [] = ⊥
 BeginsLog name (item ∷ items) = log_name item ≡ Some name
 
 -- how a run ended: with all that came handled, or at an own move that is not legal, before the rest was handled

@@ -39,7 +39,8 @@ impl Unsent {
 
     /// The bytes that are left.
     pub fn bytes(&self) -> &[u8]
-        ensures { result.now ≡ self.now }
+        ensures bytes { result.now ≡ self.now }
+        ensures few { length result.now ≤ 64 }
     {
         &self.bytes[self.from..self.to]
     }

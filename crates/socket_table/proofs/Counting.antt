@@ -3,14 +3,11 @@ use Rattle.std.proofs.Common.{◌≡◌, ℕ, suc, ◌+◌, ◌≤◌, Bool, tru
 use Rattle.std.specs.Prelude.{Option, ◌&&◌, not, is_none, cond}
 use Rattle.std.specs.List.{count_by}
 use Rattle.std.proofs.lemmas.Bool.{and_parts, false≢true}
-use Rattle.std.proofs.lemmas.List.Sums.{sum_by-cons}
 use Rattle.socket_lines.specs.declared.line.Line.{Line}
 use Rattle.socket_lines.specs.Lines.{is_player}
 use Rattle.loop_rules.proofs.Alike.{Same, Alike}
+use Rattle.table_laws.proofs.Pairs.{count_cons}
 use Rattle.socket_table.specs.Sound.{is_fine, is_dialled_for}
-
-pub count_cons : {X : Type 0} (p : X → Bool) (x : X) (xs : List X) → count_by p (x ∷ xs) ≡ cond (p x) 1 0 + count_by p xs
-count_cons p x xs = sum_by-cons (λ y. cond (p y) 1 0) x xs
 
 -- where what is counted behind the change was counted before
 pub count_alike : (p : Line → Bool) → ((l m : Line) → Same l m → p m ≡ true → p l ≡ true) → (ls ms : List Line) → Alike ls ms → count_by p ms ≤ count_by p ls

@@ -23,7 +23,7 @@ use Rattle.socket_table.specs.Finding.{IsAt, IsSeatAt, IsNaming}
 use Rattle.socket_table.specs.Hearers.{ArePlayers}
 use Rattle.socket_table.specs.Sound.{IsSound}
 use Rattle.socket_table.proofs.Counting.{length_more}
-use Rattle.socket_table.proofs.Keys.{found_at, none_changed}
+use Rattle.table_laws.proofs.Keys.{found_at, none_changed}
 use Rattle.socket_table.proofs.Changed.{each_at}
 
 -- ---- the line at its place

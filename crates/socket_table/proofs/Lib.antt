@@ -1,4 +1,3 @@
-pub mod Keys
 pub mod Counting
 pub mod Changed
 pub mod Named

@@ -23,7 +23,8 @@ use Rattle.socket_table.specs.Opening.{AreNewTo}
 use Rattle.loop_rules.specs.Tables.{Table, room_on, asks_shut, at_line, in_lines}
 use Rattle.loop_rules.specs.Licence.{all_is_shut}
 use Rattle.socket_table.specs.Sound.{IsFitLine, IsByte, IsSound, is_fine, is_dialled_for}
-use Rattle.socket_table.proofs.Counting.{count_cons, length_alike, length_more}
+use Rattle.table_laws.proofs.Pairs.{count_cons}
+use Rattle.socket_table.proofs.Counting.{length_alike, length_more}
 use Rattle.socket_table.proofs.Opened.{woken_same}
 
 -- an open socket that was dialled for a player with a number below

@@ -1,0 +1,11 @@
+pub mod Keys
+pub mod Pairs
+pub mod Hearing
+pub mod Giving
+pub mod Seats
+pub mod Waiting
+pub mod Rooms
+pub mod Reading
+pub mod Milder
+pub mod Work
+pub mod Others
