@@ -8,8 +8,10 @@ def sha(data):
     return hashlib.sha256(data).digest()
 
 
+# a session of version 2, where it has more players than one of version 1 may have
 def session_of(players, turns):
-    text = f"playout 1\ngrid 16 1\nrules 1 0 0\ncharge 1 2 1\nturns {turns}\nplayers {players}\n"
+    version, ahead = (1, "") if players <= 16 else (2, "ahead 1\n")
+    text = f"playout {version}\ngrid {players} 1\nrules 1 0 0\ncharge 1 2 1\nturns {turns}\n{ahead}players {players}\n"
     text += "".join(f"player {q} {q} 0\n" for q in range(players))
     return (text + "end\n").encode()
 
@@ -24,6 +26,37 @@ def reveal(player, turn, x, nonce):
 
 def opened(identity, player, turn, x, nonce):
     return sha(identity + bytes([player]) + turn.to_bytes(4, "big") + x.to_bytes(2, "big") + b"\0\0\0" + nonce)
+
+
+WORD = 2**64 - 1
+MULTIPLIER = 0x9E3779B97F4A7C15
+# as many turns of players as the largest session has, and how many groups of twelve the table has that holds so many turns
+LARGEST = 64, 6144
+GROUPS = 16384
+HELD = 9 * GROUPS
+
+
+def folded(a, b):
+    return a * b & WORD ^ a * b >> 64
+
+
+# the hash by which indexmap finds a player's turn: that of its default hasher, whose seed is fixed, for a byte and a number of four
+def turn_hash(player, turn):
+    state = folded(0x243F6A8885A308D3 ^ player * 0x010101, MULTIPLIER ^ 2)
+    state = folded(state ^ (turn | turn << 32), MULTIPLIER ^ 8)
+    return (state ^ state >> 32) & 0xFFFFFFFF
+
+
+# as many turns as fill the table, in the order in which they come; the last one is asked for again and again
+def turns_taken(kind):
+    players, turns = LARGEST
+    # by the group at which the look-up of each begins
+    keys = [(turn_hash(q, t) & GROUPS - 1, q, t) for q in range(1, players) for t in range(turns)]
+    if kind == "colliding":
+        # those that begin in the first groups, so that the look-ups run on behind each other; that of the last one goes all the way
+        return [key[1:] for key in reversed(sorted(keys)[:HELD])]
+    # any, without regard to where they begin
+    return [key[1:] for key in sorted(keys, key=lambda key: sha(b"%d %d" % key[1:]))[:HELD]]
 
 
 # the frames that log number `log` of its owner got, each with the player from whom it came
@@ -53,17 +86,25 @@ def frames(kind, identity, players, turns, owner, log, entries):
         yield 15, commit(15, 0, bytes(32))
         for i in range(entries):
             yield 15, reveal(15, 0, 15, sha(b"%d %d" % (log, i)))
+    elif kind in ("colliding", "spread"):
+        # a commitment to each of the turns that fill the table, in the first log, and then the last one again and again
+        taken = turns_taken(kind)
+        first = taken if log == 0 else []
+        for q, t in first:
+            yield q, commit(q, t, bytes(32))
+        for _ in range(entries - len(first)):
+            yield taken[-1][0], commit(*taken[-1], bytes(32))
 
 
 def main():
     folder, kind, logs, entries = sys.argv[1], sys.argv[2], int(sys.argv[3]), int(sys.argv[4])
-    players, turns = 16, 4096
+    players, turns = LARGEST if kind in ("colliding", "spread") else (16, 4096)
     text = session_of(players, turns)
     identity = sha(text)
     with open(os.path.join(folder, "session"), "wb") as out:
         out.write(text)
     for log in range(logs):
-        owner = log % 15 if kind != "honest" else log
+        owner = log if kind == "honest" else 0 if kind in ("colliding", "spread") else log % 15
         chain = identity + bytes([owner])
         parts = [bytes([owner])]
         for player, frame in frames(kind, identity, players, turns, owner, log, entries):
