@@ -1,0 +1,16 @@
+pub mod Decimals
+pub mod Totals
+pub mod InOrder
+pub mod Counted
+pub mod Fair
+pub mod Standing
+pub mod Going
+pub mod Steps
+pub mod Lasts
+pub mod Told
+pub mod Ending
+pub mod Taken
+pub mod Printed
+pub mod Nonces
+pub mod Places
+pub mod Summed

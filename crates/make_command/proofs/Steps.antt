@@ -1,0 +1,96 @@
+-- Steps: a match step by step, and how far its counts have come.
+use Rattle.std.proofs.Common.{◌≡◌, ◌≤◌, ◌<◌, ◌+◌, ◌-◌, ℕ, zero, suc, Bool, true, false, List, Option, None, Some, refl, sym, ap, ◌∙◌, arith}
+use Rattle.std.specs.Prelude.{not, ◌&&◌, ◌==◌, if◌then◌else◌}
+use Rattle.definitions.specs.declared.logs.Entry.{Entry}
+use Rattle.definitions.specs.Steps.{log_of}
+use Rattle.pilots.specs.Draws.{draw}
+use Rattle.schedule.specs.declared.stands.Stand.{Stand}
+use Rattle.schedule.specs.declared.stands.Stand.TheVariants.{Caught, Moving, Behind, Held, Finished}
+use Rattle.schedule.specs.Stands.{stand}
+use Rattle.make_command.specs.declared.counts.Counts.{Counts}
+use Rattle.make_command.specs.Bounds.{AreWithin}
+use Rattle.make_command.specs.Matches.{Match, delivered, delivered_behind, drawn, is_over, lost, moved, next_by, played}
+
+pub played_over : (n : ℕ) (m : Match) → is_over (stand m.game m.logs) ≡ true → played n m ≡ m
+unfolding played
+played_over zero m e = refl
+played_over (suc n) m e = rw e refl
+
+pub played_on : (n : ℕ) (m : Match) → is_over (stand m.game m.logs) ≡ false → played (suc n) m ≡ played n (next_by m (stand m.game m.logs))
+unfolding played
+played_on n m e = rw e refl
+
+pub played_none : (m : Match) → played 0 m ≡ m
+unfolding played
+played_none m = refl
+
+-- where it is over, nothing comes next
+pub over_stays : (m : Match) (s : Stand) → is_over s ≡ true → next_by m s ≡ m
+over_stays m (Caught p) e = refl
+over_stays m (Moving p) e = absurd (let never : false ≡ true = e in cc)
+over_stays m (Behind p q place) e = absurd (let never : false ≡ true = e in cc)
+over_stays m (Held q) e = refl
+over_stays m Finished e = refl
+
+-- counts within a number of steps are within one more, also with one count more
+later : (c : Counts) (n : ℕ) → AreWithin c n → AreWithin c (n + 1)
+later c n w = record { chosen = omega (arith, w.chosen); delivered = omega (arith, w.delivered); lost = omega (arith, w.lost); repeated = omega (arith, w.repeated) }
+
+one_chosen : (c : Counts) (n : ℕ) → AreWithin c n → AreWithin (record c { chosen = c.chosen + 1 }) (n + 1)
+one_chosen c n w = record { chosen = omega (arith, w.chosen); delivered = omega (arith, w.delivered); lost = omega (arith, w.lost); repeated = omega (arith, w.repeated) }
+
+one_lost : (c : Counts) (n : ℕ) → AreWithin c n → AreWithin (record c { lost = c.lost + 1 }) (n + 1)
+one_lost c n w = record { chosen = omega (arith, w.chosen); delivered = omega (arith, w.delivered); lost = omega (arith, w.lost); repeated = omega (arith, w.repeated) }
+
+one_delivered : (c : Counts) (n : ℕ) → AreWithin c n → AreWithin (record c { delivered = c.delivered + 1 }) (n + 1)
+one_delivered c n w = record { chosen = omega (arith, w.chosen); delivered = omega (arith, w.delivered); lost = omega (arith, w.lost); repeated = omega (arith, w.repeated) }
+
+two_delivered : (c : Counts) (n : ℕ) → AreWithin c n → AreWithin (record c { delivered = c.delivered + 1; repeated = c.repeated + 1 }) (n + 1)
+two_delivered c n w = record { chosen = omega (arith, w.chosen); delivered = omega (arith, w.delivered); lost = omega (arith, w.lost); repeated = omega (arith, w.repeated) }
+
+-- and so are they behind what comes next
+pub within_next : (m : Match) (s : Stand) (n : ℕ) → AreWithin m.counts n → AreWithin (next_by m s).counts (n + 1)
+within_next m (Caught p) n w = later m.counts n w
+within_next m (Moving p) n w = go (log_of m.logs p)
+  where
+    go : (o : Option (List Entry)) → AreWithin (moved m p o).counts (n + 1)
+    go None = later m.counts n w
+    go (Some h) = one_chosen m.counts n w
+within_next m (Behind p q place) n w = go (((draw 4 m.rest).0 == 0) && not m.was_lost) ((draw 4 m.rest).0 == 1)
+  where
+    go : (a b : Bool) → AreWithin (if a then lost (drawn m (draw 4 m.rest).1) else if b then delivered_behind (drawn m (draw 4 m.rest).1) p q place else delivered (drawn m (draw 4 m.rest).1) p q place).counts (n + 1)
+    go true b = one_lost m.counts n w
+    go false true = two_delivered m.counts n w
+    go false false = one_delivered m.counts n w
+within_next m (Held q) n w = later m.counts n w
+within_next m Finished n w = later m.counts n w
+
+-- ---- a match that is played step by step
+
+not_true : (b : Bool) → not b ≡ true → b ≡ false
+not_true true e = absurd (let never : false ≡ true = e in cc)
+not_true false e = refl
+
+not_false : (b : Bool) → not b ≡ false → b ≡ true
+not_false true e = refl
+not_false false e = absurd (let never : true ≡ false = e in cc)
+
+-- where nothing came next, it is as it was and as it will be
+pub stopped : (n : ℕ) (m k end : Match) (on : Bool) → on ≡ false → on ≡ not (is_over (stand m.game m.logs)) → k ≡ next_by m (stand m.game m.logs) → played n m ≡ end → k ≡ end
+stopped n m k end on off is next rest =
+    let over : is_over (stand m.game m.logs) ≡ true = not_false (is_over (stand m.game m.logs)) (sym is ∙ off) in
+    next ∙ over_stays m (stand m.game m.logs) over ∙ sym (played_over n m over) ∙ rest
+
+-- else one step less is left
+pub went_on : (n i : ℕ) (m k end : Match) (on : Bool) → i < n → on ≡ true → on ≡ not (is_over (stand m.game m.logs)) → k ≡ next_by m (stand m.game m.logs) → played (n - i) m ≡ end →
+    played (n - (i + 1)) k ≡ end
+went_on n i m k end on lt so is next rest =
+    let not_over : is_over (stand m.game m.logs) ≡ false = not_true (is_over (stand m.game m.logs)) (sym is ∙ so) in
+    let left : n - i ≡ suc (n - (i + 1)) = omega (arith, lt) in
+    ap (played (n - (i + 1))) next ∙ sym (played_on (n - (i + 1)) m not_over) ∙ ap (λ (j : ℕ). played j m) (sym left) ∙ rest
+
+-- and at last none is
+pub ran_out : (n i : ℕ) (m end : Match) → n ≤ i → played (n - i) m ≡ end → m ≡ end
+ran_out n i m end le rest =
+    let none : n - i ≡ 0 = omega (arith, le) in
+    sym (played_none m) ∙ ap (λ (j : ℕ). played j m) (sym none) ∙ rest

@@ -1,0 +1,6 @@
+pub mod Words
+pub mod Matches
+pub mod Bounds
+pub mod Audits
+pub mod Summaries
+pub mod Make

@@ -1,0 +1,82 @@
+//! The printed lines of a match, each in a buffer of its own.
+
+ghost use Rattle.std.specs.Prelude.{◌≡◌};
+ghost use Rattle.make_command.specs.Make as M;
+
+use crate::summary::Summary;
+use arrayvec::ArrayVec;
+use auditor::WorldLine;
+use definitions::PlayerId;
+use itoa::Buffer;
+
+/// Room for a line, which has at most 78 bytes.
+const LINE_ROOM: usize = 128;
+
+/// Room for the lines before those of the players, which have at most 114 bytes.
+const HEAD_ROOM: usize = 128;
+
+/// A line.
+pub(crate) type MatchLine = ArrayVec<u8, LINE_ROOM>;
+
+/// The first lines.
+pub(crate) type HeadLines = ArrayVec<u8, HEAD_ROOM>;
+
+/// The lines before those of the players: the session's size, and what was counted.
+#[tactic(auto, unfolding(crate::specs::Make::head_text))]
+pub(crate) fn head_lines(summary: &Summary) -> HeadLines
+    ensures { result.items ≡ M.head_text summary.now }
+{
+    let mut lines = ArrayVec::new();
+    lines
+        .try_extend_from_slice(b"players 8 turns 200\nchosen ")
+        .unwrap();
+    lines
+        .try_extend_from_slice(Buffer::new().format(summary.chosen).as_bytes())
+        .unwrap();
+    lines.try_extend_from_slice(b"\ndelivered ").unwrap();
+    lines
+        .try_extend_from_slice(Buffer::new().format(summary.delivered).as_bytes())
+        .unwrap();
+    lines.try_extend_from_slice(b"\nlost ").unwrap();
+    lines
+        .try_extend_from_slice(Buffer::new().format(summary.lost).as_bytes())
+        .unwrap();
+    lines.try_extend_from_slice(b"\nrepeated ").unwrap();
+    lines
+        .try_extend_from_slice(Buffer::new().format(summary.repeated).as_bytes())
+        .unwrap();
+    lines.try_extend_from_slice(b"\nfindings ").unwrap();
+    lines
+        .try_extend_from_slice(Buffer::new().format(summary.findings).as_bytes())
+        .unwrap();
+    lines.push(b'\n');
+    lines
+}
+
+/// The line of a player: where it stands, with which charge, and the hits that it gave and took.
+#[tactic(auto, unfolding(crate::specs::Make::player_line))]
+pub(crate) fn player_line(player: PlayerId, told: &WorldLine) -> MatchLine
+    ensures { result.items ≡ M.player_line player told.now }
+{
+    let mut line = ArrayVec::new();
+    line.try_extend_from_slice(b"world ").unwrap();
+    line.try_extend_from_slice(Buffer::new().format(player).as_bytes())
+        .unwrap();
+    line.try_extend_from_slice(b" at ").unwrap();
+    line.try_extend_from_slice(Buffer::new().format(told.track.at.x).as_bytes())
+        .unwrap();
+    line.push(b' ');
+    line.try_extend_from_slice(Buffer::new().format(told.track.at.y).as_bytes())
+        .unwrap();
+    line.try_extend_from_slice(b" charge ").unwrap();
+    line.try_extend_from_slice(Buffer::new().format(told.track.charge).as_bytes())
+        .unwrap();
+    line.try_extend_from_slice(b" given ").unwrap();
+    line.try_extend_from_slice(Buffer::new().format(told.score.given).as_bytes())
+        .unwrap();
+    line.try_extend_from_slice(b" taken ").unwrap();
+    line.try_extend_from_slice(Buffer::new().format(told.score.taken).as_bytes())
+        .unwrap();
+    line.push(b'\n');
+    line
+}
