@@ -1,0 +1,388 @@
+-- Choosing: an own move is chosen, and kept.
+use Rattle.std.proofs.Common.{◌≡◌, ℕ, zero, suc, ◌+◌, ◌-◌, ◌*◌, ◌<◌, ◌≤◌, Bool, true, false, refl, sym, ap, subst, ◌∙◌, List, [], ◌∷◌, ◌++◌, append-nil, arith, length}
+use Rattle.std.specs.Prelude.{Option, Some, None, IfSome, not, if◌then◌else◌, ◌&&◌, take, slice_get, is_none}
+use Rattle.std.specs.List.{fold}
+use Rattle.std.proofs.lemmas.List.{length-append, take-append-le}
+use Rattle.definitions.specs.Lists.{EachIs, is_empty}
+use Rattle.definitions.specs.declared.frames.TurnFrame.{TurnFrame}
+use Rattle.definitions.specs.declared.openings.Opening.{Opening}
+use Rattle.definitions.specs.declared.openings.Nonce.{Nonce}
+use Rattle.definitions.specs.declared.world.Move.{Move}
+use Rattle.definitions.specs.declared.world.MoveFault.{MoveFault}
+use Rattle.definitions.specs.declared.world.Track.{Track}
+use Rattle.definitions.specs.declared.answers.OwnFault.{OwnFault}
+use Rattle.definitions.specs.declared.answers.OwnFault.TheVariants.{NotNow, Illegal}
+use Rattle.definitions.specs.Needs.{may_choose, choice_fault, own_fault}
+use Rattle.definitions.specs.Moves.{move_fault}
+use Rattle.peer_core.specs.Standing.{IsStanding}
+use Rattle.peer_core.specs.declared.views.Choice.{Choice}
+use Rattle.definitions.specs.declared.logs.Entry.{Entry}
+use Rattle.definitions.specs.declared.logs.Entry.TheVariants.{Chose, Made}
+use Rattle.definitions.specs.World.{Game}
+use Rattle.definitions.specs.Logs.{chosen}
+use Rattle.definitions.specs.Honest.{IsHonest, allowed, chosen_track}
+use Rattle.definitions.specs.Advance.{advance, advance_by, next_made, with_made}
+use Rattle.std.proofs.lemmas.Bool.{false≢true}
+use Rattle.definitions.specs.declared.findings.Finding.{Finding}
+use Rattle.definitions.specs.Findings.{is_clean}
+use Rattle.definition_laws.proofs.Silent.{findings_chose, clean_advance}
+use Rattle.definition_laws.proofs.Chosen.{chosen_push}
+use Rattle.definition_laws.proofs.ForPeers.{honest_last}
+use Rattle.session_log.specs.Spelling.{FitsEntry}
+use Rattle.session_log.specs.Writing.{Writing, fresh}
+use Rattle.session_log.specs.Writing as W
+use Rattle.socket_station.specs.Items.{Item, keep_item}
+use Rattle.pilots.specs.Plans.{Plan}
+use Rattle.peer_core.specs.Views.{PeerState, choice_of}
+use Rattle.loop_rules.specs.Tables.{Table}
+use Rattle.loop_rules.specs.declared.phases.Phase.{Phase}
+use Rattle.loop_rules.specs.declared.phases.Phase.TheVariants.{Running}
+use Rattle.loop_rules.specs.Settings.{Setting}
+use Rattle.loop_rules.specs.Views.{View}
+use Rattle.loop_rules.specs.Handling.{sorted}
+use Rattle.loop_rules.specs.Keeping.{may_keep_in}
+use Rattle.loop_rules.specs.Told.{IsTold}
+use Rattle.loop_rules.proofs.Kept.{Keeps, keeps_sorted}
+use Rattle.ready_loop.specs.States.{LoopState, IsFit, IsOfOther, setting_of, kept_of, base_of, rest_of, view_of}
+use Rattle.ready_loop.specs.Steps.{did_by, next_bytes, kept_next}
+use Rattle.ready_loop.specs.Going.{Goes, IsSteady, undialled}
+use Rattle.ready_loop.specs.Handling.{Advances, StandsPlayed}
+use Rattle.ready_loop.specs.declared.playing.Played.TheVariants as P
+use Rattle.ready_loop.specs.declared.playing.Played.{Played}
+use Rattle.ready_loop.specs.Settling.{IsPlaying, PutsChoice, illegal_of, StandsChosen, StandsAs, IsOwnMove, Chooses, Plays, is_on}
+use Rattle.ready_loop.proofs.Going.{goes_still, goes_then}
+use Rattle.ready_loop.proofs.Tests.{both_of}
+use Rattle.ready_loop.proofs.Idle.{all_kept}
+use Rattle.ready_loop.proofs.Kept.{MayKeep, own_goes, each_drop}
+
+-- ---- entries that are not kept yet show nothing
+
+-- the loop, whose peer has these entries
+abbrev pub with_entries : List Entry → LoopState → LoopState
+with_entries es l = record l { peer = record l.peer { entries = es } }
+
+pub grown_base : (l : LoopState) (es more : List Entry) → es ≡ l.peer.entries ++ more → l.kept ≤ length l.peer.entries → l.over ≤ length l.peer.entries → base_of (with_entries es l) ≡ base_of l
+grown_base l es more e kept over =
+    ap (λ (xs : List Entry). base_of (with_entries xs l)) e
+    ∙ ap (λ (xs : List Entry). with_taken xs (take l.over (l.peer.entries ++ more))) (take-append-le l.kept l.peer.entries more kept)
+    ∙ ap (λ (xs : List Entry). with_taken (kept_of l) xs) (take-append-le l.over l.peer.entries more over)
+  where
+    with_taken : (kept over : List Entry) → View
+    with_taken kept over = record (base_of l) { setting = record (setting_of l) { over = over }; kept = kept; writer = fold W.after (fresh l.peer.game.id l.peer.me) kept }
+
+pub grown_view : (l : LoopState) (es more : List Entry) → es ≡ l.peer.entries ++ more → l.kept ≤ length l.peer.entries → l.over ≤ length l.peer.entries → view_of (with_entries es l) ≡ view_of l
+grown_view l es more e kept over = ap (sorted (rest_of l)) (grown_base l es more e kept over)
+
+pub grown_setting : (l : LoopState) (es more : List Entry) → es ≡ l.peer.entries ++ more → l.over ≤ length l.peer.entries → setting_of (with_entries es l) ≡ setting_of l
+grown_setting l es more e over =
+    ap (λ (xs : List Entry). setting_of (with_entries xs l)) e
+    ∙ ap (λ (xs : List Entry). record (setting_of l) { over = xs }) (take-append-le l.over l.peer.entries more over)
+
+-- ---- the choice
+
+pub there_last : (h : List Entry) (e : Entry) → slice_get (h ++ e ∷ []) (length h) ≡ Some e
+there_last [] e = refl
+there_last (x ∷ h) e = there_last h e
+
+-- what was chosen, and is not kept yet
+pub record IsChosen (items : List Item) (l m : LoopState) (e : Entry) : Type 0 where
+  pub told : IsTold items (view_of l)
+  pub steady : IsSteady l
+  pub same : m ≡ with_entries (l.peer.entries ++ e ∷ []) l
+  pub honest : IsHonest l.peer.game l.peer.me (l.peer.entries ++ e ∷ [])
+  pub kept : l.kept ≤ length l.peer.entries
+  pub over : l.over ≤ length l.peer.entries
+  pub waiting : EachIs (IsOfOther l.peer.game l.peer.me) l.table.waiting
+
+chosen_may : (l : LoopState) (t : ℕ) (mv : Move) (n : Nonce) → IsSteady l → IsHonest l.peer.game l.peer.me (l.peer.entries ++ Chose t mv n ∷ []) → l.kept ≤ length l.peer.entries → l.over ≤ length l.peer.entries →
+    may_keep_in (view_of l).phase (view_of l) (Chose t mv n) ≡ true
+chosen_may l t mv n w honest kept over =
+    ap (λ (p : Phase). may_keep_in p (view_of l) (Chose t mv n)) (k.phase ∙ w.idle.running)
+    ∙ ap (λ (s : Setting). allowed s.game s.me (view_of l).kept (Chose t mv n) && is_none (next_made s.game s.me (view_of l).kept)) k.setting
+    ∙ ap (λ (h : List Entry). allowed l.peer.game l.peer.me h (Chose t mv n) && is_none (next_made l.peer.game l.peer.me h)) (k.kept ∙ all_kept l w.idle.kept)
+    ∙ both_of _ _ (honest_last l.peer.game l.peer.me l.peer.entries (Chose t mv n) honest).1 (ap (λ (o : Option TurnFrame). is_none o) w.made)
+  where
+    k : Keeps (base_of l) (view_of l)
+    k = keeps_sorted (rest_of l) (base_of l)
+
+pub chosen_keeps : (items : List Item) (l m : LoopState) (t : ℕ) (mv : Move) (n : Nonce) → IsChosen items l m (Chose t mv n) → FitsEntry (Chose t mv n) → MayKeep items m (Chose t mv n)
+chosen_keeps items l m t mv n w f = subst (λ (x : LoopState). MayKeep items x e) (sym w.same) (record {
+  told = subst (IsTold items) (sym shown) w.told;
+  more = (let long = length-append l.peer.entries (e ∷ []) in let k = w.kept in omega (arith, long, k));
+  next = ap (slice_get (l.peer.entries ++ e ∷ [])) w.steady.idle.kept ∙ there_last l.peer.entries e;
+  fits = f;
+  each = each_drop (IsOfOther l.peer.game l.peer.me) l.handled l.table.waiting w.waiting;
+  may = ap (λ (v : View). may_keep_in v.phase v e) shown ∙ chosen_may l t mv n w.steady w.honest w.kept w.over;
+})
+  where
+    e : Entry
+    e = Chose t mv n
+
+    shown : view_of (with_entries (l.peer.entries ++ e ∷ []) l) ≡ view_of l
+    shown = grown_view l (l.peer.entries ++ e ∷ []) (e ∷ []) refl w.kept w.over
+
+-- from the loop before the choice
+pub chosen_goes : (done : Bool) (items after : List Item) (l m n : LoopState) (t : ℕ) (mv : Move) (nonce : Nonce) → IsChosen items l m (Chose t mv nonce) → FitsEntry (Chose t mv nonce) →
+    after ≡ items ++ keep_item (did_by done) (next_bytes m) ∷ [] → n ≡ kept_next done m → Goes items after l n
+chosen_goes done items after l m n t mv nonce w f on same =
+    let g = own_goes done items after m n (Chose t mv nonce) (chosen_keeps items l m t mv nonce w f) tt on same in
+    record {
+      more = g.more;
+      grown = g.grown;
+      polls = g.polls;
+      setting = g.setting ∙ ap setting_of w.same ∙ grown_setting l (l.peer.entries ++ Chose t mv nonce ∷ []) (Chose t mv nonce ∷ []) refl w.over;
+      undialled = (let u = g.undialled in let v = ap undialled w.same in omega (arith, u, v));
+      told = g.told;
+    }
+
+-- ---- how many are chosen
+
+-- made frames are no choices
+chosen_made_by : (game : Game) (me n : ℕ) (h : List Entry) → length (chosen me (advance_by game me n h)) ≡ length (chosen me h)
+unfolding advance_by
+chosen_made_by game me zero h = refl
+chosen_made_by game me (suc n) h = chosen_made_by game me n (with_made h (next_made game me h)) ∙ go (next_made game me h)
+  where
+    go : (o : Option TurnFrame) → length (chosen me (with_made h o)) ≡ length (chosen me h)
+    go None = refl
+    go (Some f) = ap (λ (os : List Opening). length os) (chosen_push me h (Made f) ∙ append-nil (chosen me h))
+
+pub chosen_made : (game : Game) (me : ℕ) (h : List Entry) → length (chosen me (advance game me h)) ≡ length (chosen me h)
+unfolding advance
+chosen_made game me h = chosen_made_by game me (2 * game.turns) h
+
+pub chosen_one : (me : ℕ) (h : List Entry) (t : ℕ) (mv : Move) (n : Nonce) → length (chosen me (h ++ Chose t mv n ∷ [])) ≡ length (chosen me h) + 1
+chosen_one me h t mv n =
+    let long = length-append (chosen me h) (record { player = me; turn = t; mv = mv; nonce = n } ∷ []) in
+    ap (λ (os : List Opening). length os) (chosen_push me h (Chose t mv n)) ∙ long
+
+-- ---- one choice after another
+
+pub record Choosing (plan later : Option Plan) (before items : List Item) (l m : LoopState) : Type 0 where
+  pub still : later ≡ plan
+  pub goes : Goes before items l m
+  pub table : m.table ≡ l.table
+  pub synced : m.synced ≡ l.synced
+  pub clean : is_clean m.peer.game m.peer.entries ≡ is_clean l.peer.game l.peer.entries
+  pub steady : IsSteady m
+
+-- what stands behind a choice that is put, or is not
+pub puts_choice : (i l : LoopState) (w : Writing) (p : PeerState) (mv : Move) (nonce : Nonce) → i ≡ l → IsFit i w → p ≡ record i.peer { entries = i.peer.entries ++ Chose (length (chosen i.peer.me i.peer.entries)) mv nonce ∷ [] } → IsStanding p →
+    PutsChoice mv nonce None l (record i { peer = p })
+puts_choice i l w p mv nonce same f is facts =
+    subst (λ (x : LoopState). PutsChoice mv nonce None x (record i { peer = p })) same
+    (record { stands = (ap (λ (q : PeerState). record i { peer = q }) is, facts); kept = f.kept; over = f.over; others = f.waiting })
+
+not_now : (game : Game) (me : ℕ) (h : List Entry) (mv : Move) → may_choose game me h ≡ true → choice_fault game me h mv ≡ Some NotNow → ⊥
+unfolding choice_fault
+not_now game me h mv may e =
+    go (move_fault game me (chosen_track game me h) mv)
+    (ap (λ (b : Bool). if not b then Some NotNow else own_fault (move_fault game me (chosen_track game me h) mv)) (sym may) ∙ e)
+  where
+    go : (o : Option MoveFault) → own_fault o ≡ Some NotNow → ⊥
+    go None e = cc
+    go (Some f) e = cc
+
+pub puts_none_of : (i l : LoopState) (w : Writing) (p : PeerState) (mv : Move) (nonce : Nonce) (r : Option MoveFault) (fault : OwnFault) → i ≡ l → IsFit i w → p ≡ i.peer → may_choose l.peer.game l.peer.me l.peer.entries ≡ true →
+    choice_fault i.peer.game i.peer.me i.peer.entries mv ≡ Some fault → r ≡ illegal_of fault → PutsChoice mv nonce r l (record i { peer = p })
+puts_none_of i l w p mv nonce r fault same f is may refused answer =
+    subst (λ (x : LoopState). PutsChoice mv nonce r x (record i { peer = p })) same
+    (subst (λ (q : PeerState). PutsChoice mv nonce r i (record i { peer = q })) (sym is)
+    (subst (λ (o : Option MoveFault). PutsChoice mv nonce o i i) (sym answer)
+    (go fault (subst (λ (x : LoopState). may_choose x.peer.game x.peer.me x.peer.entries ≡ true) (sym same) may) refused)))
+  where
+    go : (fault : OwnFault) → may_choose i.peer.game i.peer.me i.peer.entries ≡ true → choice_fault i.peer.game i.peer.me i.peer.entries mv ≡ Some fault → PutsChoice mv nonce (illegal_of fault) i i
+    go NotNow may refused = absurd (not_now i.peer.game i.peer.me i.peer.entries mv may refused)
+    go (Illegal illegal) may refused = record { stands = (refl, refused); kept = f.kept; over = f.over; others = f.waiting }
+
+chosen_is : (items : List Item) (l m : LoopState) (mv : Move) (nonce : Nonce) → IsPlaying items l → PutsChoice mv nonce None l m → IsChosen items l m (Chose (length (chosen l.peer.me l.peer.entries)) mv nonce)
+chosen_is items l m mv nonce w p = record {
+  told = w.told;
+  steady = w.steady;
+  same = p.stands.0;
+  honest = subst (λ (x : LoopState). IsHonest x.peer.game x.peer.me x.peer.entries) p.stands.0 p.stands.1.honest;
+  kept = p.kept;
+  over = p.over;
+  waiting = p.others;
+}
+
+puts_none : (l m : LoopState) (mv : Move) (nonce : Nonce) (fault : Option MoveFault) → PutsChoice mv nonce fault l m → fault ≡ None → PutsChoice mv nonce None l m
+puts_none l m mv nonce fault p none = subst (λ (o : Option MoveFault). PutsChoice mv nonce o l m) none p
+
+pub put_more : (items : List Item) (l m : LoopState) (mv : Move) (nonce : Nonce) (fault : Option MoveFault) → IsPlaying items l → PutsChoice mv nonce fault l m → fault ≡ None → m.kept < length m.peer.entries
+put_more items l m mv nonce fault w p none =
+    let q = puts_none l m mv nonce fault p none in
+    let e : Entry = Chose (length (chosen l.peer.me l.peer.entries)) mv nonce in
+    subst (λ (x : LoopState). x.kept < length x.peer.entries) (sym q.stands.0) (let long = length-append l.peer.entries (e ∷ []) in let k = w.steady.idle.kept in omega (arith, long, k))
+
+pub put_running : (items : List Item) (l m : LoopState) (mv : Move) (nonce : Nonce) (fault : Option MoveFault) → IsPlaying items l → PutsChoice mv nonce fault l m → fault ≡ None → m.phase ≡ Running
+put_running items l m mv nonce fault w p none = ap (λ (x : LoopState). x.phase) (puts_none l m mv nonce fault p none).stands.0 ∙ w.steady.idle.running
+
+put_goes : (done r : Bool) (items after : List Item) (l m n : LoopState) (mv : Move) (nonce : Nonce) (fault : Option MoveFault) → IsPlaying items l → PutsChoice mv nonce fault l m → fault ≡ None →
+    ((e : Entry) → slice_get m.peer.entries m.kept ≡ Some e → FitsEntry e) → r ≡ done → after ≡ items ++ keep_item (did_by r) (next_bytes m) ∷ [] → n ≡ kept_next r m → Goes items after l n
+put_goes done r items after l m n mv nonce fault w p none fits is on state =
+    let q = puts_none l m mv nonce fault p none in
+    let e : Entry = Chose (length (chosen l.peer.me l.peer.entries)) mv nonce in
+    let k = chosen_is items l m mv nonce w q in
+    let next : slice_get m.peer.entries m.kept ≡ Some e = subst (λ (x : LoopState). slice_get x.peer.entries x.kept ≡ Some e) (sym q.stands.0) (ap (slice_get (l.peer.entries ++ e ∷ [])) w.steady.idle.kept ∙ there_last l.peer.entries e) in
+    chosen_goes r items after l m n (length (chosen l.peer.me l.peer.entries)) mv nonce k (fits e next) on state
+
+pub choose_faults : (plan later : Option Plan) → later ≡ plan → (r : Bool) (items after : List Item) (l m n : LoopState) (mv : Move) (nonce : Nonce) (fault : Option MoveFault) → IsPlaying items l → PutsChoice mv nonce fault l m → fault ≡ None →
+    ((e : Entry) → slice_get m.peer.entries m.kept ≡ Some e → FitsEntry e) → r ≡ false → after ≡ items ++ keep_item (did_by r) (next_bytes m) ∷ [] → n ≡ kept_next r m → Chooses plan later P.KeepFault items after l n
+choose_faults plan later still r items after l m n mv nonce fault w p none fits is on state =
+    let q = puts_none l m mv nonce fault p none in
+    let same : n ≡ kept_next false m = state ∙ ap (λ (b : Bool). kept_next b m) is in
+    record {
+      still = still;
+      goes = put_goes false r items after l m n mv nonce fault w p none fits is on state;
+      table = ap (λ (x : LoopState). x.table) same ∙ ap (λ (x : LoopState). x.table) q.stands.0;
+      synced = ap (λ (x : LoopState). x.synced) same ∙ ap (λ (x : LoopState). x.synced) q.stands.0;
+      clean = λ on. absurd (false≢true on);
+      stands = ap (λ (x : LoopState). x.phase) same;
+    }
+
+-- behind the keep of the choice
+pub record IsPut (items mid : List Item) (l n : LoopState) (mv : Move) (nonce : Nonce) : Type 0 where
+  pub goes : Goes items mid l n
+  pub running : n.phase ≡ Running
+  pub kept : n.kept ≡ length n.peer.entries
+  pub table : n.table ≡ l.table
+  pub synced : n.synced ≡ l.synced
+  pub handled : n.handled ≡ l.handled
+  pub entries : n.peer ≡ record l.peer { entries = l.peer.entries ++ Chose (length (chosen l.peer.me l.peer.entries)) mv nonce ∷ [] }
+
+pub put_on : (r : Bool) (items after : List Item) (l m n : LoopState) (mv : Move) (nonce : Nonce) (fault : Option MoveFault) → IsPlaying items l → PutsChoice mv nonce fault l m → fault ≡ None →
+    ((e : Entry) → slice_get m.peer.entries m.kept ≡ Some e → FitsEntry e) → r ≡ true → after ≡ items ++ keep_item (did_by r) (next_bytes m) ∷ [] → n ≡ kept_next r m → IsPut items after l n mv nonce
+put_on r items after l m n mv nonce fault w p none fits is on state =
+    let q = puts_none l m mv nonce fault p none in
+    let e : Entry = Chose (length (chosen l.peer.me l.peer.entries)) mv nonce in
+    let same : n ≡ kept_next true m = state ∙ ap (λ (b : Bool). kept_next b m) is in
+    let both : n ≡ kept_next true (with_entries (l.peer.entries ++ e ∷ []) l) = same ∙ ap (kept_next true) q.stands.0 in
+    record {
+      goes = put_goes true r items after l m n mv nonce fault w p none fits is on state;
+      running = ap (λ (x : LoopState). x.phase) both ∙ w.steady.idle.running;
+      kept = ap (λ (x : LoopState). x.kept) both ∙ (let k = w.steady.idle.kept in let long = length-append l.peer.entries (e ∷ []) in let z : l.kept + 1 ≡ length (l.peer.entries ++ e ∷ []) = omega (arith, k, long) in z) ∙ sym (ap (λ (x : LoopState). length x.peer.entries) both);
+      table = ap (λ (x : LoopState). x.table) both;
+      synced = ap (λ (x : LoopState). x.synced) both;
+      handled = ap (λ (x : LoopState). x.handled) both;
+      entries = ap (λ (x : LoopState). x.peer) both;
+    }
+
+pub choose_stops : (plan later : Option Plan) → later ≡ plan → (r : Bool) (items mid after : List Item) (l n o : LoopState) (mv : Move) (nonce : Nonce) → IsPut items mid l n mv nonce → Advances r mid after n o → r ≡ false → Chooses plan later P.KeepFault items after l o
+choose_stops plan later still r items mid after l n o mv nonce p a none = record {
+  still = still;
+  goes = goes_then items mid after l n o p.goes a.goes;
+  table = a.table ∙ p.table;
+  synced = a.synced ∙ p.synced;
+  clean = λ on. absurd (false≢true on);
+  stands = subst (λ (b : Bool). StandsPlayed b o) none a.stands;
+}
+
+clean_chose : (game : Game) (h : List Entry) (t : ℕ) (m : Move) (n : Nonce) → is_clean game (h ++ Chose t m n ∷ []) ≡ is_clean game h
+unfolding is_clean
+clean_chose game h t m n = ap (is_empty {X = Finding}) (findings_chose game h t m n)
+
+pub chooses_on : (plan later : Option Plan) → later ≡ plan → (r : Bool) (items mid after : List Item) (l n o : LoopState) (mv : Move) (nonce : Nonce) → IsPlaying items l → IsPut items mid l n mv nonce → Advances r mid after n o → r ≡ true → Chooses plan later P.On items after l o
+chooses_on plan later still r items mid after l n o mv nonce w p a sure =
+    let goes = goes_then items mid after l n o p.goes a.goes in
+    let stands = subst (λ (b : Bool). StandsPlayed b o) sure a.stands in
+    let me : o.peer.me ≡ l.peer.me = ap (λ (s : Setting). s.me) goes.setting in
+    let t = length (chosen l.peer.me l.peer.entries) in
+    let es = l.peer.entries ++ Chose t mv nonce ∷ [] in
+    let entries : o.peer.entries ≡ advance l.peer.game l.peer.me es = a.entries ∙ ap (λ (q : PeerState). advance q.game q.me q.entries) p.entries in
+    record {
+      still = still;
+      goes = goes;
+      table = a.table ∙ p.table;
+      synced = a.synced ∙ p.synced;
+      clean = λ on. ap (λ (g : Game). is_clean g o.peer.entries) (ap (λ (s : Setting). s.game) goes.setting) ∙ ap (is_clean l.peer.game) entries ∙ clean_advance l.peer.game l.peer.me es ∙ clean_chose l.peer.game l.peer.entries t mv nonce;
+      stands = (
+        record {
+          idle = record {
+            running = stands.0;
+            kept = stands.1.kept;
+            waiting = ap (λ (x : Table). x.waiting) (a.table ∙ p.table) ∙ w.steady.idle.waiting;
+            handled = a.handled ∙ p.handled ∙ w.steady.idle.handled;
+          };
+          made = stands.1.made;
+        },
+        ap (λ (q : ℕ). length (chosen q o.peer.entries)) me ∙ ap (λ (xs : List Entry). length (chosen l.peer.me xs)) entries ∙ chosen_made_for l.peer.game l.peer.me l.peer.me es ∙ chosen_one l.peer.me l.peer.entries t mv nonce,
+      );
+    }
+  where
+    chosen_made_for : (game : Game) (me q : ℕ) (h : List Entry) → length (chosen me (advance game me h)) ≡ length (chosen me h)
+    chosen_made_for game me q h = chosen_made game me h
+
+pub own_move : (plan later : Option Plan) → later ≡ plan → (items : List Item) (l m : LoopState) (choice : Choice) (mv : Move) (nonce : Nonce) (fault : Option MoveFault) (f : MoveFault) → IsPlaying items l → may_choose l.peer.game l.peer.me l.peer.entries ≡ true →
+    choice ≡ choice_of l.peer.game l.peer.me l.peer.entries → IfSome plan (λ p. mv ≡ p choice.track choice.turn) → PutsChoice mv nonce fault l m → fault ≡ Some f → Chooses plan later (P.OwnMove choice.turn f) items items l m
+own_move plan later still items l m choice mv nonce fault f w may is planned p some =
+    let q = subst (λ (o : Option MoveFault). PutsChoice mv nonce o l m) some p in
+    subst (λ (x : LoopState). Chooses plan later (P.OwnMove choice.turn f) items items l x) (sym q.stands.0) (record {
+      still = still;
+      goes = goes_still items l w.told;
+      table = refl;
+      synced = refl;
+      clean = λ on. absurd (false≢true on);
+      stands = (
+        w.steady,
+        record {
+          mv = mv;
+          chooses = may;
+          turn_is = ap (λ (x : Choice). x.turn) is;
+          planned = go plan planned;
+          refused = q.stands.1;
+        },
+      );
+    })
+  where
+    go : (o : Option Plan) → IfSome o (λ p. mv ≡ p choice.track choice.turn) → IfSome o (λ p. mv ≡ p (chosen_track l.peer.game l.peer.me l.peer.entries) choice.turn)
+    go None h = tt
+    go (Some p) h = h ∙ ap (λ (t : Track). p t choice.turn) (ap (λ (x : Choice). x.track) is)
+
+pub choosing_first : (plan : Option Plan) (items : List Item) (l : LoopState) → IsPlaying items l → Choosing plan plan items items l l
+choosing_first plan items l w = record { still = refl; goes = goes_still items l w.told; table = refl; synced = refl; clean = refl; steady = w.steady }
+
+pub choosing_playing : (plan later : Option Plan) (before items : List Item) (l m : LoopState) → Choosing plan later before items l m → IsPlaying items m
+choosing_playing plan later before items l m w = record { told = w.goes.told; steady = w.steady }
+
+on_is : (played : Played) → is_on played ≡ true → played ≡ P.On
+on_is P.On e = refl
+on_is P.KeepFault e = absurd (false≢true e)
+on_is (P.OwnMove turn fault) e = absurd (false≢true e)
+
+pub choosing_on : (plan mid later : Option Plan) (played : Played) (r : Bool) (before items after : List Item) (l m n : LoopState) → Choosing plan mid before items l m → Chooses mid later played items after m n → r ≡ is_on played → r ≡ true → Choosing plan later before after l n
+choosing_on plan mid later played r before items after l m n w c is sure =
+    let on = sym is ∙ sure in
+    record {
+      still = c.still ∙ w.still;
+      goes = goes_then before items after l m n w.goes c.goes;
+      table = c.table ∙ w.table;
+      synced = c.synced ∙ w.synced;
+      clean = c.clean on ∙ w.clean;
+      steady = (subst (λ (p : Played). StandsChosen mid p m n) (on_is played on) c.stands).0;
+    }
+
+pub choosing_smaller : (mid later : Option Plan) (played : Played) (r : Bool) (items after : List Item) (m n : LoopState) → Chooses mid later played items after m n → r ≡ is_on played → r ≡ true → length (chosen n.peer.me n.peer.entries) ≤ n.peer.game.turns →
+    n.peer.game.turns - length (chosen n.peer.me n.peer.entries) < m.peer.game.turns - length (chosen m.peer.me m.peer.entries)
+choosing_smaller mid later played r items after m n c is sure few =
+    let one = (subst (λ (p : Played). StandsChosen mid p m n) (on_is played (sym is ∙ sure)) c.stands).1 in
+    let turns : n.peer.game.turns ≡ m.peer.game.turns = ap (λ (s : Setting). s.game.turns) c.goes.setting in
+    omega (arith, one, turns, few)
+
+pub choosing_ends : (plan later : Option Plan) (r : Bool) (before items : List Item) (l m : LoopState) → Choosing plan later before items l m → r ≡ may_choose m.peer.game m.peer.me m.peer.entries → r ≡ false → Plays plan later P.On before items l m
+choosing_ends plan later r before items l m w is none = record { still = w.still; goes = w.goes; table = w.table; synced = w.synced; clean = λ on. w.clean; stands = (w.steady, sym is ∙ none) }
+
+stands_as : (plan mid : Option Plan) (played : Played) (m n : LoopState) → mid ≡ plan → is_on played ≡ false → StandsChosen mid played m n → StandsAs plan played n
+stands_as plan mid P.On m n e off s = absurd (false≢true (sym off))
+stands_as plan mid P.KeepFault m n e off s = s
+stands_as plan mid (P.OwnMove turn fault) m n e off s = (s.0, subst (λ (p : Option Plan). IsOwnMove p turn fault n) e s.1)
+
+pub choosing_stops : (plan mid later : Option Plan) (played : Played) (r : Bool) (before items after : List Item) (l m n : LoopState) → Choosing plan mid before items l m → Chooses mid later played items after m n → r ≡ is_on played → r ≡ false → Plays plan later played before after l n
+choosing_stops plan mid later played r before items after l m n w c is none = record {
+  still = c.still ∙ w.still;
+  goes = goes_then before items after l m n w.goes c.goes;
+  table = c.table ∙ w.table;
+  synced = c.synced ∙ w.synced;
+  clean = λ on. absurd (false≢true (sym (sym is ∙ none) ∙ on));
+  stands = stands_as plan mid played m n w.still (sym is ∙ none) c.stands;
+}

@@ -1,0 +1,54 @@
+-- Going on: what the calls of a loop promise of the history of its station.
+use Rattle.std.specs.Prelude.{◌≡◌, ℕ, ◌+◌, ◌≤◌, Bool, not, ◌&&◌, List, [], ◌∷◌, ◌++◌, None, length}
+use Rattle.std.specs.List.{count_by}
+use Rattle.definitions.specs.Advance.{next_made}
+use Rattle.definitions.specs.Findings.{is_clean}
+use Rattle.socket_station.specs.Items.{Item, Polled}
+use Rattle.loop_rules.specs.declared.phases.Phase.TheVariants.{Running}
+use Rattle.loop_rules.specs.Licence.{is_running}
+use Rattle.loop_rules.specs.Told.{IsTold}
+use Rattle.ready_loop.specs.States.{LoopState, setting_of, view_of}
+
+-- how many polls an item tells of
+abbrev pub poll_count : Item → ℕ
+poll_count (Polled list) = 1
+poll_count _ = 0
+
+-- how many polls were made
+abbrev pub polls_of : List Item → ℕ
+polls_of [] = 0
+polls_of (item ∷ items) = poll_count item + polls_of items
+
+-- how many players were not dialled since the last poll
+abbrev pub undialled : LoopState → ℕ
+undialled l = count_by (λ c. not c.is_dialled) l.table.seats
+
+-- The history grew by items that the rules allow, none of them a poll, and shows what the loop knows.
+pub record Goes (before after : List Item) (l m : LoopState) : Type 0 where
+  pub more : List Item
+  pub grown : after ≡ before ++ more
+  pub polls : polls_of after ≡ polls_of before
+  pub setting : setting_of m ≡ setting_of l
+  pub undialled : undialled m ≤ undialled l
+  pub told : IsTold after (view_of m)
+
+-- every entry is kept, and no own frame is left to be made
+pub record IsPlayed (l : LoopState) : Type 0 where
+  pub kept : l.kept ≡ length l.peer.entries
+  pub made : next_made l.peer.game l.peer.me l.peer.entries ≡ None
+
+-- between the loop's calls: it runs, every entry is kept, and no frame waits
+pub record IsIdle (l : LoopState) : Type 0 where
+  pub running : l.phase ≡ Running
+  pub kept : l.kept ≡ length l.peer.entries
+  pub waiting : l.table.waiting ≡ []
+  pub handled : l.handled ≡ 0
+
+-- before a socket is read or written: no own frame is left to be made either
+pub record IsSteady (l : LoopState) : Type 0 where
+  pub idle : IsIdle l
+  pub made : next_made l.peer.game l.peer.me l.peer.entries ≡ None
+
+-- no keep failed, and the log has no finding
+abbrev pub goes_on : LoopState → Bool
+goes_on l = is_running l.phase && is_clean l.peer.game l.peer.entries

@@ -1,0 +1,11 @@
+pub mod States
+pub mod Steps
+pub mod Going
+pub mod Handling
+pub mod Serving
+pub mod Waiting
+pub mod Settling
+pub mod Polling
+pub mod Beginning
+pub mod Overs
+pub mod Counts

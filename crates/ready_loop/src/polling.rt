@@ -1,0 +1,150 @@
+//! Polls, and the whole of a run.
+
+ghost use Rattle.std.specs.Prelude.{◌≡◌};
+ghost use Rattle.ready_loop.specs.Polling.{Polls, Rounds, Ends, IsLicensedToPoll, round_of, is_round_on, ended_of, ended_at};
+ghost use Rattle.ready_loop.specs.Settling.{IsReady};
+
+use crate::ready::Loop;
+use crate::settling::Settled;
+use definitions::{Finding, MoveFault, Turn};
+use loop_rules::Phase;
+use pilots::Pilot;
+use rand_core::Rng;
+use socket_station::{Did, Station};
+
+/// How a round ended.
+#[derive(Clone, Copy, Debug, PartialEq, Eq)]
+pub enum Round {
+    /// A poll was licensed, and was made.
+    On,
+    /// All own turns are made, nobody is waited for, and no bytes wait.
+    Done,
+    /// The log has a finding: this is its first.
+    Caught(Finding),
+    /// `poll` failed.
+    PollFault,
+    /// `keep` or `sync` failed.
+    KeepFault,
+    /// The pilot's move of this turn is not legal.
+    OwnMove(Turn, MoveFault),
+}
+
+/// How a run ended.
+#[derive(Clone, Copy, Debug, PartialEq, Eq)]
+pub enum Ended {
+    /// All own turns are made, nobody is waited for, and no bytes wait.
+    Done,
+    /// The log has a finding: this is its first.
+    Caught(Finding),
+    /// `poll` failed.
+    PollFault,
+    /// `keep` or `sync` failed.
+    KeepFault,
+    /// The pilot's move of this turn is not legal.
+    OwnMove(Turn, MoveFault),
+    /// All polls were made, what they brought is handled, and a further one is licensed.
+    GaveUp,
+}
+
+/// How a round ended whose settling ended so.
+fn round_of(settled: &Settled) -> Round
+    ensures { result ≡ round_of settled.now }
+{
+    match *settled {
+        Settled::Idle => Round::On,
+        Settled::Done => Round::Done,
+        Settled::Caught(finding) => Round::Caught(finding),
+        Settled::KeepFault => Round::KeepFault,
+        Settled::OwnMove(turn, fault) => Round::OwnMove(turn, fault),
+    }
+}
+
+/// Whether a run goes on behind the round.
+fn is_on(round: &Round) -> bool
+    ensures { result ≡ is_round_on round.now }
+{
+    matches!(round, Round::On)
+}
+
+/// How a run ended whose last round ended so.
+fn ended_of(round: &Round) -> Ended
+    ensures { result ≡ ended_of round.now }
+{
+    match *round {
+        Round::On => Ended::GaveUp,
+        Round::Done => Ended::Done,
+        Round::Caught(finding) => Ended::Caught(finding),
+        Round::PollFault => Ended::PollFault,
+        Round::KeepFault => Ended::KeepFault,
+        Round::OwnMove(turn, fault) => Ended::OwnMove(turn, fault),
+    }
+}
+
+/// How a run ended that settled so behind its last poll.
+fn ended_at(settled: &Settled) -> Ended
+    ensures { result ≡ ended_at settled.now }
+{
+    ended_of(&round_of(settled))
+}
+
+impl Loop {
+    /// Polls once.
+    fn poll<S: Station>(&mut self, station: &mut S) -> bool
+        requires licensed { IsLicensedToPoll (S.history station.old) self.old }
+        ensures { Polls result (S.history station.old) (S.history station.new) self.old self.new }
+    {
+        match station.poll(&mut self.ready) {
+            Did::Done => {
+                self.table.polled(self.ready.as_slice());
+                true
+            }
+            Did::Failed => {
+                self.phase = Phase::PollFault;
+                false
+            }
+        }
+    }
+
+    /// Handles everything that is there, and then polls once, where a poll is licensed.
+    pub fn round<S: Station, P: Pilot, R: Rng>(
+        &mut self,
+        station: &mut S,
+        pilot: &mut P,
+        chance: &mut R,
+    ) -> Round
+        requires ready { IsReady (S.history station.old) self.old }
+        ensures { Rounds (P.plan pilot.old) (P.plan pilot.new) result (S.history station.old) (S.history station.new) self.old self.new }
+    {
+        let settled = self.settle(station, pilot, chance);
+        if !settled.is_idle() {
+            return round_of(&settled);
+        }
+        if !self.poll(station) {
+            return Round::PollFault;
+        }
+        Round::On
+    }
+
+    /// Plays with at most so many polls.
+    pub fn play<S: Station, P: Pilot, R: Rng>(
+        &mut self,
+        station: &mut S,
+        pilot: &mut P,
+        chance: &mut R,
+        polls: u64,
+    ) -> Ended
+        requires ready { IsReady (S.history station.old) self.old }
+        ensures { Ends (P.plan pilot.old) (P.plan pilot.new) polls result (S.history station.old) (S.history station.new) self.old self.new }
+    {
+        let mut left = polls;
+        while left > 0 {
+            left -= 1;
+            let round = self.round(station, pilot, chance);
+            if !is_on(&round) {
+                return ended_of(&round);
+            }
+        }
+        let settled = self.settle(station, pilot, chance);
+        ended_at(&settled)
+    }
+}
