@@ -31,7 +31,8 @@ use Rattle.script_grammar.specs.Grammar.{is_bad}
 use Rattle.drive_command.specs.Driven.{State, fresh_state, reader_of}
 use Rattle.drive_command.specs.Coming.{bytes_state, log_behind_frame, log_on, log_through}
 use Rattle.drive_command.specs.Drive.{drive_log, log_by, log_from, said_behind, state_behind}
-use Rattle.drive_command.specs.FairPlay.{IsCommittedBy, IsFairPlay, IsGotIn}
+use Rattle.fair_play.specs.FairPlay.{IsFairPlay}
+use Rattle.fair_play.proofs.Fair.{honest_fair}
 
 on_honest : (game : Game) (me : ℕ) (now last : List Entry) → IsHonest game me now → IsHonest game me last → IsHonest game me (log_on game now last)
 on_honest game me now last i j = go (is_clean game now)
@@ -83,34 +84,6 @@ log_honest game me first input a i =
     let j = advance_honest game me first i in
     let next = advance game me first in
     on_honest game me next (log_from game me (fresh_state next) 0 (lines_in input)) j (from_honest game me (fresh_state next) 0 (lines_in input) a j)
-
-got_in : (log : List Entry) (q : ℕ) (f : TurnFrame) → Has log (Got q f) → IsGotIn log q f
-got_in log q f h = let s = Has_split log (Got q f) h in record { before = s.0; behind = s.1; log_is = s.2 }
-
--- a player who met the owner, or whose turn was resolved, had committed to it
-behind_met : (game : Game) (me : ℕ) (front back : List Entry) (q t : ℕ) (mv : Move) (nonce : Nonce) → 1 ≤ game.ahead → IsHonest game me (front ++ Made (Reveal me t mv nonce) ∷ back) →
-    q < players_of game → (q ≡ me → ⊥) → (IsTrue (meets game me front q t) ⊎ IsSome (resolved game me front q t)) → IsCommittedBy game me front q t
-behind_met game me front back q t mv nonce a i l other (inl met) =
-    let b = reveal_behind_received game me t q front back mv nonce a i l other met in
-    record { digest = b.0; held_is = b.1; received = got_in front q (Commit q t b.0) b.2 }
-behind_met game me front back q t mv nonce a i l other (inr some) = go (resolved game me front q t) refl some
-  where
-    go : (o : Option Move) → resolved game me front q t ≡ o → IsSome o → IsCommittedBy game me front q t
-    go None e none = cc
-    go (Some m) e there =
-        let j = IsHonest_prefix game me front (Made (Reveal me t mv nonce) ∷ back) i in
-        let r = resolved_received game me q t front m (honest_well_formed game me front a j) other e in
-        record { digest = r.0; held_is = r.2; received = got_in front q (Commit q t r.0) r.3 }
-
--- an honest log shows fair play
-pub honest_fair : (game : Game) (me : ℕ) (log : List Entry) → 1 ≤ game.ahead → IsHonest game me log → IsFairPlay game me log
-honest_fair game me log a i = record {
-  honest = i;
-  behind = λ front back q t mv nonce e l other met. behind_met game me front back q t mv nonce a (subst (λ (h : List Entry). IsHonest game me h) e i) l other met;
-  opened = λ q t mv other e.
-      let r = resolved_received game me q t log mv (honest_well_formed game me log a i) other e in
-      record { digest = r.0; nonce = r.1; held_is = r.2; opens = r.5; committed = got_in log q (Commit q t r.0) r.3; revealed = got_in log q (Reveal q t mv r.1) r.4 };
-}
 
 pub drive_fair : (game : Game) (me : ℕ) (first : List Entry) (input : Input) → 1 ≤ game.ahead → IsHonest game me first → IsFairPlay game me (drive_log game me first input)
 drive_fair game me first input a i = honest_fair game me (drive_log game me first input) a (log_honest game me first input a i)

@@ -1,6 +1,5 @@
 pub mod Choices
 pub mod Plays
-pub mod Players
 pub mod LineOutcomes
 pub mod Fair
 pub mod Ends

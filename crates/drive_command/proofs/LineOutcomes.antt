@@ -29,7 +29,8 @@ use Rattle.drive_command.specs.Driven.{State, last_reader, state_with_log}
 use Rattle.drive_command.specs.Coming.{received_text, bytes_text, bytes_state}
 use Rattle.drive_command.specs.Drive.{answer_by, drive_from, going_on, said_behind, state_behind, text_behind}
 use Rattle.report_lines.specs.Lines.{added_text, choice_text, got_text}
-use Rattle.drive_command.specs.Report.{end_text, log_text, own_score_text}
+use Rattle.drive_command.specs.Report.{end_text, log_text}
+use Rattle.peer_report.specs.Report.{own_score_text}
 
 -- the answer from a log on that has no finding, and from one that has
 pub goes_on : (game : Game) (me : ℕ) (h : List Entry) (rest : Answer) → is_clean game h ≡ true → going_on game me h rest ≡ rest

@@ -9,7 +9,7 @@ use Rattle.run_frame.specs.Frame.{Answer, after_text, bare_answer}
 use Rattle.run_frame.specs.declared.statuses.Status.{Status}
 use Rattle.report_lines.specs.Lines.{dropped_text}
 use Rattle.drive_command.specs.Drive.{drive, drive_log}
-use Rattle.drive_command.specs.FairPlay.{IsFairPlay}
+use Rattle.fair_play.specs.FairPlay.{IsFairPlay}
 use Rattle.drive_command.specs.Telling.{TellsLog}
 
 -- what a run begins with: a session, the log of its player, and the byte from which on the log's file is dropped, if it is

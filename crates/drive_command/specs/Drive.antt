@@ -20,7 +20,8 @@ use Rattle.definitions.specs.declared.limits.TheConstants.{MOST_LINES}
 use Rattle.drive_command.specs.Driven.{State, fresh_state, last_reader, state_with_log}
 use Rattle.drive_command.specs.Coming.{received_text, bytes_text, bytes_state, log_on}
 use Rattle.report_lines.specs.Lines.{choice_text, found_text, added_text}
-use Rattle.drive_command.specs.Report.{log_text, own_score_text, end_text}
+use Rattle.drive_command.specs.Report.{log_text, end_text}
+use Rattle.peer_report.specs.Report.{own_score_text}
 
 -- what the line says that comes behind n lines: a line longer than a line may be, and one behind the most lines that a
 -- script has, is in no grammar

@@ -16,7 +16,7 @@ use Rattle.script_grammar.specs.Grammar.{is_bad}
 use Rattle.drive_command.specs.declared.readers.TheConstants.{READERS}
 use Rattle.drive_command.specs.Driven.{State, fresh_state, reader_of}
 use Rattle.drive_command.specs.Drive.{drive, drive_log, bad_line, said_behind, state_behind, status_for}
-use Rattle.drive_command.specs.FairPlay.{IsFairPlay}
+use Rattle.fair_play.specs.FairPlay.{IsFairPlay}
 use Rattle.drive_command.specs.Telling.{TellsLog}
 
 -- a run ends by a finding of its last log, or else by the first bad line of its script, or else as reading the script ends

@@ -5,7 +5,6 @@ pub mod Drive
 pub mod Outcomes
 pub mod Bringing
 pub mod Telling
-pub mod FairPlay
 pub mod Laws
 pub mod Words
 pub mod Begin

@@ -1,10 +1,9 @@
 //! What is written about a peer.
 
-ghost use Rattle.std.specs.Prelude.{◌≡◌, ◌≤◌, ◌<◌, ◌++◌, length};
-ghost use Rattle.definitions.specs.World.{players_of};
+ghost use Rattle.std.specs.Prelude.{◌≡◌, ◌≤◌, ◌++◌, length};
 ghost use Rattle.line_io.specs.Texts.{Puts};
 ghost use Rattle.report_lines.specs.Lines.{choice_text, found_text, added_text};
-ghost use Rattle.drive_command.specs.Report.{stand_text, viewed_text, players_text, last_text, end_text, own_score_text};
+ghost use Rattle.drive_command.specs.Report.{last_text, end_text};
 ghost use Rattle.drive_command.specs.Outcomes.{reply_text, part_text, answered_text, HasAll, HasBefore};
 ghost use Rattle.definition_laws.specs.First.{finding_of_log};
 
@@ -13,51 +12,11 @@ use crate::outcomes::{Answered, Arrival, Reply};
 use definitions::{OwnFault, PlayerId, Turn};
 use line_io::{Written, put};
 use peer_core::Peer;
+use peer_report::{put_players, put_score, put_stand};
 use report_lines::{
-    bad_byte_line, choice_line, due_line, end_line, got_line, hello_line, player_line, put_added,
-    put_found, put_needs, score_line, want_line,
+    bad_byte_line, choice_line, end_line, got_line, hello_line, put_added, put_found, want_line,
 };
 use station::Sink;
-
-/// Writes how the peer stands; nothing where its log has a finding.
-#[tactic(auto, unfolding(crate::specs::Report::stand_text))]
-fn put_stand<O: Sink>(peer: &Peer, out: &mut O) -> Written
-    ensures { Puts (O.state out.old) (O.state out.new) (stand_text peer.now.game peer.now.me peer.now.entries) result }
-{
-    if peer.finding().is_some() {
-        return put(out, b"");
-    }
-    if peer.may_choose() {
-        put(out, due_line(peer.choice().turn).as_slice())
-    } else {
-        put_needs(peer.needs().as_slice(), out)
-    }
-}
-
-/// Writes what the peer's log shows of a player.
-fn put_player<O: Sink>(peer: &Peer, player: PlayerId, out: &mut O) -> Written
-    requires { player < players_of peer.now.game }
-    ensures { Puts (O.state out.old) (O.state out.new) (viewed_text peer.now.game peer.now.me peer.now.entries player) result }
-{
-    let view = peer.player(player);
-    put(
-        out,
-        player_line(player, view.turns, view.track, view.next).as_slice(),
-    )
-}
-
-/// Writes what the peer's log shows of each player.
-fn put_players<O: Sink>(peer: &Peer, out: &mut O) -> Written
-    ensures { Puts (O.state out.old) (O.state out.new) (players_text peer.now.game peer.now.me peer.now.entries 0 (players_of peer.now.game)) result }
-{
-    'players: for player in 0..peer.session().players() {
-        match put_player(peer, player, out) {
-            Written::All => {}
-            Written::Failed => return Written::Failed,
-        }
-    }
-    Written::All
-}
 
 /// Writes what the peer's log shows of each player, and that this is the end.
 #[tactic(auto, unfolding(crate::specs::Report::last_text))]
@@ -107,18 +66,6 @@ fn put_reply<O: Sink>(peer: &Peer, from: PlayerId, reply: &Reply, out: &mut O) -
         Written::All => put_added(peer.entries(), reply.entries, out),
         Written::Failed => Written::Failed,
     }
-}
-
-/// Writes the peer's own score.
-#[tactic(auto, unfolding(crate::specs::Report::own_score_text))]
-fn put_score<O: Sink>(peer: &Peer, out: &mut O) -> Written
-    ensures { Puts (O.state out.old) (O.state out.new) (own_score_text peer.now.game peer.now.me peer.now.entries) result }
-{
-    let score = peer.score();
-    put(
-        out,
-        score_line(peer.settled(), score.given, score.taken).as_slice(),
-    )
 }
 
 /// Writes what is told of a line.

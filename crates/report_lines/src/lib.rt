@@ -11,6 +11,6 @@ pub mod printing;
 
 pub use lines::{
     ReportLine, bad_byte_line, caught_line, choice_line, dropped_line, due_line, end_line,
-    entry_line, got_line, hello_line, need_line, player_line, score_line, want_line,
+    entry_line, got_line, hello_line, name_of_fault, need_line, player_line, score_line, want_line,
 };
-pub use printing::{put_added, put_dropped, put_found, put_needs};
+pub use printing::{put_added, put_dropped, put_each_need, put_found, put_needs};

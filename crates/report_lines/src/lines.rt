@@ -30,8 +30,8 @@ pub const REPORT_ROOM: usize = 320;
 /// A printed line.
 pub type ReportLine = ArrayVec<u8, REPORT_ROOM>;
 
-/// The name of what is wrong with a move.
-fn name_of_fault(fault: MoveFault) -> &'static [u8]
+/// The name of what is wrong with a move: `M1` to `M6`.
+pub fn name_of_fault(fault: MoveFault) -> &'static [u8]
     ensures { result.now ≡ L.fault_name fault }
 {
     match fault {

@@ -51,8 +51,8 @@ pub fn put_found<O: Sink>(found: Option<Finding>, out: &mut O) -> Written
     }
 }
 
-/// Writes these needs.
-fn put_each_need<O: Sink>(needs: &[Need], out: &mut O) -> Written
+/// Writes these needs, and nothing where there is none.
+pub fn put_each_need<O: Sink>(needs: &[Need], out: &mut O) -> Written
     ensures { Puts (O.state out.old) (O.state out.new) (flat_map need_text needs.now) result }
 {
     'needs: for need in needs {

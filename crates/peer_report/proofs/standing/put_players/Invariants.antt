@@ -1,8 +1,8 @@
 use Rattle.std.proofs.Common.{◌-◌}
 use Rattle.definitions.specs.World.{players_of}
 use Rattle.line_io.specs.Texts.{Underway}
-use Rattle.drive_command.specs.Report.{players_text}
-use Rattle.drive_command.proofs.printing.put_players.Given as goal
+use Rattle.peer_report.specs.Report.{players_text}
+use Rattle.peer_report.proofs.standing.put_players.Given as goal
 
 abbrev pub invariant-players : goal.invariant-players
 invariant-players g l =

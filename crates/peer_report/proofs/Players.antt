@@ -2,7 +2,7 @@
 use Rattle.std.proofs.Common.{◌≡◌, ℕ, ◌+◌, ◌-◌, ◌<◌, List, [], ◌++◌, ap, arith, refl, suc, ◌∙◌}
 use Rattle.definitions.specs.declared.logs.Entry.{Entry}
 use Rattle.definitions.specs.World.{Game}
-use Rattle.drive_command.specs.Report.{players_text, viewed_text}
+use Rattle.peer_report.specs.Report.{players_text, viewed_text}
 
 -- the first of these players, and the others
 players_suc : (game : Game) (me : ℕ) (h : List Entry) (q k : ℕ) → players_text game me h q (suc k) ≡ viewed_text game me h q ++ players_text game me h (q + 1) k

@@ -1,5 +1,5 @@
--- Fair play: what the log of a peer that is driven shows of the protocol.
-use Rattle.std.specs.Prelude.{◌≡◌, ◌⊎◌, ℕ, ◌<◌, List, ◌∷◌, ◌++◌, Some, IsSome, IsTrue}
+-- Fair play: what an honest log shows of the protocol.
+use Rattle.std.specs.Prelude.{◌≡◌, ◌⊎◌, ℕ, ◌<◌, ◌≤◌, List, ◌∷◌, ◌++◌, Some, IsSome, IsTrue}
 use Rattle.definitions.specs.declared.world.Move.{Move}
 use Rattle.definitions.specs.declared.openings.Nonce.{Nonce}
 use Rattle.definitions.specs.declared.openings.Digest.{Digest}
@@ -43,3 +43,7 @@ pub record IsFairPlay (game : Game) (me : ℕ) (log : List Entry) : Type 0 where
   pub behind : (before after : List Entry) (q t : ℕ) (mv : Move) (nonce : Nonce) → log ≡ before ++ Made (Reveal me t mv nonce) ∷ after →
       q < players_of game → (q ≡ me → ⊥) → (IsTrue (meets game me before q t) ⊎ IsSome (resolved game me before q t)) → IsCommittedBy game me before q t
   pub opened : (q t : ℕ) (mv : Move) → (q ≡ me → ⊥) → resolved game me log q t ≡ Some mv → IsOpenedBy game me log q t mv
+
+-- a log that is honest is one of fair play
+abbrev pub HonestLogsAreFair : Type 0
+HonestLogsAreFair = (game : Game) (me : ℕ) (log : List Entry) → 1 ≤ game.ahead → IsHonest game me log → IsFairPlay game me log

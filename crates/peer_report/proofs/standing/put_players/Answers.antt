@@ -2,9 +2,9 @@ use Rattle.std.proofs.Common.{arith, ap, ◌+◌, ◌-◌, ◌<◌, ◌≡◌, �
 use Rattle.std.proofs.lemmas.Grind.{common_steps}
 use Rattle.definitions.specs.World.{players_of}
 use Rattle.line_io.proofs.Writing.{underway_cut, underway_end, underway_more}
-use Rattle.drive_command.specs.Report.{players_text, viewed_text}
-use Rattle.drive_command.proofs.Players.{players_more, players_none}
-use Rattle.drive_command.proofs.printing.put_players.Goals as goal
+use Rattle.peer_report.specs.Report.{players_text, viewed_text}
+use Rattle.peer_report.proofs.Players.{players_more, players_none}
+use Rattle.peer_report.proofs.standing.put_players.Goals as goal
 
 pub returns-in-Failed : goal.returns-in-Failed
 returns-in-Failed g c =
