@@ -203,7 +203,7 @@ pub record IsOverKept (name : List ℕ) (items : List Item) (l m : LoopState) : 
   pub peer : m.peer ≡ l.peer
   pub setting : setting_of m ≡ setting_of l
 
-named_on : (name : List ℕ) (items more : List Item) → BeginsLog name items → BeginsLog name (items ++ more)
+pub named_on : (name : List ℕ) (items more : List Item) → BeginsLog name items → BeginsLog name (items ++ more)
 named_on name [] more b = absurd b
 named_on name (item ∷ items) more b = b
 
@@ -364,4 +364,16 @@ begins_poll_fault name r items after l m n both on state deaf =
     let synced = both.1 in
     let same : n ≡ listens_on false m = state ∙ ap (λ (b : Bool). listens_on b m) deaf in
     let t = listens r name items after l m n w synced on state in
-    record { told = t.0; named = t.1; peer = ap (λ (x : LoopState). x.peer) same ∙ w.peer; setting = ap setting_of same ∙ w.setting; stands = ap (λ (x : LoopState). x.phase) same }
+    record {
+      told = t.0;
+      named = t.1;
+      peer = ap (λ (x : LoopState). x.peer) same ∙ w.peer;
+      setting = ap setting_of same ∙ w.setting;
+      stands = record {
+        fault = ap (λ (x : LoopState). x.phase) same;
+        kept = ap (λ (x : LoopState). x.kept) same ∙ w.kept ∙ sym (ap (λ (x : LoopState). length x.peer.entries) same);
+        synced = ap (λ (x : LoopState). x.synced) same ∙ synced ∙ sym (ap (λ (x : LoopState). x.kept) same);
+        waiting = ap (λ (x : LoopState). x.table.waiting) same ∙ w.taking.waiting;
+        handled = ap (λ (x : LoopState). x.handled) same ∙ w.taking.handled;
+      };
+    }

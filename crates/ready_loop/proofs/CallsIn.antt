@@ -32,7 +32,7 @@ use Rattle.loop_rules.specs.declared.arrivals.Arrival.{Arrival}
 use Rattle.loop_rules.specs.declared.phases.Phase.{Phase}
 use Rattle.loop_rules.specs.declared.phases.Phase.TheVariants.{Running, KeepFault}
 use Rattle.loop_rules.specs.Told.{IsTold}
-use Rattle.ready_loop.specs.States.{LoopState, IsFit, IsOthers, IsOfOther, setting_of, kept_of, view_of}
+use Rattle.ready_loop.specs.States.{LoopState, IsFit, IsOthers, IsOfOther, setting_of, kept_of, choices_of, view_of}
 use Rattle.ready_loop.specs.Steps.{did_by, next_bytes, kept_next, with_table}
 use Rattle.ready_loop.specs.Going.{Goes, IsPlayed, undialled}
 use Rattle.ready_loop.specs.Handling.{KeepsMade, Advances, IsGot, Hears, IsHearing, Handles, KeepsLines, has_next, passed_as, ReadsOnce, Reads, ReadsOut, IsReadyToRead, WantsAt, WantsNone, SameSockets}
@@ -40,7 +40,7 @@ use Rattle.ready_loop.proofs.Going.{goes_still}
 use Rattle.ready_loop.proofs.Idle.{all_kept}
 use Rattle.ready_loop.proofs.Kept.{MayKeep, each_drop, got_may}
 use Rattle.ready_loop.proofs.Made.{Making, made_goes, made_on, made_faults, all_made, advance_more}
-use Rattle.ready_loop.proofs.Choosing.{with_entries, grown_view, grown_setting, there_last}
+use Rattle.ready_loop.proofs.Choosing.{with_entries, grown_view, grown_setting, there_last, chosen_made, chosen_got}
 use Rattle.ready_loop.proofs.Places.{at_length, at_same}
 use Rattle.ready_loop.proofs.Handled.{got_faults, got_goes, Handling}
 use Rattle.ready_loop.proofs.Served.{lines_differ}
@@ -136,6 +136,7 @@ advances done before after i l m n p w a f k =
         setting = k.goes.setting ∙ ap setting_of is ∙ grown_setting l (advance l.peer.game l.peer.me l.peer.entries) more.0 more.1 g.over;
         undialled = (let u = k.goes.undialled in let v = ap undialled is in omega (arith, u, v));
         told = k.goes.told;
+        chosen = k.goes.chosen ∙ ap choices_of is ∙ chosen_made l.peer.game l.peer.me l.peer.entries;
       };
       table = k.table ∙ ap (λ (x : LoopState). x.table) is;
       handled = k.handled ∙ ap (λ (x : LoopState). x.handled) is;
@@ -254,6 +255,7 @@ heard_hears done items after i l m n a answer p w h f logged state k =
         setting = k.goes.setting ∙ ap setting_of is ∙ grown_setting l (l.peer.entries ++ Got a.player a.frame ∷ []) (Got a.player a.frame ∷ []) refl g.over;
         undialled = (let u = k.goes.undialled in let v = ap undialled is in omega (arith, u, v));
         told = k.goes.told;
+        chosen = k.goes.chosen ∙ ap choices_of is ∙ chosen_got l.peer.me l.peer.entries a.player a.frame;
       };
       keeps = subst (λ (x : LoopState). KeepsLines x.table n.table) is k.keeps;
       waiting = k.waiting ∙ ap (λ (x : LoopState). x.table.waiting) is;

@@ -9,7 +9,6 @@ use Rattle.definitions.specs.declared.openings.Opening.{Opening}
 use Rattle.definitions.specs.declared.openings.Nonce.{Nonce}
 use Rattle.definitions.specs.declared.world.Move.{Move}
 use Rattle.definitions.specs.declared.world.MoveFault.{MoveFault}
-use Rattle.definitions.specs.declared.world.Track.{Track}
 use Rattle.definitions.specs.declared.answers.OwnFault.{OwnFault}
 use Rattle.definitions.specs.declared.answers.OwnFault.TheVariants.{NotNow, Illegal}
 use Rattle.definitions.specs.Needs.{may_choose, choice_fault, own_fault}
@@ -17,7 +16,7 @@ use Rattle.definitions.specs.Moves.{move_fault}
 use Rattle.peer_core.specs.Standing.{IsStanding}
 use Rattle.peer_core.specs.declared.views.Choice.{Choice}
 use Rattle.definitions.specs.declared.logs.Entry.{Entry}
-use Rattle.definitions.specs.declared.logs.Entry.TheVariants.{Chose, Made}
+use Rattle.definitions.specs.declared.logs.Entry.TheVariants.{Chose, Made, Got}
 use Rattle.definitions.specs.World.{Game}
 use Rattle.definitions.specs.Logs.{chosen}
 use Rattle.definitions.specs.Honest.{IsHonest, allowed, chosen_track}
@@ -45,12 +44,14 @@ use Rattle.loop_rules.specs.Told.{IsTold}
 use Rattle.loop_rules.proofs.Kept.{Keeps, keeps_sorted}
 use Rattle.ready_loop.specs.States.{LoopState, IsFit, IsOfOther, setting_of, kept_of, base_of, rest_of, view_of}
 use Rattle.ready_loop.specs.Steps.{did_by, next_bytes, kept_next}
-use Rattle.ready_loop.specs.Going.{Goes, IsSteady, undialled}
+use Rattle.ready_loop.specs.Going.{Grows, IsSteady, undialled}
 use Rattle.ready_loop.specs.Handling.{Advances, StandsPlayed}
 use Rattle.ready_loop.specs.declared.playing.Played.TheVariants as P
 use Rattle.ready_loop.specs.declared.playing.Played.{Played}
-use Rattle.ready_loop.specs.Settling.{IsPlaying, PutsChoice, illegal_of, StandsChosen, StandsAs, IsOwnMove, Chooses, Plays, is_on}
-use Rattle.ready_loop.proofs.Going.{goes_still, goes_then}
+use Rattle.ready_loop.specs.Settling.{IsPlaying, PutsChoice, illegal_of, ChoosesIn, StandsChosen, StandsAs, IsOwnMove, Chooses, Plays, is_on, is_refused}
+use Rattle.ready_loop.specs.Choices.{Chooser}
+use Rattle.ready_loop.proofs.Going.{goes_still, grows, grows_then, grows_goes}
+use Rattle.ready_loop.proofs.Choices.{IsDrawn, chose_one, chose_refused, chooses_none, chooses_then, chooses_goes}
 use Rattle.ready_loop.proofs.Tests.{both_of}
 use Rattle.ready_loop.proofs.Idle.{all_kept}
 use Rattle.ready_loop.proofs.Kept.{MayKeep, own_goes, each_drop}
@@ -123,7 +124,7 @@ chosen_keeps items l m t mv n w f = subst (λ (x : LoopState). MayKeep items x e
 
 -- from the loop before the choice
 pub chosen_goes : (done : Bool) (items after : List Item) (l m n : LoopState) (t : ℕ) (mv : Move) (nonce : Nonce) → IsChosen items l m (Chose t mv nonce) → FitsEntry (Chose t mv nonce) →
-    after ≡ items ++ keep_item (did_by done) (next_bytes m) ∷ [] → n ≡ kept_next done m → Goes items after l n
+    after ≡ items ++ keep_item (did_by done) (next_bytes m) ∷ [] → n ≡ kept_next done m → Grows items after l n
 chosen_goes done items after l m n t mv nonce w f on same =
     let g = own_goes done items after m n (Chose t mv nonce) (chosen_keeps items l m t mv nonce w f) tt on same in
     record {
@@ -135,21 +136,25 @@ chosen_goes done items after l m n t mv nonce w f on same =
       told = g.told;
     }
 
--- ---- how many are chosen
+-- ---- what is chosen
 
 -- made frames are no choices
-chosen_made_by : (game : Game) (me n : ℕ) (h : List Entry) → length (chosen me (advance_by game me n h)) ≡ length (chosen me h)
+chosen_made_by : (game : Game) (me n : ℕ) (h : List Entry) → chosen me (advance_by game me n h) ≡ chosen me h
 unfolding advance_by
 chosen_made_by game me zero h = refl
 chosen_made_by game me (suc n) h = chosen_made_by game me n (with_made h (next_made game me h)) ∙ go (next_made game me h)
   where
-    go : (o : Option TurnFrame) → length (chosen me (with_made h o)) ≡ length (chosen me h)
+    go : (o : Option TurnFrame) → chosen me (with_made h o) ≡ chosen me h
     go None = refl
-    go (Some f) = ap (λ (os : List Opening). length os) (chosen_push me h (Made f) ∙ append-nil (chosen me h))
+    go (Some f) = chosen_push me h (Made f) ∙ append-nil (chosen me h)
 
-pub chosen_made : (game : Game) (me : ℕ) (h : List Entry) → length (chosen me (advance game me h)) ≡ length (chosen me h)
+pub chosen_made : (game : Game) (me : ℕ) (h : List Entry) → chosen me (advance game me h) ≡ chosen me h
 unfolding advance
 chosen_made game me h = chosen_made_by game me (2 * game.turns) h
+
+-- nor are frames that were got
+pub chosen_got : (me : ℕ) (h : List Entry) (q : ℕ) (f : TurnFrame) → chosen me (h ++ Got q f ∷ []) ≡ chosen me h
+chosen_got me h q f = chosen_push me h (Got q f) ∙ append-nil (chosen me h)
 
 pub chosen_one : (me : ℕ) (h : List Entry) (t : ℕ) (mv : Move) (n : Nonce) → length (chosen me (h ++ Chose t mv n ∷ [])) ≡ length (chosen me h) + 1
 chosen_one me h t mv n =
@@ -158,9 +163,9 @@ chosen_one me h t mv n =
 
 -- ---- one choice after another
 
-pub record Choosing (plan later : Option Plan) (before items : List Item) (l m : LoopState) : Type 0 where
-  pub still : later ≡ plan
-  pub goes : Goes before items l m
+pub record Choosing (by to : Chooser) (before items : List Item) (l m : LoopState) : Type 0 where
+  pub choices : ChoosesIn by to false l m
+  pub grows : Grows before items l m
   pub table : m.table ≡ l.table
   pub synced : m.synced ≡ l.synced
   pub clean : is_clean m.peer.game m.peer.entries ≡ is_clean l.peer.game l.peer.entries
@@ -219,7 +224,7 @@ pub put_running : (items : List Item) (l m : LoopState) (mv : Move) (nonce : Non
 put_running items l m mv nonce fault w p none = ap (λ (x : LoopState). x.phase) (puts_none l m mv nonce fault p none).stands.0 ∙ w.steady.idle.running
 
 put_goes : (done r : Bool) (items after : List Item) (l m n : LoopState) (mv : Move) (nonce : Nonce) (fault : Option MoveFault) → IsPlaying items l → PutsChoice mv nonce fault l m → fault ≡ None →
-    ((e : Entry) → slice_get m.peer.entries m.kept ≡ Some e → FitsEntry e) → r ≡ done → after ≡ items ++ keep_item (did_by r) (next_bytes m) ∷ [] → n ≡ kept_next r m → Goes items after l n
+    ((e : Entry) → slice_get m.peer.entries m.kept ≡ Some e → FitsEntry e) → r ≡ done → after ≡ items ++ keep_item (did_by r) (next_bytes m) ∷ [] → n ≡ kept_next r m → Grows items after l n
 put_goes done r items after l m n mv nonce fault w p none fits is on state =
     let q = puts_none l m mv nonce fault p none in
     let e : Entry = Chose (length (chosen l.peer.me l.peer.entries)) mv nonce in
@@ -227,14 +232,14 @@ put_goes done r items after l m n mv nonce fault w p none fits is on state =
     let next : slice_get m.peer.entries m.kept ≡ Some e = subst (λ (x : LoopState). slice_get x.peer.entries x.kept ≡ Some e) (sym q.stands.0) (ap (slice_get (l.peer.entries ++ e ∷ [])) w.steady.idle.kept ∙ there_last l.peer.entries e) in
     chosen_goes r items after l m n (length (chosen l.peer.me l.peer.entries)) mv nonce k (fits e next) on state
 
-pub choose_faults : (plan later : Option Plan) → later ≡ plan → (r : Bool) (items after : List Item) (l m n : LoopState) (mv : Move) (nonce : Nonce) (fault : Option MoveFault) → IsPlaying items l → PutsChoice mv nonce fault l m → fault ≡ None →
-    ((e : Entry) → slice_get m.peer.entries m.kept ≡ Some e → FitsEntry e) → r ≡ false → after ≡ items ++ keep_item (did_by r) (next_bytes m) ∷ [] → n ≡ kept_next r m → Chooses plan later P.KeepFault items after l n
-choose_faults plan later still r items after l m n mv nonce fault w p none fits is on state =
+pub choose_faults : (by to : Chooser) (r : Bool) (items after : List Item) (l m n : LoopState) (mv : Move) (nonce : Nonce) (fault : Option MoveFault) → IsDrawn l by to mv nonce → IsPlaying items l → PutsChoice mv nonce fault l m → fault ≡ None →
+    ((e : Entry) → slice_get m.peer.entries m.kept ≡ Some e → FitsEntry e) → r ≡ false → after ≡ items ++ keep_item (did_by r) (next_bytes m) ∷ [] → n ≡ kept_next r m → Chooses by to P.KeepFault items after l n
+choose_faults by to r items after l m n mv nonce fault d w p none fits is on state =
     let q = puts_none l m mv nonce fault p none in
     let same : n ≡ kept_next false m = state ∙ ap (λ (b : Bool). kept_next b m) is in
     record {
-      still = still;
-      goes = put_goes false r items after l m n mv nonce fault w p none fits is on state;
+      choices = chose_one l n by to mv nonce d (ap (λ (x : LoopState). x.peer) (same ∙ ap (kept_next false) q.stands.0));
+      grows = put_goes false r items after l m n mv nonce fault w p none fits is on state;
       table = ap (λ (x : LoopState). x.table) same ∙ ap (λ (x : LoopState). x.table) q.stands.0;
       synced = ap (λ (x : LoopState). x.synced) same ∙ ap (λ (x : LoopState). x.synced) q.stands.0;
       clean = λ on. absurd (false≢true on);
@@ -243,7 +248,7 @@ choose_faults plan later still r items after l m n mv nonce fault w p none fits 
 
 -- behind the keep of the choice
 pub record IsPut (items mid : List Item) (l n : LoopState) (mv : Move) (nonce : Nonce) : Type 0 where
-  pub goes : Goes items mid l n
+  pub grows : Grows items mid l n
   pub running : n.phase ≡ Running
   pub kept : n.kept ≡ length n.peer.entries
   pub table : n.table ≡ l.table
@@ -259,7 +264,7 @@ put_on r items after l m n mv nonce fault w p none fits is on state =
     let same : n ≡ kept_next true m = state ∙ ap (λ (b : Bool). kept_next b m) is in
     let both : n ≡ kept_next true (with_entries (l.peer.entries ++ e ∷ []) l) = same ∙ ap (kept_next true) q.stands.0 in
     record {
-      goes = put_goes true r items after l m n mv nonce fault w p none fits is on state;
+      grows = put_goes true r items after l m n mv nonce fault w p none fits is on state;
       running = ap (λ (x : LoopState). x.phase) both ∙ w.steady.idle.running;
       kept = ap (λ (x : LoopState). x.kept) both ∙ (let k = w.steady.idle.kept in let long = length-append l.peer.entries (e ∷ []) in let z : l.kept + 1 ≡ length (l.peer.entries ++ e ∷ []) = omega (arith, k, long) in z) ∙ sym (ap (λ (x : LoopState). length x.peer.entries) both);
       table = ap (λ (x : LoopState). x.table) both;
@@ -268,10 +273,14 @@ put_on r items after l m n mv nonce fault w p none fits is on state =
       entries = ap (λ (x : LoopState). x.peer) both;
     }
 
-pub choose_stops : (plan later : Option Plan) → later ≡ plan → (r : Bool) (items mid after : List Item) (l n o : LoopState) (mv : Move) (nonce : Nonce) → IsPut items mid l n mv nonce → Advances r mid after n o → r ≡ false → Chooses plan later P.KeepFault items after l o
-choose_stops plan later still r items mid after l n o mv nonce p a none = record {
-  still = still;
-  goes = goes_then items mid after l n o p.goes a.goes;
+-- and of the own frames that it lets be made
+put_choices : (by to : Chooser) (r : Bool) (items mid after : List Item) (l n o : LoopState) (mv : Move) (nonce : Nonce) → IsDrawn l by to mv nonce → IsPut items mid l n mv nonce → Advances r mid after n o → ChoosesIn by to false l o
+put_choices by to r items mid after l n o mv nonce d p a = chooses_goes by to false mid after l n o p.grows.setting (chose_one l n by to mv nonce d p.entries) a.goes
+
+pub choose_stops : (by to : Chooser) (r : Bool) (items mid after : List Item) (l n o : LoopState) (mv : Move) (nonce : Nonce) → IsDrawn l by to mv nonce → IsPut items mid l n mv nonce → Advances r mid after n o → r ≡ false → Chooses by to P.KeepFault items after l o
+choose_stops by to r items mid after l n o mv nonce d p a none = record {
+  choices = put_choices by to r items mid after l n o mv nonce d p a;
+  grows = grows_goes items mid after l n o p.grows a.goes;
   table = a.table ∙ p.table;
   synced = a.synced ∙ p.synced;
   clean = λ on. absurd (false≢true on);
@@ -282,20 +291,20 @@ clean_chose : (game : Game) (h : List Entry) (t : ℕ) (m : Move) (n : Nonce) �
 unfolding is_clean
 clean_chose game h t m n = ap (is_empty {X = Finding}) (findings_chose game h t m n)
 
-pub chooses_on : (plan later : Option Plan) → later ≡ plan → (r : Bool) (items mid after : List Item) (l n o : LoopState) (mv : Move) (nonce : Nonce) → IsPlaying items l → IsPut items mid l n mv nonce → Advances r mid after n o → r ≡ true → Chooses plan later P.On items after l o
-chooses_on plan later still r items mid after l n o mv nonce w p a sure =
-    let goes = goes_then items mid after l n o p.goes a.goes in
+pub chooses_on : (by to : Chooser) (r : Bool) (items mid after : List Item) (l n o : LoopState) (mv : Move) (nonce : Nonce) → IsDrawn l by to mv nonce → IsPlaying items l → IsPut items mid l n mv nonce → Advances r mid after n o → r ≡ true → Chooses by to P.On items after l o
+chooses_on by to r items mid after l n o mv nonce d w p a sure =
+    let all = grows_goes items mid after l n o p.grows a.goes in
     let stands = subst (λ (b : Bool). StandsPlayed b o) sure a.stands in
-    let me : o.peer.me ≡ l.peer.me = ap (λ (s : Setting). s.me) goes.setting in
+    let me : o.peer.me ≡ l.peer.me = ap (λ (s : Setting). s.me) all.setting in
     let t = length (chosen l.peer.me l.peer.entries) in
     let es = l.peer.entries ++ Chose t mv nonce ∷ [] in
     let entries : o.peer.entries ≡ advance l.peer.game l.peer.me es = a.entries ∙ ap (λ (q : PeerState). advance q.game q.me q.entries) p.entries in
     record {
-      still = still;
-      goes = goes;
+      choices = put_choices by to r items mid after l n o mv nonce d p a;
+      grows = all;
       table = a.table ∙ p.table;
       synced = a.synced ∙ p.synced;
-      clean = λ on. ap (λ (g : Game). is_clean g o.peer.entries) (ap (λ (s : Setting). s.game) goes.setting) ∙ ap (is_clean l.peer.game) entries ∙ clean_advance l.peer.game l.peer.me es ∙ clean_chose l.peer.game l.peer.entries t mv nonce;
+      clean = λ on. ap (λ (g : Game). is_clean g o.peer.entries) (ap (λ (s : Setting). s.game) all.setting) ∙ ap (is_clean l.peer.game) entries ∙ clean_advance l.peer.game l.peer.me es ∙ clean_chose l.peer.game l.peer.entries t mv nonce;
       stands = (
         record {
           idle = record {
@@ -306,20 +315,17 @@ chooses_on plan later still r items mid after l n o mv nonce w p a sure =
           };
           made = stands.1.made;
         },
-        ap (λ (q : ℕ). length (chosen q o.peer.entries)) me ∙ ap (λ (xs : List Entry). length (chosen l.peer.me xs)) entries ∙ chosen_made_for l.peer.game l.peer.me l.peer.me es ∙ chosen_one l.peer.me l.peer.entries t mv nonce,
+        ap (λ (q : ℕ). length (chosen q o.peer.entries)) me ∙ ap (λ (xs : List Entry). length (chosen l.peer.me xs)) entries ∙ ap (λ (os : List Opening). length os) (chosen_made l.peer.game l.peer.me es) ∙ chosen_one l.peer.me l.peer.entries t mv nonce,
       );
     }
-  where
-    chosen_made_for : (game : Game) (me q : ℕ) (h : List Entry) → length (chosen me (advance game me h)) ≡ length (chosen me h)
-    chosen_made_for game me q h = chosen_made game me h
 
-pub own_move : (plan later : Option Plan) → later ≡ plan → (items : List Item) (l m : LoopState) (choice : Choice) (mv : Move) (nonce : Nonce) (fault : Option MoveFault) (f : MoveFault) → IsPlaying items l → may_choose l.peer.game l.peer.me l.peer.entries ≡ true →
-    choice ≡ choice_of l.peer.game l.peer.me l.peer.entries → IfSome plan (λ p. mv ≡ p choice.track choice.turn) → PutsChoice mv nonce fault l m → fault ≡ Some f → Chooses plan later (P.OwnMove choice.turn f) items items l m
-own_move plan later still items l m choice mv nonce fault f w may is planned p some =
+pub own_move : (by to : Chooser) (items : List Item) (l m : LoopState) (choice : Choice) (mv : Move) (nonce : Nonce) (fault : Option MoveFault) (f : MoveFault) → IsDrawn l by to mv nonce → IsPlaying items l → may_choose l.peer.game l.peer.me l.peer.entries ≡ true →
+    choice ≡ choice_of l.peer.game l.peer.me l.peer.entries → PutsChoice mv nonce fault l m → fault ≡ Some f → Chooses by to (P.OwnMove choice.turn f) items items l m
+own_move by to items l m choice mv nonce fault f d w may is p some =
     let q = subst (λ (o : Option MoveFault). PutsChoice mv nonce o l m) some p in
-    subst (λ (x : LoopState). Chooses plan later (P.OwnMove choice.turn f) items items l x) (sym q.stands.0) (record {
-      still = still;
-      goes = goes_still items l w.told;
+    subst (λ (x : LoopState). Chooses by to (P.OwnMove choice.turn f) items items l x) (sym q.stands.0) (record {
+      choices = chose_refused l l by to mv nonce d refl;
+      grows = grows items items l l (goes_still items l w.told);
       table = refl;
       synced = refl;
       clean = λ on. absurd (false≢true on);
@@ -329,60 +335,58 @@ own_move plan later still items l m choice mv nonce fault f w may is planned p s
           mv = mv;
           chooses = may;
           turn_is = ap (λ (x : Choice). x.turn) is;
-          planned = go plan planned;
+          planned = subst (λ (x : Choice). IfSome by.plan (λ p. mv ≡ p (chosen_track l.peer.game l.peer.me l.peer.entries) x.turn)) (sym is) d.planned;
           refused = q.stands.1;
         },
       );
     })
-  where
-    go : (o : Option Plan) → IfSome o (λ p. mv ≡ p choice.track choice.turn) → IfSome o (λ p. mv ≡ p (chosen_track l.peer.game l.peer.me l.peer.entries) choice.turn)
-    go None h = tt
-    go (Some p) h = h ∙ ap (λ (t : Track). p t choice.turn) (ap (λ (x : Choice). x.track) is)
 
-pub choosing_first : (plan : Option Plan) (items : List Item) (l : LoopState) → IsPlaying items l → Choosing plan plan items items l l
-choosing_first plan items l w = record { still = refl; goes = goes_still items l w.told; table = refl; synced = refl; clean = refl; steady = w.steady }
+pub choosing_first : (by : Chooser) (items : List Item) (l : LoopState) → IsPlaying items l → Choosing by by items items l l
+choosing_first by items l w =
+    let still = goes_still items l w.told in
+    record { choices = chooses_none by items items l l still; grows = grows items items l l still; table = refl; synced = refl; clean = refl; steady = w.steady }
 
-pub choosing_playing : (plan later : Option Plan) (before items : List Item) (l m : LoopState) → Choosing plan later before items l m → IsPlaying items m
-choosing_playing plan later before items l m w = record { told = w.goes.told; steady = w.steady }
+pub choosing_playing : (by to : Chooser) (before items : List Item) (l m : LoopState) → Choosing by to before items l m → IsPlaying items m
+choosing_playing by to before items l m w = record { told = w.grows.told; steady = w.steady }
 
 on_is : (played : Played) → is_on played ≡ true → played ≡ P.On
 on_is P.On e = refl
 on_is P.KeepFault e = absurd (false≢true e)
 on_is (P.OwnMove turn fault) e = absurd (false≢true e)
 
-pub choosing_on : (plan mid later : Option Plan) (played : Played) (r : Bool) (before items after : List Item) (l m n : LoopState) → Choosing plan mid before items l m → Chooses mid later played items after m n → r ≡ is_on played → r ≡ true → Choosing plan later before after l n
-choosing_on plan mid later played r before items after l m n w c is sure =
-    let on = sym is ∙ sure in
+pub choosing_on : (by mid to : Chooser) (played : Played) (r : Bool) (before items after : List Item) (l m n : LoopState) → Choosing by mid before items l m → Chooses mid to played items after m n → r ≡ is_on played → r ≡ true → Choosing by to before after l n
+choosing_on by mid to played r before items after l m n w c is sure =
+    let on = subst (λ (p : Played). Chooses mid to p items after m n) (on_is played (sym is ∙ sure)) c in
     record {
-      still = c.still ∙ w.still;
-      goes = goes_then before items after l m n w.goes c.goes;
-      table = c.table ∙ w.table;
-      synced = c.synced ∙ w.synced;
-      clean = c.clean on ∙ w.clean;
-      steady = (subst (λ (p : Played). StandsChosen mid p m n) (on_is played on) c.stands).0;
+      choices = chooses_then by mid to false l m n w.grows.setting w.choices on.choices;
+      grows = grows_then before items after l m n w.grows on.grows;
+      table = on.table ∙ w.table;
+      synced = on.synced ∙ w.synced;
+      clean = on.clean refl ∙ w.clean;
+      steady = on.stands.0;
     }
 
-pub choosing_smaller : (mid later : Option Plan) (played : Played) (r : Bool) (items after : List Item) (m n : LoopState) → Chooses mid later played items after m n → r ≡ is_on played → r ≡ true → length (chosen n.peer.me n.peer.entries) ≤ n.peer.game.turns →
+pub choosing_smaller : (mid to : Chooser) (played : Played) (r : Bool) (items after : List Item) (m n : LoopState) → Chooses mid to played items after m n → r ≡ is_on played → r ≡ true → length (chosen n.peer.me n.peer.entries) ≤ n.peer.game.turns →
     n.peer.game.turns - length (chosen n.peer.me n.peer.entries) < m.peer.game.turns - length (chosen m.peer.me m.peer.entries)
-choosing_smaller mid later played r items after m n c is sure few =
-    let one = (subst (λ (p : Played). StandsChosen mid p m n) (on_is played (sym is ∙ sure)) c.stands).1 in
-    let turns : n.peer.game.turns ≡ m.peer.game.turns = ap (λ (s : Setting). s.game.turns) c.goes.setting in
+choosing_smaller mid to played r items after m n c is sure few =
+    let one = (subst (λ (p : Played). StandsChosen mid.plan p m n) (on_is played (sym is ∙ sure)) c.stands).1 in
+    let turns : n.peer.game.turns ≡ m.peer.game.turns = ap (λ (s : Setting). s.game.turns) c.grows.setting in
     omega (arith, one, turns, few)
 
-pub choosing_ends : (plan later : Option Plan) (r : Bool) (before items : List Item) (l m : LoopState) → Choosing plan later before items l m → r ≡ may_choose m.peer.game m.peer.me m.peer.entries → r ≡ false → Plays plan later P.On before items l m
-choosing_ends plan later r before items l m w is none = record { still = w.still; goes = w.goes; table = w.table; synced = w.synced; clean = λ on. w.clean; stands = (w.steady, sym is ∙ none) }
+pub choosing_ends : (by to : Chooser) (r : Bool) (before items : List Item) (l m : LoopState) → Choosing by to before items l m → r ≡ may_choose m.peer.game m.peer.me m.peer.entries → r ≡ false → Plays by to P.On before items l m
+choosing_ends by to r before items l m w is none = record { choices = w.choices; grows = w.grows; table = w.table; synced = w.synced; clean = λ on. w.clean; stands = (w.steady, sym is ∙ none) }
 
 stands_as : (plan mid : Option Plan) (played : Played) (m n : LoopState) → mid ≡ plan → is_on played ≡ false → StandsChosen mid played m n → StandsAs plan played n
 stands_as plan mid P.On m n e off s = absurd (false≢true (sym off))
 stands_as plan mid P.KeepFault m n e off s = s
 stands_as plan mid (P.OwnMove turn fault) m n e off s = (s.0, subst (λ (p : Option Plan). IsOwnMove p turn fault n) e s.1)
 
-pub choosing_stops : (plan mid later : Option Plan) (played : Played) (r : Bool) (before items after : List Item) (l m n : LoopState) → Choosing plan mid before items l m → Chooses mid later played items after m n → r ≡ is_on played → r ≡ false → Plays plan later played before after l n
-choosing_stops plan mid later played r before items after l m n w c is none = record {
-  still = c.still ∙ w.still;
-  goes = goes_then before items after l m n w.goes c.goes;
+pub choosing_stops : (by mid to : Chooser) (played : Played) (r : Bool) (before items after : List Item) (l m n : LoopState) → Choosing by mid before items l m → Chooses mid to played items after m n → r ≡ is_on played → r ≡ false → Plays by to played before after l n
+choosing_stops by mid to played r before items after l m n w c is none = record {
+  choices = chooses_then by mid to (is_refused played) l m n w.grows.setting w.choices c.choices;
+  grows = grows_then before items after l m n w.grows c.grows;
   table = c.table ∙ w.table;
   synced = c.synced ∙ w.synced;
   clean = λ on. absurd (false≢true (sym (sym is ∙ none) ∙ on));
-  stands = stands_as plan mid played m n w.still (sym is ∙ none) c.stands;
+  stands = stands_as by.plan mid.plan played m n w.choices.plan (sym is ∙ none) c.stands;
 }

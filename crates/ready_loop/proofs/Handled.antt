@@ -27,7 +27,7 @@ use Rattle.ready_loop.proofs.Kept.{MayKeep, fault_told, got_told}
 pub got_faults : (items after : List Item) (l m : LoopState) (e : Entry) → MayKeep items l e → after ≡ items ++ keep_item (did_by false) (next_bytes l) ∷ [] → m ≡ kept_next false l → Hears false items after l m
 got_faults items after l m e w on same =
     subst (λ (x : LoopState). Hears false items after l x) (sym same) (record {
-      goes = goes_one items after (Failed (KeepCall (next_bytes l))) l (in_phase KeepFault l) on refl refl (omega arith) (fault_told items l e w);
+      goes = goes_one items after (Failed (KeepCall (next_bytes l))) l (in_phase KeepFault l) on refl refl (omega arith) (fault_told items l e w) refl;
       keeps = record { lines = refl; rooms = λ p. refl };
       waiting = refl;
       handled = λ d. absurd (let f : false ≡ true = d in cc);
@@ -38,7 +38,7 @@ pub got_goes : (items after : List Item) (l m : LoopState) (w : IsGot l) → l.h
     after ≡ items ++ keep_item (did_by true) (next_bytes l) ∷ [] → m ≡ record l { kept = l.kept + 1; handled = l.handled + 1 } → Goes items after l m
 got_goes items after l m w lt k on same =
     subst (λ (x : LoopState). Goes items after l x) (sym same)
-    (goes_one items after (Kept (next_bytes l)) l (record l { kept = l.kept + 1; handled = l.handled + 1 }) on refl refl (omega arith) (got_told items l w lt k))
+    (goes_one items after (Kept (next_bytes l)) l (record l { kept = l.kept + 1; handled = l.handled + 1 }) on refl refl (omega arith) (got_told items l w lt k) refl)
 
 -- and the own frames that it lets be made
 pub got_hears : (done : Bool) (items mid after : List Item) (l m n : LoopState) → Goes items mid l m → m ≡ record l { kept = l.kept + 1; handled = l.handled + 1 } → Advances done mid after m n → Hears done items after l n
@@ -112,6 +112,7 @@ handles_all on before items l m n w none same clean =
         polls = w.goes.polls;
         setting = w.goes.setting;
         undialled = w.goes.undialled;
+        chosen = w.goes.chosen;
         told = subst (IsTold items) (sym (clear_shows m (ap (λ (k : ℕ). take k m.peer.entries) w.played.kept ∙ take-length m.peer.entries) none)) w.goes.told;
       };
       keeps = record { lines = w.keeps.lines; rooms = w.keeps.rooms };

@@ -12,7 +12,7 @@ use Rattle.definitions.specs.declared.logs.Entry.TheVariants.{Got}
 use Rattle.definitions.specs.declared.answers.GotAnswer.{GotAnswer}
 use Rattle.definitions.specs.declared.answers.GotAnswer.TheVariants as GA
 use Rattle.definitions.specs.World.{Game, players_of}
-use Rattle.definitions.specs.Logs.{frames_of}
+use Rattle.definitions.specs.Logs.{chosen, frames_of}
 use Rattle.definitions.specs.Held.{known, next_place}
 use Rattle.definitions.specs.Findings.{findings, is_clean}
 use Rattle.definitions.specs.Answers.{is_far, is_same, is_new, is_of_another, got_answer, new_answer}
@@ -172,6 +172,7 @@ pass_hears items l m a answer w lt g c o e un same =
         polls = refl;
         setting = n.0;
         undialled = n.1;
+        chosen = ap (λ (p : PeerState). chosen p.me p.entries) s.5;
         told = subst (IsTold items) (sym (pass_shows l a answer lt g all c o old e)) w.told;
       };
       keeps = s.0;

@@ -2,6 +2,7 @@ pub mod Tests
 pub mod Sorting
 pub mod Entries
 pub mod Going
+pub mod Choices
 pub mod Kept
 pub mod Made
 pub mod Heard
@@ -28,3 +29,4 @@ pub mod CallsIn
 pub mod CallsOut
 pub mod New
 pub mod Runs
+pub mod Whole

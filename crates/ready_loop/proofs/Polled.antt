@@ -24,7 +24,7 @@ use Rattle.ready_loop.specs.States.{LoopState, IsFit, IsOthers, IsOfOther, base_
 use Rattle.session_log.specs.Writing.{Writing}
 use Rattle.ready_loop.proofs.Fits.{fit_put}
 use Rattle.ready_loop.specs.Steps.{did_by, with_table, in_phase}
-use Rattle.ready_loop.specs.Going.{Goes, polls_of}
+use Rattle.ready_loop.specs.Going.{Grows, polls_of}
 use Rattle.ready_loop.specs.Polling.{IsLicensedToPoll, GoesBy, Polls}
 use Rattle.ready_loop.proofs.Going.{polls_more}
 use Rattle.ready_loop.proofs.Idle.{still_view, idle_view}
@@ -97,7 +97,7 @@ by_then i j a b c l m n g h = record {
   told = h.told;
 }
 
-pub by_none : (a b : List Item) (l m : LoopState) → Goes a b l m → GoesBy 0 a b l m
+pub by_none : (a b : List Item) (l m : LoopState) → Grows a b l m → GoesBy 0 a b l m
 by_none a b l m g = record { more = g.more; grown = g.grown; polls = (let x = g.polls in omega (arith, x)); setting = g.setting; told = g.told }
 
 pub by_still : (a : List Item) (l : LoopState) → IsTold a (view_of l) → GoesBy 0 a a l l
@@ -121,6 +121,7 @@ polls_so true before after l m list w n on same =
             (subst (IsTold (before ++ Polled list ∷ [])) (sym (still_view next (polled_waits l.table list ∙ w.whole.idle.waiting) w.whole.idle.handled))
             (told_goes_on before (base_of l) (Polled list) (subst (IsTold before) (idle_view l w.whole.idle) w.told) n (licensed_base before l w)));
       };
+      peer = refl;
       stands = record { idle = record { running = w.whole.idle.running; kept = w.whole.idle.kept; waiting = polled_waits l.table list ∙ w.whole.idle.waiting; handled = w.whole.idle.handled }; synced = w.whole.synced };
     })
   where
@@ -137,7 +138,8 @@ polls_so false before after l m list w n on same =
             (subst (IsTold (before ++ Failed PollCall ∷ [])) (sym (still_view (in_phase PollFault l) w.whole.idle.waiting w.whole.idle.handled))
             (told_goes_on before (base_of l) (Failed PollCall) (subst (IsTold before) (idle_view l w.whole.idle) w.told) tt (licensed_base before l w)));
       };
-      stands = refl;
+      peer = refl;
+      stands = record { fault = refl; kept = w.whole.idle.kept; synced = w.whole.synced; waiting = w.whole.idle.waiting; handled = w.whole.idle.handled };
     })
 
 -- ---- as the loop's parts show it

@@ -114,7 +114,7 @@ read_goes k s read before after l m w a r =
     (let e = same_undialled l.table.seats (read_on (hearer_by l.peer) s read r.buf l.table).seats (read_seats (hearer_by l.peer) s read r.buf l.table) in omega (arith, e))
     (subst (IsTold (before ++ read_item s read r.buf ∷ [])) (read_shows s read r.buf l w.steady.idle)
     (told_goes_on before (view_of l) (read_item s read r.buf) w.told (opens_none before s read r.buf)
-    (read_may s read r.buf l a.line w.steady.idle (read_found l k s a) a.wants r.within (r.room a.line k a.here a.socket)))))
+    (read_may s read r.buf l a.line w.steady.idle (read_found l k s a) a.wants r.within (r.room a.line k a.here a.socket)))) refl)
 
 -- ---- what it leaves as it was
 

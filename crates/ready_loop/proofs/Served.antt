@@ -43,7 +43,7 @@ call_goes before after item l m u told w c on same =
     subst (λ (x : LoopState). Goes before after l x) (sym same)
     (goes_one before after item l (with_table u l) on c.still refl c.undialled
     (subst (IsTold (before ++ item ∷ [])) (c.shows ∙ sym (still_view (with_table u l) (c.waiting ∙ w.waiting) w.handled))
-    (told_goes_on before (base_of l) item (subst (IsTold before) (idle_view l w) told) c.opens c.allowed)))
+    (told_goes_on before (base_of l) item (subst (IsTold before) (idle_view l w) told) c.opens c.allowed)) refl)
 
 pub call_serves : (before after : List Item) (item : Item) (l m : LoopState) (u : Table) → IsServing before l → OneCall before item l u → Milder l.table u → after ≡ before ++ item ∷ [] → m ≡ with_table u l → Serves before after l m
 call_serves before after item l m u w c mild on same =

@@ -33,11 +33,11 @@ pub sync_goes : (done : Bool) (before after : List Item) (l m : LoopState) → I
 sync_goes true before after l m w lt on same =
     subst (λ (x : LoopState). Goes before after l x) (sym same) (goes_one before after Synced l (synced_all true l) on refl refl (omega arith)
     (subst (IsTold (before ++ Synced ∷ [])) (sync_shows l w.idle)
-    (told_goes_on before (base_of l) Synced (subst (IsTold before) (idle_view l w.idle) w.told) tt (sync_may l w.idle lt))))
+    (told_goes_on before (base_of l) Synced (subst (IsTold before) (idle_view l w.idle) w.told) tt (sync_may l w.idle lt))) refl)
 sync_goes false before after l m w lt on same =
     subst (λ (x : LoopState). Goes before after l x) (sym same) (goes_one before after (Failed SyncCall) l (synced_all false l) on refl refl (omega arith)
     (subst (IsTold (before ++ Failed SyncCall ∷ [])) (sym (still_view (in_phase KeepFault l) w.idle.waiting w.idle.handled))
-    (told_goes_on before (base_of l) (Failed SyncCall) (subst (IsTold before) (idle_view l w.idle) w.told) tt (sync_may l w.idle lt))))
+    (told_goes_on before (base_of l) (Failed SyncCall) (subst (IsTold before) (idle_view l w.idle) w.told) tt (sync_may l w.idle lt))) refl)
 
 pub syncs : (done : Bool) (before after : List Item) (l m : LoopState) → IsReady before l → l.synced < l.kept → after ≡ before ++ sync_item (did_by done) ∷ [] → m ≡ synced_all done l → Syncs done before after l m
 syncs done before after l m w lt on same = record { goes = sync_goes done before after l m w lt on same; same = same }

@@ -3,7 +3,7 @@ use Rattle.std.specs.Prelude.{◌≡◌, ℕ, List, length}
 use Rattle.rosters.specs.Rosters.{Neighbours}
 use Rattle.socket_station.specs.Items.{Item}
 use Rattle.peer_core.specs.Views.{PeerState}
-use Rattle.loop_rules.specs.declared.phases.Phase.TheVariants.{Fresh, KeepFault, PollFault}
+use Rattle.loop_rules.specs.declared.phases.Phase.TheVariants.{Fresh, KeepFault}
 use Rattle.loop_rules.specs.Settings.{Setting}
 use Rattle.loop_rules.specs.Views.{first_table}
 use Rattle.loop_rules.specs.Histories.{BeginsLog}
@@ -11,7 +11,7 @@ use Rattle.loop_rules.specs.Told.{IsTold}
 use Rattle.ready_loop.specs.declared.beginning.Begun.{Begun}
 use Rattle.ready_loop.specs.declared.beginning.Begun.TheVariants as B
 use Rattle.ready_loop.specs.States.{LoopState, setting_of, view_of}
-use Rattle.ready_loop.specs.Going.{IsIdle}
+use Rattle.ready_loop.specs.Going.{IsIdle, IsDeaf}
 
 -- a loop of the peer with these neighbours goes on from the peer's entries
 abbrev pub given_by : PeerState → Neighbours → Setting
@@ -38,7 +38,7 @@ IsNew l = l ≡ new_loop l.peer l.roster
 abbrev pub StandsBegun : Begun → LoopState → Type 0
 StandsBegun B.Ready l = IsIdle l × (l.synced ≡ l.kept)
 StandsBegun B.KeepFault l = l.phase ≡ KeepFault
-StandsBegun B.PollFault l = l.phase ≡ PollFault
+StandsBegun B.PollFault l = IsDeaf l
 
 -- The history is one by the rules, of a log of that name, and shows what the loop knows; and the peer is the same.
 pub record Begins (name : List ℕ) (begun : Begun) (l m : LoopState) (items : List Item) : Type 0 where

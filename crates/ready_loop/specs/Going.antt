@@ -4,10 +4,10 @@ use Rattle.std.specs.List.{count_by}
 use Rattle.definitions.specs.Advance.{next_made}
 use Rattle.definitions.specs.Findings.{is_clean}
 use Rattle.socket_station.specs.Items.{Item, Polled}
-use Rattle.loop_rules.specs.declared.phases.Phase.TheVariants.{Running}
+use Rattle.loop_rules.specs.declared.phases.Phase.TheVariants.{Running, PollFault}
 use Rattle.loop_rules.specs.Licence.{is_running}
 use Rattle.loop_rules.specs.Told.{IsTold}
-use Rattle.ready_loop.specs.States.{LoopState, setting_of, view_of}
+use Rattle.ready_loop.specs.States.{LoopState, setting_of, choices_of, view_of}
 
 -- how many polls an item tells of
 abbrev pub poll_count : Item → ℕ
@@ -24,6 +24,15 @@ abbrev pub undialled : LoopState → ℕ
 undialled l = count_by (λ c. not c.is_dialled) l.table.seats
 
 -- The history grew by items that the rules allow, none of them a poll, and shows what the loop knows.
+pub record Grows (before after : List Item) (l m : LoopState) : Type 0 where
+  pub more : List Item
+  pub grown : after ≡ before ++ more
+  pub polls : polls_of after ≡ polls_of before
+  pub setting : setting_of m ≡ setting_of l
+  pub undialled : undialled m ≤ undialled l
+  pub told : IsTold after (view_of m)
+
+-- the same of calls that choose no move
 pub record Goes (before after : List Item) (l m : LoopState) : Type 0 where
   pub more : List Item
   pub grown : after ≡ before ++ more
@@ -31,6 +40,7 @@ pub record Goes (before after : List Item) (l m : LoopState) : Type 0 where
   pub setting : setting_of m ≡ setting_of l
   pub undialled : undialled m ≤ undialled l
   pub told : IsTold after (view_of m)
+  pub chosen : choices_of m ≡ choices_of l
 
 -- every entry is kept, and no own frame is left to be made
 pub record IsPlayed (l : LoopState) : Type 0 where
@@ -41,6 +51,14 @@ pub record IsPlayed (l : LoopState) : Type 0 where
 pub record IsIdle (l : LoopState) : Type 0 where
   pub running : l.phase ≡ Running
   pub kept : l.kept ≡ length l.peer.entries
+  pub waiting : l.table.waiting ≡ []
+  pub handled : l.handled ≡ 0
+
+-- the polls failed: nothing is heard any more, but every entry is kept and synced, and no frame waits
+pub record IsDeaf (l : LoopState) : Type 0 where
+  pub fault : l.phase ≡ PollFault
+  pub kept : l.kept ≡ length l.peer.entries
+  pub synced : l.synced ≡ l.kept
   pub waiting : l.table.waiting ≡ []
   pub handled : l.handled ≡ 0
 

@@ -1,6 +1,7 @@
 pub mod States
 pub mod Steps
 pub mod Going
+pub mod Choices
 pub mod Handling
 pub mod Serving
 pub mod Waiting
@@ -9,3 +10,4 @@ pub mod Polling
 pub mod Beginning
 pub mod Overs
 pub mod Counts
+pub mod Laws

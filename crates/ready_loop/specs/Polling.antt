@@ -2,7 +2,6 @@
 use Rattle.std.specs.Prelude.{◌≡◌, ℕ, ◌+◌, ◌≤◌, Bool, true, false, List, ◌++◌, Option}
 use Rattle.socket_station.specs.Items.{Item}
 use Rattle.pilots.specs.Plans.{Plan}
-use Rattle.loop_rules.specs.declared.phases.Phase.TheVariants.{PollFault}
 use Rattle.loop_rules.specs.Licence.{is_licensed}
 use Rattle.loop_rules.specs.Told.{IsTold}
 use Rattle.ready_loop.specs.declared.settling.Settled.{Settled}
@@ -12,8 +11,9 @@ use Rattle.ready_loop.specs.declared.polling.Round.TheVariants as R
 use Rattle.ready_loop.specs.declared.polling.Ended.{Ended}
 use Rattle.ready_loop.specs.declared.polling.Ended.TheVariants as E
 use Rattle.ready_loop.specs.States.{LoopState, setting_of, view_of}
-use Rattle.ready_loop.specs.Going.{polls_of}
-use Rattle.ready_loop.specs.Settling.{IsWhole, StandsSettled}
+use Rattle.ready_loop.specs.Choices.{Chooser}
+use Rattle.ready_loop.specs.Going.{IsDeaf, polls_of}
+use Rattle.ready_loop.specs.Settling.{IsWhole, Refuses, ChoosesIn, StandsSettled}
 
 -- before a poll
 pub record IsLicensedToPoll (items : List Item) (l : LoopState) : Type 0 where
@@ -36,10 +36,11 @@ polls_by false = 0
 
 abbrev pub StandsPolled : (done : Bool) → LoopState → Type 0
 StandsPolled true m = IsWhole m
-StandsPolled false m = m.phase ≡ PollFault
+StandsPolled false m = IsDeaf m
 
 pub record Polls (done : Bool) (before after : List Item) (l m : LoopState) : Type 0 where
   pub goes : GoesBy (polls_by done) before after l m
+  pub peer : m.peer ≡ l.peer
   pub stands : StandsPolled done m
 
 -- how many polls a round made
@@ -81,14 +82,25 @@ abbrev pub StandsRound : Option Plan → Round → LoopState → Type 0
 StandsRound plan R.On m = IsWhole m
 StandsRound plan R.Done m = StandsSettled plan S.Done m
 StandsRound plan (R.Caught f) m = StandsSettled plan (S.Caught f) m
-StandsRound plan R.PollFault m = m.phase ≡ PollFault
+StandsRound plan R.PollFault m = IsDeaf m
 StandsRound plan R.KeepFault m = StandsSettled plan S.KeepFault m
 StandsRound plan (R.OwnMove turn fault) m = StandsSettled plan (S.OwnMove turn fault) m
 
-pub record Rounds (plan later : Option Plan) (round : Round) (before after : List Item) (l m : LoopState) : Type 0 where
-  pub still : later ≡ plan
+-- whether a move was refused behind the last choice
+abbrev pub RefusesRound : Round → (refused : Bool) → Type 0
+RefusesRound R.On refused = Refuses S.Idle refused
+RefusesRound R.Done refused = Refuses S.Done refused
+RefusesRound (R.Caught f) refused = Refuses (S.Caught f) refused
+RefusesRound R.PollFault refused = Refuses S.Idle refused
+RefusesRound R.KeepFault refused = Refuses S.KeepFault refused
+RefusesRound (R.OwnMove turn fault) refused = Refuses (S.OwnMove turn fault) refused
+
+pub record Rounds (by to : Chooser) (round : Round) (before after : List Item) (l m : LoopState) : Type 0 where
+  pub refused : Bool
+  pub refuses : RefusesRound round refused
+  pub choices : ChoosesIn by to refused l m
   pub goes : GoesBy (polls_in round) before after l m
-  pub stands : StandsRound plan round m
+  pub stands : StandsRound by.plan round m
 
 -- a run gave up: all polls were made, and a further one is licensed
 pub record IsGivenUp (polls made : ℕ) (m : LoopState) : Type 0 where
@@ -100,14 +112,24 @@ pub record IsGivenUp (polls made : ℕ) (m : LoopState) : Type 0 where
 abbrev pub StandsEnded : Option Plan → (polls made : ℕ) → Ended → LoopState → Type 0
 StandsEnded plan polls made E.Done m = StandsSettled plan S.Done m
 StandsEnded plan polls made (E.Caught f) m = StandsSettled plan (S.Caught f) m
-StandsEnded plan polls made E.PollFault m = m.phase ≡ PollFault
+StandsEnded plan polls made E.PollFault m = IsDeaf m
 StandsEnded plan polls made E.KeepFault m = StandsSettled plan S.KeepFault m
 StandsEnded plan polls made (E.OwnMove turn fault) m = StandsSettled plan (S.OwnMove turn fault) m
 StandsEnded plan polls made E.GaveUp m = IsGivenUp polls made m
 
-pub record Ends (plan later : Option Plan) (polls : ℕ) (ended : Ended) (before after : List Item) (l m : LoopState) : Type 0 where
-  pub still : later ≡ plan
+abbrev pub RefusesEnded : Ended → (refused : Bool) → Type 0
+RefusesEnded E.Done refused = Refuses S.Done refused
+RefusesEnded (E.Caught f) refused = Refuses (S.Caught f) refused
+RefusesEnded E.PollFault refused = Refuses S.Idle refused
+RefusesEnded E.KeepFault refused = Refuses S.KeepFault refused
+RefusesEnded (E.OwnMove turn fault) refused = Refuses (S.OwnMove turn fault) refused
+RefusesEnded E.GaveUp refused = Refuses S.Idle refused
+
+pub record Ends (by to : Chooser) (polls : ℕ) (ended : Ended) (before after : List Item) (l m : LoopState) : Type 0 where
+  pub refused : Bool
+  pub refuses : RefusesEnded ended refused
+  pub choices : ChoosesIn by to refused l m
   pub made : ℕ
   pub few : made ≤ polls
   pub goes : GoesBy made before after l m
-  pub stands : StandsEnded plan polls made ended m
+  pub stands : StandsEnded by.plan polls made ended m

@@ -27,7 +27,8 @@ use Rattle.ready_loop.specs.declared.playing.Played.{Played}
 use Rattle.ready_loop.specs.declared.playing.Played.TheVariants as P
 use Rattle.ready_loop.specs.States.{LoopState, IsOfOther, view_of}
 use Rattle.ready_loop.specs.Steps.{synced_all}
-use Rattle.ready_loop.specs.Going.{Goes, IsIdle, IsSteady, goes_on, undialled}
+use Rattle.ready_loop.specs.Going.{Goes, Grows, IsIdle, IsSteady, goes_on, undialled}
+use Rattle.ready_loop.specs.Choices.{Chooser, ChoosesBy}
 use Rattle.ready_loop.specs.Handling.{IsReadyToRead}
 
 -- the pilot's move of the turn that is to be chosen is not legal
@@ -49,6 +50,11 @@ abbrev pub is_fault : Played → Bool
 is_fault P.On = false
 is_fault P.KeepFault = true
 is_fault (P.OwnMove turn fault) = false
+
+-- the pilot's move was refused
+abbrev pub is_refused : Played → Bool
+is_refused (P.OwnMove turn fault) = true
+is_refused _ = false
 
 -- why a move is not legal, where that is the fault
 abbrev pub illegal_of : OwnFault → Option MoveFault
@@ -80,13 +86,17 @@ StandsChosen plan P.On l m = IsSteady m × (length (chosen m.peer.me m.peer.entr
 StandsChosen plan P.KeepFault l m = m.phase ≡ KeepFault
 StandsChosen plan (P.OwnMove turn fault) l m = IsSteady m × IsOwnMove plan turn fault m
 
-pub record Plays (plan later : Option Plan) (played : Played) (before after : List Item) (l m : LoopState) : Type 0 where
-  pub still : later ≡ plan
-  pub goes : Goes before after l m
+-- the own moves that are chosen meanwhile are the chooser's
+abbrev pub ChoosesIn : (by to : Chooser) (refused : Bool) (l m : LoopState) → Type 0
+ChoosesIn by to refused l m = ChoosesBy l.peer.game l.peer.me by to refused l.peer.entries m.peer.entries
+
+pub record Plays (by to : Chooser) (played : Played) (before after : List Item) (l m : LoopState) : Type 0 where
+  pub choices : ChoosesIn by to (is_refused played) l m
+  pub grows : Grows before after l m
   pub table : m.table ≡ l.table
   pub synced : m.synced ≡ l.synced
   pub clean : is_on played ≡ true → is_clean m.peer.game m.peer.entries ≡ is_clean l.peer.game l.peer.entries
-  pub stands : StandsAs plan played m
+  pub stands : StandsAs by.plan played m
 
 -- every entry is kept and synced
 pub record IsWhole (m : LoopState) : Type 0 where
@@ -114,11 +124,21 @@ is_idle (S.Caught f) = false
 is_idle S.KeepFault = false
 is_idle (S.OwnMove turn fault) = false
 
+-- Whether a move was refused behind the last choice: at an own move that isn't legal one was, and behind a fault of the log one may have been.
+abbrev pub Refuses : Settled → (refused : Bool) → Type 0
+Refuses S.Idle refused = refused ≡ false
+Refuses S.Done refused = refused ≡ false
+Refuses (S.Caught f) refused = refused ≡ false
+Refuses S.KeepFault refused = Unit {0}
+Refuses (S.OwnMove turn fault) refused = refused ≡ true
+
 -- The history goes on by the rules, without a poll; idle it is exactly where a poll is licensed.
-pub record Settles (plan later : Option Plan) (settled : Settled) (before after : List Item) (l m : LoopState) : Type 0 where
-  pub still : later ≡ plan
-  pub goes : Goes before after l m
-  pub stands : StandsSettled plan settled m
+pub record Settles (by to : Chooser) (settled : Settled) (before after : List Item) (l m : LoopState) : Type 0 where
+  pub refused : Bool
+  pub refuses : Refuses settled refused
+  pub choices : ChoosesIn by to refused l m
+  pub grows : Grows before after l m
+  pub stands : StandsSettled by.plan settled m
   pub licensed : is_idle settled ≡ is_licensed (view_of m)
 
 -- before a call that plays: what came is not handled yet, but all that was is kept
@@ -132,13 +152,13 @@ pub record IsPlaying (items : List Item) (l : LoopState) : Type 0 where
   pub steady : IsSteady l
 
 -- one move is chosen, and it and the own frames that it lets be made are kept
-pub record Chooses (plan later : Option Plan) (played : Played) (before after : List Item) (l m : LoopState) : Type 0 where
-  pub still : later ≡ plan
-  pub goes : Goes before after l m
+pub record Chooses (by to : Chooser) (played : Played) (before after : List Item) (l m : LoopState) : Type 0 where
+  pub choices : ChoosesIn by to (is_refused played) l m
+  pub grows : Grows before after l m
   pub table : m.table ≡ l.table
   pub synced : m.synced ≡ l.synced
   pub clean : is_on played ≡ true → is_clean m.peer.game m.peer.entries ≡ is_clean l.peer.game l.peer.entries
-  pub stands : StandsChosen plan played l m
+  pub stands : StandsChosen by.plan played l m
 
 -- what is kept is synced, or that failed
 pub record Syncs (done : Bool) (before after : List Item) (l m : LoopState) : Type 0 where
@@ -168,10 +188,16 @@ abbrev pub StandsPassed : Option Plan → Option Settled → LoopState → LoopS
 StandsPassed plan None l m items = IsReadyToRead items m × (undialled m < undialled l)
 StandsPassed plan (Some settled) l m items = StandsSettled plan settled m × (is_idle settled ≡ is_licensed (view_of m))
 
-pub record Passes (plan later : Option Plan) (settled : Option Settled) (before after : List Item) (l m : LoopState) : Type 0 where
-  pub still : later ≡ plan
-  pub goes : Goes before after l m
-  pub stands : StandsPassed plan settled l m after
+abbrev pub RefusesPassed : Option Settled → (refused : Bool) → Type 0
+RefusesPassed None refused = refused ≡ false
+RefusesPassed (Some settled) refused = Refuses settled refused
+
+pub record Passes (by to : Chooser) (settled : Option Settled) (before after : List Item) (l m : LoopState) : Type 0 where
+  pub refused : Bool
+  pub refuses : RefusesPassed settled refused
+  pub choices : ChoosesIn by to refused l m
+  pub grows : Grows before after l m
+  pub stands : StandsPassed by.plan settled l m after
 
 -- the sockets were read out, and no move may be chosen
 pub record IsReadOut (l : LoopState) : Type 0 where

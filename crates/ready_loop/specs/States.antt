@@ -3,7 +3,9 @@ use Rattle.std.specs.Prelude.{◌≡◌, ◌≤◌, ◌*◌, ◌<◌, ℕ, true,
 use Rattle.std.specs.List.{fold}
 use Rattle.definitions.specs.Lists.{EachIs}
 use Rattle.definitions.specs.declared.logs.Entry.{Entry}
+use Rattle.definitions.specs.declared.openings.Opening.{Opening}
 use Rattle.definitions.specs.World.{Game, players_of}
+use Rattle.definitions.specs.Logs.{chosen}
 use Rattle.definitions.specs.Answers.{is_of_another}
 use Rattle.rosters.specs.Rosters.{Neighbours}
 use Rattle.session_log.specs.Writing.{Writing, fresh}
@@ -38,6 +40,10 @@ setting_of l = record { game = l.peer.game; me = l.peer.me; roster = l.roster; o
 -- the entries kept
 abbrev pub kept_of : LoopState → List Entry
 kept_of l = take l.kept l.peer.entries
+
+-- the own moves that are chosen
+abbrev pub choices_of : LoopState → List Opening
+choices_of l = chosen l.peer.me l.peer.entries
 
 -- what writes the next entry
 abbrev pub writer_of : LoopState → Writing

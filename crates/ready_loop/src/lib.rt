@@ -2,9 +2,10 @@
 //!
 //! A loop plays for one player. It begins a log, keeps and syncs the entries that its peer goes on from, and listens. Then it settles: it reads
 //! what the sockets bring, keeps each entry, chooses own moves, syncs, shuts, writes and dials, until a poll is licensed; and polls. It promises
-//! that what its station tells of these calls is a history by the rules of the loop, whatever the station answers, that it stops exactly where
-//! a poll is licensed or a named end has come, and that each settling ends. It takes memory only when it is made, and touches nothing but the
-//! station, the pilot and the generator that it is given.
+//! that what its station tells of these calls is a history by the rules of the loop, whatever the station answers, from the beginning to the
+//! end of a run (`laws`), that its own moves are the pilot's and their nonces the generator's, that it stops exactly where a poll is licensed or
+//! a named end has come, and that each settling ends. It takes memory only when it is made, and touches nothing but the station, the pilot
+//! and the generator that it is given.
 #![tactic(auto)]
 
 mod beginning;
@@ -13,6 +14,7 @@ mod dialling;
 mod fitting;
 mod handling;
 mod keeping;
+pub mod laws;
 mod lines;
 mod playing;
 mod polling;

@@ -3,6 +3,7 @@
 ghost use Rattle.std.specs.Prelude.{◌≡◌, true};
 ghost use Rattle.definitions.specs.Needs.{may_choose};
 ghost use Rattle.peer_core.specs.Views.{choice_of};
+ghost use Rattle.ready_loop.specs.Choices.{chooser};
 ghost use Rattle.ready_loop.specs.Settling.{Plays, Chooses, PutsChoice, IsPlaying, is_on, is_fault, illegal_of};
 
 use crate::ready::Loop;
@@ -84,7 +85,7 @@ impl Loop {
     ) -> Played
         requires playing { IsPlaying (S.history station.old) self.old }
         requires chooses { may_choose self.old.peer.game self.old.peer.me self.old.peer.entries ≡ true }
-        ensures { Chooses (P.plan pilot.old) (P.plan pilot.new) result (S.history station.old) (S.history station.new) self.old self.new }
+        ensures { Chooses (chooser (P.plan pilot.old) (R.stream chance.old)) (chooser (P.plan pilot.new) (R.stream chance.new)) result (S.history station.old) (S.history station.new) self.old self.new }
     {
         let choice = self.choice();
         let mv = pilot.choose(&choice.track, choice.turn);
@@ -110,7 +111,7 @@ impl Loop {
         chance: &mut R,
     ) -> Played
         requires playing { IsPlaying (S.history station.old) self.old }
-        ensures { Plays (P.plan pilot.old) (P.plan pilot.new) result (S.history station.old) (S.history station.new) self.old self.new }
+        ensures { Plays (chooser (P.plan pilot.old) (R.stream chance.old)) (chooser (P.plan pilot.new) (R.stream chance.new)) result (S.history station.old) (S.history station.new) self.old self.new }
     {
         while self.may_choose() {
             let played = self.choose(station, pilot, chance);

@@ -2,6 +2,7 @@
 
 ghost use Rattle.std.specs.Prelude.{◌≡◌};
 ghost use Rattle.ready_loop.specs.Polling.{Polls, Rounds, Ends, IsLicensedToPoll, round_of, is_round_on, ended_of, ended_at};
+ghost use Rattle.ready_loop.specs.Choices.{chooser};
 ghost use Rattle.ready_loop.specs.Settling.{IsReady};
 
 use crate::ready::Loop;
@@ -105,7 +106,8 @@ impl Loop {
         }
     }
 
-    /// Handles everything that is there, and then polls once, where a poll is licensed.
+    /// Handles everything that is there, and then polls once, where a poll is licensed. The own moves that are put into the log meanwhile are the
+    /// pilot's, and their nonces the ones that `chance` gives, as `settle` says.
     pub fn round<S: Station, P: Pilot, R: Rng>(
         &mut self,
         station: &mut S,
@@ -113,7 +115,7 @@ impl Loop {
         chance: &mut R,
     ) -> Round
         requires ready { IsReady (S.history station.old) self.old }
-        ensures { Rounds (P.plan pilot.old) (P.plan pilot.new) result (S.history station.old) (S.history station.new) self.old self.new }
+        ensures { Rounds (chooser (P.plan pilot.old) (R.stream chance.old)) (chooser (P.plan pilot.new) (R.stream chance.new)) result (S.history station.old) (S.history station.new) self.old self.new }
     {
         let settled = self.settle(station, pilot, chance);
         if !settled.is_idle() {
@@ -125,7 +127,8 @@ impl Loop {
         Round::On
     }
 
-    /// Plays with at most so many polls.
+    /// Plays with at most so many polls. All own moves of the run are the pilot's, and all their nonces the ones that `chance` gives, one behind
+    /// the other, as `settle` says.
     pub fn play<S: Station, P: Pilot, R: Rng>(
         &mut self,
         station: &mut S,
@@ -134,7 +137,7 @@ impl Loop {
         polls: u64,
     ) -> Ended
         requires ready { IsReady (S.history station.old) self.old }
-        ensures { Ends (P.plan pilot.old) (P.plan pilot.new) polls result (S.history station.old) (S.history station.new) self.old self.new }
+        ensures { Ends (chooser (P.plan pilot.old) (R.stream chance.old)) (chooser (P.plan pilot.new) (R.stream chance.new)) polls result (S.history station.old) (S.history station.new) self.old self.new }
     {
         let mut left = polls;
         while left > 0 {

@@ -2,6 +2,7 @@
 
 ghost use Rattle.std.specs.Prelude.{◌≡◌, ◌<◌, ◌≤◌, None};
 ghost use Rattle.ready_loop.specs.Handling.{IsReadyToRead};
+ghost use Rattle.ready_loop.specs.Choices.{chooser};
 ghost use Rattle.ready_loop.specs.Settling.{Settles, IsReady, IsReadOut, Passes, ServesSo, Stops, Syncs, IsStopping, is_idle};
 ghost use Rattle.ready_loop.specs.Serving.{IsServing};
 
@@ -95,7 +96,7 @@ impl Loop {
         chance: &mut R,
     ) -> Option<Settled>
         requires ready { IsReadyToRead (S.history station.old) self.old }
-        ensures { Passes (P.plan pilot.old) (P.plan pilot.new) result (S.history station.old) (S.history station.new) self.old self.new }
+        ensures { Passes (chooser (P.plan pilot.old) (R.stream chance.old)) (chooser (P.plan pilot.new) (R.stream chance.new)) result (S.history station.old) (S.history station.new) self.old self.new }
     {
         if !self.read_all(station) {
             return Some(self.stop(station));
@@ -114,7 +115,8 @@ impl Loop {
     }
 
     /// Handles everything that is there, until a poll is licensed or the run is over. Behind a keep fault, a finding or an own move that is not
-    /// legal no further call is made.
+    /// legal no further call is made. The own moves that are put into the log meanwhile are the pilot's, by its plan where it tells one, and their
+    /// nonces are the ones that `chance` gives, one behind the other.
     pub fn settle<S: Station, P: Pilot, R: Rng>(
         &mut self,
         station: &mut S,
@@ -122,7 +124,7 @@ impl Loop {
         chance: &mut R,
     ) -> Settled
         requires ready { IsReady (S.history station.old) self.old }
-        ensures { Settles (P.plan pilot.old) (P.plan pilot.new) result (S.history station.old) (S.history station.new) self.old self.new }
+        ensures { Settles (chooser (P.plan pilot.old) (R.stream chance.old)) (chooser (P.plan pilot.new) (R.stream chance.new)) result (S.history station.old) (S.history station.new) self.old self.new }
     {
         if !self.advance(station) {
             return Settled::KeepFault;

@@ -1,11 +1,13 @@
 use Rattle.ready_loop.proofs.CallsIn.{no_fault}
 use Rattle.ready_loop.proofs.Choosing.{put_more, put_running, put_on, choose_faults, choose_stops, chooses_on, own_move}
+use Rattle.ready_loop.proofs.Choices.{drawn}
 use Rattle.ready_loop.proofs.ready.Loop.choose.Goals as goal
 
 pub returns-in-Some : goal.returns-in-Some
 returns-in-Some g c =
-    own_move _ _ c.choose-mv.ensures.kept _ c.args.self.now c.put_choice.new.self c.choice-choice.result c.choose-mv.result _ c.put_choice.result c.in-Some.fault c.requires.playing c.requires.chooses
-    c.choice-choice.ensures c.choose-mv.ensures.planned c.put_choice.ensures c.in-Some.is
+    own_move _ _ _ c.args.self.now c.put_choice.new.self c.choice-choice.result c.choose-mv.result _ c.put_choice.result c.in-Some.fault
+    (drawn c.args.self.now _ _ c.choice-choice.result c.choose-mv.result c.fill_bytes.new.dst c.choice-choice.ensures c.choose-mv.ensures.planned c.choose-mv.ensures.kept c.fill_bytes.ensures)
+    c.requires.playing c.requires.chooses c.choice-choice.ensures c.put_choice.ensures c.in-Some.is
 
 pub keep_next-requires-clause-some : goal.keep_next-requires-clause-some
 keep_next-requires-clause-some g c = put_more _ c.args.self.now c.put_choice.new.self c.choose-mv.result _ c.put_choice.result c.requires.playing c.put_choice.ensures c.in_default.is
@@ -15,11 +17,13 @@ keep_next-requires-clause-whole g c = no_fault c.put_choice.new.self.phase (put_
 
 pub returns-then-not-keep_next : goal.returns-then-not-keep_next
 returns-then-not-keep_next g c =
-    choose_faults _ _ c.choose-mv.ensures.kept c.keep_next.result _ _ c.args.self.now c.put_choice.new.self c.keep_next.new.self c.choose-mv.result _ c.put_choice.result c.requires.playing c.put_choice.ensures c.in_default.is c.keep_next.ensures.fits
+    choose_faults _ _ c.keep_next.result _ _ c.args.self.now c.put_choice.new.self c.keep_next.new.self c.choose-mv.result _ c.put_choice.result
+    (drawn c.args.self.now _ _ c.choice-choice.result c.choose-mv.result c.fill_bytes.new.dst c.choice-choice.ensures c.choose-mv.ensures.planned c.choose-mv.ensures.kept c.fill_bytes.ensures)
+    c.requires.playing c.put_choice.ensures c.in_default.is c.keep_next.ensures.fits
     c.if-not-keep_next.true c.keep_next.ensures.told c.keep_next.ensures.after
 
 pub advance-requires-clause-told : goal.advance-requires-clause-told
-advance-requires-clause-told g c = (put_on c.keep_next.result _ _ c.args.self.now c.put_choice.new.self c.keep_next.new.self c.choose-mv.result _ c.put_choice.result c.requires.playing c.put_choice.ensures c.in_default.is c.keep_next.ensures.fits c.if-not-keep_next.false c.keep_next.ensures.told c.keep_next.ensures.after).goes.told
+advance-requires-clause-told g c = (put_on c.keep_next.result _ _ c.args.self.now c.put_choice.new.self c.keep_next.new.self c.choose-mv.result _ c.put_choice.result c.requires.playing c.put_choice.ensures c.in_default.is c.keep_next.ensures.fits c.if-not-keep_next.false c.keep_next.ensures.told c.keep_next.ensures.after).grows.told
 
 pub advance-requires-clause-running : goal.advance-requires-clause-running
 advance-requires-clause-running g c = (put_on c.keep_next.result _ _ c.args.self.now c.put_choice.new.self c.keep_next.new.self c.choose-mv.result _ c.put_choice.result c.requires.playing c.put_choice.ensures c.in_default.is c.keep_next.ensures.fits c.if-not-keep_next.false c.keep_next.ensures.told c.keep_next.ensures.after).running
@@ -29,12 +33,15 @@ advance-requires-clause-kept g c = (put_on c.keep_next.result _ _ c.args.self.no
 
 pub returns-then-not-advance : goal.returns-then-not-advance
 returns-then-not-advance g c =
-    choose_stops _ _ c.choose-mv.ensures.kept c.advance.result _ _ _ c.args.self.now c.keep_next.new.self c.advance.new.self c.choose-mv.result _
+    choose_stops _ _ c.advance.result _ _ _ c.args.self.now c.keep_next.new.self c.advance.new.self c.choose-mv.result _
+    (drawn c.args.self.now _ _ c.choice-choice.result c.choose-mv.result c.fill_bytes.new.dst c.choice-choice.ensures c.choose-mv.ensures.planned c.choose-mv.ensures.kept c.fill_bytes.ensures)
     (put_on c.keep_next.result _ _ c.args.self.now c.put_choice.new.self c.keep_next.new.self c.choose-mv.result _ c.put_choice.result c.requires.playing c.put_choice.ensures c.in_default.is c.keep_next.ensures.fits c.if-not-keep_next.false c.keep_next.ensures.told c.keep_next.ensures.after)
     c.advance.ensures c.if-not-advance.true
 
 pub returns : goal.returns
 returns g c =
-    chooses_on _ _ c.choose-mv.ensures.kept c.advance.result _ _ _ c.args.self.now c.keep_next.new.self c.advance.new.self c.choose-mv.result _ c.requires.playing
+    chooses_on _ _ c.advance.result _ _ _ c.args.self.now c.keep_next.new.self c.advance.new.self c.choose-mv.result _
+    (drawn c.args.self.now _ _ c.choice-choice.result c.choose-mv.result c.fill_bytes.new.dst c.choice-choice.ensures c.choose-mv.ensures.planned c.choose-mv.ensures.kept c.fill_bytes.ensures)
+    c.requires.playing
     (put_on c.keep_next.result _ _ c.args.self.now c.put_choice.new.self c.keep_next.new.self c.choose-mv.result _ c.put_choice.result c.requires.playing c.put_choice.ensures c.in_default.is c.keep_next.ensures.fits c.if-not-keep_next.false c.keep_next.ensures.told c.keep_next.ensures.after)
     c.advance.ensures c.if-not-advance.false

@@ -1,12 +1,11 @@
 use Rattle.ready_loop.proofs.Passing.{pass_stopping, pass_playing, stop_passes, pass_fault, pass_ready, pass_unsynced, pass_own_move, pass_serving, pass_serves}
-use Rattle.std.proofs.Common.{refl}
 use Rattle.ready_loop.proofs.ready.Loop.pass.Goals as goal
 
 pub stop-requires : goal.stop-requires
 stop-requires g c = record { stopping = pass_stopping _ _ c.args.self.now c.read_all.new.self c.read_all.result c.read_all.ensures c.if-not-read_all.true }
 
 pub returns-then-not-read_all : goal.returns-then-not-read_all
-returns-then-not-read_all g c = stop_passes _ _ refl c.stop.result _ _ _ c.args.self.now c.read_all.new.self c.stop.new.self c.read_all.ensures.goes c.stop.ensures
+returns-then-not-read_all g c = stop_passes _ c.stop.result _ _ _ c.args.self.now c.read_all.new.self c.stop.new.self c.read_all.ensures.goes c.stop.ensures
 
 pub choose_all-played-requires : goal.choose_all-played-requires
 choose_all-played-requires g c = record { playing = pass_playing _ _ c.args.self.now c.read_all.new.self c.read_all.result c.read_all.ensures c.if-not-read_all.false }
@@ -36,4 +35,4 @@ serve-requires-clause-out g c = (pass_serving _ _ c.choose_all-played.result c.i
 pub returns : goal.returns
 returns g c =
     pass_serves _ _ c.choose_all-played.result c.serve.result c.read_all.result c.sync.result _ _ _ _ _ c.args.self.now c.read_all.new.self c.choose_all-played.new.self c.sync.new.self c.serve.new.self c.read_all.ensures c.choose_all-played.ensures
-    c.sync.ensures c.serve.ensures
+    c.in_default.not-OwnMove c.sync.ensures c.serve.ensures

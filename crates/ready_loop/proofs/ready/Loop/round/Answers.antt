@@ -8,7 +8,7 @@ pub poll-requires : goal.poll-requires
 poll-requires g c = record { licensed = poll_licensed _ _ c.settle-settled.result c.is_idle.result _ _ c.args.self.now c.settle-settled.new.self c.settle-settled.ensures c.is_idle.ensures c.if-not-is_idle.false }
 
 pub returns-then-not-poll : goal.returns-then-not-poll
-returns-then-not-poll g c = rounds_fault _ _ c.settle-settled.result c.poll.result _ _ _ c.args.self.now c.settle-settled.new.self c.poll.new.self c.settle-settled.ensures c.poll.ensures c.if-not-poll.true
+returns-then-not-poll g c = rounds_fault _ _ c.settle-settled.result c.is_idle.result c.poll.result _ _ _ c.args.self.now c.settle-settled.new.self c.poll.new.self c.settle-settled.ensures c.is_idle.ensures c.if-not-is_idle.false c.poll.ensures c.if-not-poll.true
 
 pub returns : goal.returns
-returns g c = rounds_on _ _ c.settle-settled.result c.poll.result _ _ _ c.args.self.now c.settle-settled.new.self c.poll.new.self c.settle-settled.ensures c.poll.ensures c.if-not-poll.false
+returns g c = rounds_on _ _ c.settle-settled.result c.is_idle.result c.poll.result _ _ _ c.args.self.now c.settle-settled.new.self c.poll.new.self c.settle-settled.ensures c.is_idle.ensures c.if-not-is_idle.false c.poll.ensures c.if-not-poll.false

@@ -1,4 +1,3 @@
-use Rattle.std.proofs.Common.{refl}
 use Rattle.ready_loop.proofs.Passing.{settle_first, settle_fault, settle_stopping, settle_stops, settle_reads, settled_by, settles_on}
 use Rattle.ready_loop.proofs.ready.Loop.settle.Goals as goal
 
@@ -16,17 +15,17 @@ returns-then-is_some g c = settle_stops _ c.stop.result _ _ _ c.args.self.now c.
 
 pub loop-settled-init : goal.loop-settled-init
 loop-settled-init g c =
-    (settle_reads _ _ c.args.self.now c.advance.new.self c.advance.result c.is_some.result c.finding.result c.requires.ready c.advance.ensures c.if-not-advance.false c.finding.ensures.clean c.is_some.ensures c.if-is_some.false, refl)
+    settle_reads _ _ _ c.args.self.now c.advance.new.self c.advance.result c.is_some.result c.finding.result c.requires.ready c.advance.ensures c.if-not-advance.false c.finding.ensures.clean c.is_some.ensures c.if-is_some.false
 
 pub pass-passed-requires : goal.pass-passed-requires
-pass-passed-requires g c = record { ready = c.loop-settled.invariant.0.ready }
+pass-passed-requires g c = record { ready = c.loop-settled.invariant.ready }
 
 pub returns-in-Some : goal.returns-in-Some
 returns-in-Some g c =
-    settled_by _ _ _ c.loop-settled.invariant.1 c.pass-passed.result c.in-Some.settled c.in-Some.is _ _ _ c.args.self.now c.loop-settled.self c.pass-passed.new.self c.loop-settled.invariant.0 c.pass-passed.ensures
+    settled_by _ _ _ c.pass-passed.result c.in-Some.settled c.in-Some.is _ _ _ c.args.self.now c.loop-settled.self c.pass-passed.new.self c.loop-settled.invariant c.pass-passed.ensures
 
 pub loop-settled-smaller : goal.loop-settled-smaller
-loop-settled-smaller g c = (settles_on _ _ _ c.loop-settled.invariant.1 c.pass-passed.result c.in_default.is _ _ _ c.args.self.now c.loop-settled.self c.pass-passed.new.self c.loop-settled.invariant.0 c.pass-passed.ensures).1
+loop-settled-smaller g c = (settles_on _ _ _ c.pass-passed.result c.in_default.is _ _ _ c.args.self.now c.loop-settled.self c.pass-passed.new.self c.loop-settled.invariant c.pass-passed.ensures).1
 
 pub loop-settled-preserved : goal.loop-settled-preserved
-loop-settled-preserved g c = (settles_on _ _ _ c.loop-settled.invariant.1 c.pass-passed.result c.in_default.is _ _ _ c.args.self.now c.loop-settled.self c.pass-passed.new.self c.loop-settled.invariant.0 c.pass-passed.ensures).0
+loop-settled-preserved g c = (settles_on _ _ _ c.pass-passed.result c.in_default.is _ _ _ c.args.self.now c.loop-settled.self c.pass-passed.new.self c.loop-settled.invariant c.pass-passed.ensures).0
