@@ -2,7 +2,7 @@
 
 ghost use Rattle.std.specs.Prelude.{◌≡◌, ◌∷◌, [], false, bytes_eq, IfOk};
 
-use peer_cli::{run, run_in_memory};
+use peer_cli::run_in_memory;
 use run_frame::Status;
 use station::{MemoryShelf, MemorySink, MemorySource, ShelfFile};
 use std::alloc::{AllocError, Global};
@@ -62,7 +62,7 @@ pub fn run_words(
     let mut shelf = shelf_of(alloc, session, fails.shelf)?;
     let mut input = source_of(alloc, script, fails.source)?;
     let mut out = sink_of(alloc, fails.sink)?;
-    let status = run(alloc, words, &mut input, &mut out, &mut shelf);
+    let status = run_in_memory(alloc, words, &mut input, &mut out, &mut shelf);
     Ok((status, Vec::from_slice(alloc, out.bytes())?))
 }
 

@@ -1,17 +1,21 @@
 //! The program `lethwyrn`. It makes the real objects of the outside, hands them with its words to `peer_cli::run`, whose
-//! contract says what is then written, and ends with the status. It reads files, the standard input and its words, and
-//! writes to the standard output alone.
+//! contract says what is then written, and ends with the status. It reads files, the standard input, its words and random bytes of the machine, and
+//! writes to the standard output alone. It has no sockets of the machine yet: its station has room for no call, so `peer` ends with `keep fault`.
 #![tactic(auto)]
 
 use file_shelf::FileShelf;
+use memory_station::MemoryStation;
 use peer_cli::run;
+use rand_chacha::ChaCha20Rng;
+use rand_core::SeedableRng;
 use run_frame::{Status, refuse};
 use station::{StdSink, StdSource};
 use std::io::{self, ErrorKind};
 use std::process::ExitCode;
+use std::random::RandomSource;
 
-/// The status where the machine refuses the program its words.
-const NO_WORDS: u8 = 15;
+/// The status where the machine refuses the program its words, or random bytes.
+const REFUSED: u8 = 15;
 
 /// The words behind the program's name, or the status that ends the program without them.
 fn words_of(rt: &HostRuntime) -> Result<Vec<Vec<u8>>, Option<Status>> {
@@ -34,22 +38,42 @@ fn words_of(rt: &HostRuntime) -> Result<Vec<Vec<u8>>, Option<Status>> {
     Ok(words)
 }
 
+/// A generator that random bytes of the machine seed, unless it refuses them.
+fn chance_of(rt: &HostRuntime) -> Option<ChaCha20Rng> {
+    let mut seed = [0; 32];
+    match rt.fill_bytes(&mut seed) {
+        Ok(()) => Some(ChaCha20Rng::from_seed(seed)),
+        Err(_) => None,
+    }
+}
+
+/// Does what the words ask for.
+fn obey<W: io::Write>(rt: &HostRuntime, words: &[Vec<u8>], out: &mut StdSink<W>) -> u8 {
+    let Ok(mut station) = MemoryStation::new(rt.alloc(), 0, 0) else {
+        return refuse(Status::NoMemory, out).code();
+    };
+    let Some(mut chance) = chance_of(rt) else {
+        return REFUSED;
+    };
+    let mut input = StdSource::new(rt.reader());
+    let mut shelf = FileShelf::new(rt.alloc(), rt);
+    run(
+        rt.alloc(),
+        words,
+        &mut input,
+        out,
+        &mut shelf,
+        &mut station,
+        &mut chance,
+    )
+    .code()
+}
+
 fn main(rt: HostRuntime) -> ExitCode {
     let mut out = StdSink::new(io::writer(&rt));
     match words_of(&rt) {
-        Ok(words) => {
-            let mut input = StdSource::new(rt.reader());
-            let mut shelf = FileShelf::new(rt.alloc(), &rt);
-            let status = run(
-                rt.alloc(),
-                words.as_slice(),
-                &mut input,
-                &mut out,
-                &mut shelf,
-            );
-            ExitCode::from(status.code())
-        }
+        Ok(words) => ExitCode::from(obey(&rt, words.as_slice(), &mut out)),
         Err(Some(status)) => ExitCode::from(refuse(status, &mut out).code()),
-        Err(None) => ExitCode::from(NO_WORDS),
+        Err(None) => ExitCode::from(REFUSED),
     }
 }

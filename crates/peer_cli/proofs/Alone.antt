@@ -15,7 +15,7 @@ use Rattle.peer_cli.specs.Commands.{ReadsFor, ReadsThrough, answer_of, takes_fir
 use Rattle.line_io.specs.Files.{AreContents, Calls, Contents}
 use Rattle.peer_cli.specs.Outside.{CountsFaults}
 use Rattle.peer_cli.specs.Runs.{Works}
-use Rattle.peer_cli.specs.Words.{Audit, Command, Drive, Judge, Schedule, Upgrade}
+use Rattle.peer_cli.specs.Words.{Audit, Command, Drive, Judge, Make, Schedule, Upgrade}
 use Rattle.peer_cli.proofs.Counts.{where_no_memory}
 use Rattle.peer_cli.proofs.Running.{contents_fit, no_command, some_contents}
 
@@ -87,6 +87,7 @@ refused_through (Upgrade session) due s ended d = tt
 refused_through (Judge j) due s ended d = tt
 refused_through (Audit a) due s ended d = tt
 refused_through (Schedule session) due s ended d = λ e. absurd (refused_end due s d e)
+refused_through (Make number) due s ended d = tt
 
 module _ (command : Command) (i : SourceState) (a : SinkState) (h h' : ShelfState) (alone : Type 0) (left : alone) (calls : Calls) (files : ReadsFor (Some command) h h' calls) where
   -- the answer is told

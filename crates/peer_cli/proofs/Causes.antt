@@ -33,6 +33,7 @@ use Rattle.judge_command.specs.Words.{Judging}
 use Rattle.schedule_command.specs.Causes.{ScheduleCause, TellsMatch, answer_in}
 use Rattle.schedule_command.specs.Schedule.{schedule_answer}
 use Rattle.schedule_command.proofs.Commanded.{schedule_caused, schedule_done, schedule_tells}
+use Rattle.make_command.proofs.Ending.{ends_fairly}
 use Rattle.definitions.specs.declared.findings.Finding.{Finding}
 use Rattle.definitions.specs.Findings.{findings}
 use Rattle.definitions.specs.Lists.{is_empty}
@@ -46,7 +47,7 @@ use Rattle.peer_cli.specs.Commands.{answer_of, begins_with}
 use Rattle.line_io.specs.Files.{Contents, content}
 use Rattle.peer_cli.specs.Games.{begun, empty_beginning, ended_by, front_of, log_front_of, old_beginning, session_in, with_old, with_player}
 use Rattle.peer_cli.specs.Outside.{CountsFaults, OneFailed, Outside}
-use Rattle.peer_cli.specs.Words.{Audit, Command, Drive, Judge, Schedule, Upgrade}
+use Rattle.peer_cli.specs.Words.{Audit, Command, Drive, Judge, Make, Schedule, Upgrade}
 use Rattle.peer_cli.proofs.AuditMeant.{two_faces}
 use Rattle.peer_cli.proofs.Begun.{begun_honest}
 
@@ -196,6 +197,7 @@ caused (Some (Upgrade session)) contents input ends = upgrade_read session conte
 caused (Some (Judge j)) contents input ends = judge_read j contents input (game_at (front_of (content contents 0))) refl
 caused (Some (Audit a)) contents input ends = audit_read a contents input (game_at (front_of (content contents 0))) refl
 caused (Some (Schedule session)) contents input ends = schedule_read session contents input ends (game_at (front_of (content contents 0))) refl
+caused (Some (Make number)) contents input ends = tt
 
 -- where all is good, the end of the command is due
 pub good_done : (command : Option Command) (contents : Contents) (input : Input) → ending_of input ≡ AtEnd → IsGood command contents input → (answer_of command contents input).status ≡ Done
@@ -207,6 +209,7 @@ good_done (Some (Judge j)) contents input ends (case, is, none) = ap (λ (a : An
 good_done (Some (Audit a)) contents input ends (game, is, none) = ap (λ (x : Answer). x.status) (audit_answer_is a contents game is) ∙ ap status_by none
 good_done (Some (Schedule session)) contents input ends (game, read, played) =
     ap (λ (x : Answer). x.status) (schedule_answer_is contents input game read) ∙ schedule_done game input ends played
+good_done (Some (Make number)) contents input ends good = refl
 
 -- what is behind the answer
 pub meant : (command : Option Command) (contents : Contents) (input : Input) → IsMeant command contents input
@@ -225,6 +228,7 @@ meant (Some (Audit a)) contents input = λ game is bytes. record {
 }
 meant (Some (Schedule session)) contents input = λ game read.
     subst (λ (x : Answer). TellsMatch game input x) (sym (schedule_answer_is contents input game read)) (schedule_tells game input (game_found _ game read).session.ahead.0)
+meant (Some (Make number)) contents input = ends_fairly number
 
 -- what holds of the status that is due, of want of memory and of faults holds of the status that comes
 module _ (before now : SinkState) (whole cut : Answer) (late : Bool) (source shelf : Type 0) where

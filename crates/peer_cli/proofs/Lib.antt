@@ -12,3 +12,6 @@ pub mod Scheduled
 pub mod Judged
 pub mod AuditOpened
 pub mod Rooms
+pub mod Opening
+pub mod Seated
+pub mod OverSockets

@@ -8,10 +8,11 @@ use Rattle.drive_command.specs.Words.{Driving, driving_in}
 use Rattle.upgrade_command.specs.Words.{upgrading_in}
 use Rattle.judge_command.specs.Words.{Judging, judging_in}
 use Rattle.schedule_command.specs.Words.{scheduling_in}
+use Rattle.make_command.specs.Words.{making_in}
 use Rattle.audit_command.specs.declared.limits.TheConstants.{MOST_AUDITED}
 use Rattle.audit_command.specs.Words.{Auditing, are_few, auditing_in}
 use Rattle.frame_index.specs.declared.limits.TheConstants.{MOST_LOGS}
-use Rattle.peer_cli.specs.Words.{Audit, Command, Drive, HasRoom, Judge, Schedule, Upgrade, command_in, command_named, command_of, is_word}
+use Rattle.peer_cli.specs.Words.{Audit, Command, Drive, HasRoom, Judge, Make, Schedule, Upgrade, command_in, command_named, command_of, is_word}
 
 -- a command of each of these words has
 abbrev RoomIf : Option Command → Type 0
@@ -50,18 +51,23 @@ schedules : (o : Option (List ℕ)) → RoomIf (option_map Schedule o)
 schedules None c e = absurd cc
 schedules (Some session) c e = let same : Schedule session ≡ c = cc in subst HasRoom same tt
 
+makes : (o : Option ℕ) → RoomIf (option_map Make o)
+makes None c e = absurd cc
+makes (Some number) c e = let same : Make number ≡ c = cc in subst HasRoom same tt
+
 named : (name : List ℕ) (words : List (List ℕ)) → RoomIf (command_named name words)
-named name words = go (bytes_eq name (codes "drive")) (bytes_eq name (codes "upgrade")) (bytes_eq name (codes "judge")) (bytes_eq name (codes "audit")) (bytes_eq name (codes "schedule"))
+named name words = go (bytes_eq name (codes "drive")) (bytes_eq name (codes "upgrade")) (bytes_eq name (codes "judge")) (bytes_eq name (codes "audit")) (bytes_eq name (codes "schedule")) (bytes_eq name (codes "make"))
   where
-    go : (drive upgrade judge audit schedule : Bool) → RoomIf
+    go : (drive upgrade judge audit schedule make : Bool) → RoomIf
         (if drive then option_map Drive (driving_in words) else if upgrade then option_map Upgrade (upgrading_in words) else if judge then option_map Judge (judging_in words)
-        else if audit then option_map Audit (auditing_in words) else if schedule then option_map Schedule (scheduling_in words) else None)
-    go true u j a s = drives (driving_in words)
-    go false true j a s = upgrades (upgrading_in words)
-    go false false true a s = judges (judging_in words)
-    go false false false true s = audits words (auditing_in words) refl
-    go false false false false true = schedules (scheduling_in words)
-    go false false false false false = λ c e. absurd (let never : None ≡ Some c = e in cc)
+        else if audit then option_map Audit (auditing_in words) else if schedule then option_map Schedule (scheduling_in words) else if make then option_map Make (making_in words) else None)
+    go true u j a s m = drives (driving_in words)
+    go false true j a s m = upgrades (upgrading_in words)
+    go false false true a s m = judges (judging_in words)
+    go false false false true s m = audits words (auditing_in words) refl
+    go false false false false true m = schedules (scheduling_in words)
+    go false false false false false true = makes (making_in words)
+    go false false false false false false = λ c e. absurd (let never : None ≡ Some c = e in cc)
 
 pub command_room : (words : List (List ℕ)) (c : Command) → command_of words ≡ Some c → HasRoom c
 unfolding command_of

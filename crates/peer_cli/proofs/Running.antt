@@ -30,7 +30,7 @@ use Rattle.peer_cli.specs.Files.{OpensPeer, log_names}
 use Rattle.peer_cli.specs.Games.{IsStartFor}
 use Rattle.peer_cli.specs.Outside.{CountsFaults, Outside}
 use Rattle.peer_cli.specs.Runs.{MayBe, Run, Runs, Works, Writes, read_by}
-use Rattle.peer_cli.specs.Words.{Audit, Command, Drive, Judge, Schedule, Upgrade}
+use Rattle.peer_cli.specs.Words.{Audit, Command, Drive, Judge, Make, Schedule, Upgrade}
 use Rattle.peer_cli.proofs.Begins.{begun_ran, memory_taken, unbegun_ran}
 use Rattle.peer_cli.proofs.Causes.{caused, completed, ends_at_end, finished_cause, good_done, meant}
 use Rattle.peer_cli.proofs.Counts.{ended_counts, refused_counts, unbegun_counts, unbegun_done, where_no_memory}
@@ -39,7 +39,7 @@ use Rattle.peer_cli.proofs.Counts.{ended_counts, refused_counts, unbegun_counts,
 abbrev pub some_contents : Calls → Contents
 some_contents calls = map (λ pieces. Some (bytes_read pieces)) calls
 
-readings_fit : (files : Option (List ℕ → Option (List ℕ))) (names : List (List ℕ)) (calls : Calls) → AreReadings files names calls → AreContents (some_contents calls) calls
+pub readings_fit : (files : Option (List ℕ → Option (List ℕ))) (names : List (List ℕ)) (calls : Calls) → AreReadings files names calls → AreContents (some_contents calls) calls
 readings_fit files [] calls r n = subst (λ (c : Calls). AllGive (content (some_contents c) n) (item_or c n [])) (sym r) tt
 readings_fit files (name ∷ names) [] r n = absurd r
 readings_fit files (name ∷ names) (pieces ∷ calls) r zero = reading_fits name pieces r.0
@@ -121,6 +121,7 @@ through_none (Some (Upgrade session)) ended = tt
 through_none (Some (Judge j)) ended = tt
 through_none (Some (Audit a)) ended = tt
 through_none (Some (Schedule session)) ended = λ e. absurd (let never : false ≡ true = e in cc)
+through_none (Some (Make number)) ended = tt
 
 through_stays : (command : Option Command) (ended : Bool) (before now : SinkState) (s result : Status) → Refuses before now s result → ReadsThrough command s ended → ReadsThrough command result ended
 through_stays command ended before now s result (inl h) p = subst (λ (r : Status). ReadsThrough command r ended) (sym h.0) p

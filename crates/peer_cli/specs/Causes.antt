@@ -21,6 +21,8 @@ use Rattle.definitions.specs.Findings.{findings}
 use Rattle.audit_command.specs.Audit.{AuditCause}
 use Rattle.audit_command.specs.Laws.{TellsAudit}
 use Rattle.schedule_command.specs.Causes.{AreClean, IsPlayedOut, ScheduleCause, TellsMatch}
+use Rattle.make_command.specs.Make.{MakeCause}
+use Rattle.make_command.specs.Summaries.{EndsFairly}
 use Rattle.log_files.specs.Several.{behind_first, first_fault, logs_in, owners_in}
 use Rattle.peer_cli.specs.Audits.{AreFiles}
 use Rattle.peer_cli.specs.Commands.{answer_of}
@@ -28,7 +30,7 @@ use Rattle.peer_cli.specs.Exhibits.{evidence_front_of}
 use Rattle.line_io.specs.Files.{Contents, content}
 use Rattle.peer_cli.specs.Files.{HasGame}
 use Rattle.peer_cli.specs.Games.{begun, front_of, log_front_of}
-use Rattle.peer_cli.specs.Words.{Audit, Command, Drive, Judge, Schedule, Upgrade}
+use Rattle.peer_cli.specs.Words.{Audit, Command, Drive, Judge, Make, Schedule, Upgrade}
 
 -- The session's file has this session, and the player is one of it.
 pub record IsSeated (d : Driving) (contents : Contents) (game : Game) : Type 0 where
@@ -116,6 +118,7 @@ HasCause (Some (Audit a)) contents input (BadLog log at why) = IsBadLog contents
 HasCause (Some (Audit a)) contents input status = IsAuditedSo contents (length a.logs) status
 HasCause (Some (Schedule session)) contents input (BadSession line what) = session_fault (front_of (content contents 0)) ≡ Some (At line what)
 HasCause (Some (Schedule session)) contents input status = IsScheduledSo contents input status
+HasCause (Some (Make number)) contents input status = MakeCause status
 
 -- Words, files and input are such that the command can come to its end.
 abbrev pub IsGood : Option Command → Contents → Input → Type 0
@@ -125,6 +128,7 @@ IsGood (Some (Upgrade session)) contents input = HasGame (content contents 0)
 IsGood (Some (Judge j)) contents input = (case : Game × Exhibit) × IsCase contents case × (is_shown case.0 case.1 ≡ false)
 IsGood (Some (Audit a)) contents input = (game : Game) × AreAudited contents (length a.logs) game × (findings game (logs_in game (behind_first contents) (length a.logs)) ≡ [])
 IsGood (Some (Schedule session)) contents input = (game : Game) × (game_at (front_of (content contents 0)) ≡ Ok game) × IsPlayedOut game input AreClean
+IsGood (Some (Make number)) contents input = Unit {0}
 
 -- What is behind the answer.
 abbrev pub IsMeant : Option Command → Contents → Input → Type 0
@@ -135,3 +139,4 @@ IsMeant (Some (Judge j)) contents input = Unit {0}
 IsMeant (Some (Audit a)) contents input = (game : Game) → AreAudited contents (length a.logs) game → AreFiles (behind_first contents) (length a.logs) →
     TellsAudit game (owners_in game (behind_first contents) (length a.logs)) (logs_in game (behind_first contents) (length a.logs)) (answer_of (Some (Audit a)) contents input).body
 IsMeant (Some (Schedule session)) contents input = (game : Game) → game_at (front_of (content contents 0)) ≡ Ok game → TellsMatch game input (answer_of (Some (Schedule session)) contents input)
+IsMeant (Some (Make number)) contents input = EndsFairly number

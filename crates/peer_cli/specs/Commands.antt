@@ -16,10 +16,11 @@ use Rattle.log_files.specs.Several.{behind_first}
 use Rattle.schedule_command.specs.Causes.{answer_in}
 use Rattle.schedule_command.specs.Causes as schedules
 use Rattle.schedule_command.specs.Played.{OnEnd}
+use Rattle.make_command.specs.Make.{make_answer}
 use Rattle.peer_cli.specs.Audits.{AreLogsDue, audit_for}
 use Rattle.peer_cli.specs.Exhibits.{case_for}
 use Rattle.peer_cli.specs.Games.{beginning_for, session_in}
-use Rattle.peer_cli.specs.Words.{Audit, Command, Drive, Judge, Schedule, Upgrade}
+use Rattle.peer_cli.specs.Words.{Audit, Command, Drive, Judge, Make, Schedule, Upgrade}
 
 -- the files that a command names, in the order of its words
 abbrev pub names_of : Option Command → List (List ℕ)
@@ -29,6 +30,7 @@ names_of (Some (Upgrade session)) = session ∷ []
 names_of (Some (Judge j)) = j.session ∷ j.evidence ∷ []
 names_of (Some (Audit a)) = a.session ∷ a.logs
 names_of (Some (Schedule session)) = session ∷ []
+names_of (Some (Make number)) = []
 
 -- what they hold, where each file holds this
 abbrev pub contents_of : Option Command → (files : List ℕ → Option (List ℕ)) → Contents
@@ -42,6 +44,7 @@ ReadsWhatIsDue (Some (Upgrade session)) before after calls = Unit {0}
 ReadsWhatIsDue (Some (Judge j)) before after calls = IsSecondDue calls
 ReadsWhatIsDue (Some (Audit a)) before after calls = AreLogsDue calls
 ReadsWhatIsDue (Some (Schedule session)) before after calls = Unit {0}
+ReadsWhatIsDue (Some (Make number)) before after calls = after ≡ before
 
 -- What a command reads of its files.
 pub record ReadsFor (command : Option Command) (before after : ShelfState) (calls : Calls) : Type 0 where
@@ -60,6 +63,7 @@ answer_of (Some (Upgrade session)) contents input = upgrade_answer (session_in (
 answer_of (Some (Judge j)) contents input = judge_answer (case_for (content contents 0) (content contents 1))
 answer_of (Some (Audit a)) contents input = audit_for (session_in (content contents 0)) (behind_first contents) (length a.logs)
 answer_of (Some (Schedule session)) contents input = answer_in (session_in (content contents 0)) input
+answer_of (Some (Make number)) contents input = make_answer number
 
 -- Nothing is due by the input, where its files hold this.
 abbrev pub IsOverAtFirst : Option Command → Contents → Type 0
@@ -69,6 +73,7 @@ IsOverAtFirst (Some (Upgrade session)) contents = Unit {0}
 IsOverAtFirst (Some (Judge j)) contents = Unit {0}
 IsOverAtFirst (Some (Audit a)) contents = Unit {0}
 IsOverAtFirst (Some (Schedule session)) contents = schedules.NeedsNoInput (session_in (content contents 0))
+IsOverAtFirst (Some (Make number)) contents = Unit {0}
 
 -- Where a command that reads its input came to its end, it has read the input to its end: a driven peer without a finding, and a match
 -- with one or without.
@@ -79,6 +84,7 @@ ReadsThrough (Some (Upgrade session)) status ended = Unit {0}
 ReadsThrough (Some (Judge j)) status ended = Unit {0}
 ReadsThrough (Some (Audit a)) status ended = Unit {0}
 ReadsThrough (Some (Schedule session)) status ended = OnEnd status (ended ≡ true)
+ReadsThrough (Some (Make number)) status ended = Unit {0}
 
 -- Whether a command takes memory behind its first byte too, so that a front of its text may stand before the line for want of memory.
 abbrev pub takes_late : Option Command → Bool
@@ -88,6 +94,7 @@ takes_late (Some (Upgrade session)) = false
 takes_late (Some (Judge j)) = false
 takes_late (Some (Audit a)) = true
 takes_late (Some (Schedule session)) = false
+takes_late (Some (Make number)) = false
 
 -- Whether a command takes its memory before it reads its input, so that the input is left alone where memory is wanting. A match takes
 -- the memory of its honest players, whom a line names.
@@ -98,3 +105,4 @@ takes_first (Some (Upgrade session)) = true
 takes_first (Some (Judge j)) = true
 takes_first (Some (Audit a)) = true
 takes_first (Some (Schedule session)) = false
+takes_first (Some (Make number)) = true

@@ -9,3 +9,6 @@ pub mod Causes
 pub mod Outside
 pub mod Runs
 pub mod Memory
+pub mod Opening
+pub mod Seats
+pub mod Peers

@@ -8,6 +8,7 @@ use Rattle.judge_command.specs.Words.{Judging, judging_in, judging_said}
 use Rattle.frame_index.specs.declared.limits.TheConstants.{MOST_LOGS}
 use Rattle.audit_command.specs.Words.{Auditing, auditing_in, auditing_said}
 use Rattle.schedule_command.specs.Words.{scheduling_in}
+use Rattle.make_command.specs.Words.{making_in}
 use Rattle.peer_cli.specs.declared.words.Command.{Command as CommandWords}
 use Rattle.peer_cli.specs.declared.words.Command.TheVariants as said
 
@@ -23,6 +24,8 @@ pub data Command : Type 0 where
   Audit : Auditing → Command
   -- the honest peers of a match in this file's session are stepped by the input
   Schedule : (session : List ℕ) → Command
+  -- the match of this number is made
+  Make : (number : ℕ) → Command
 
 -- the command that the words say
 abbrev pub command_said : CommandWords → Command
@@ -31,6 +34,7 @@ command_said (said.Upgrade session) = Upgrade session.now
 command_said (said.Judge judging) = Judge (judging_said judging)
 command_said (said.Audit auditing) = Audit (auditing_said auditing)
 command_said (said.Schedule session) = Schedule session.now
+command_said (said.Make number) = Make number
 
 -- the word begins with `-`
 abbrev pub begins_with_dash : List ℕ → Bool
@@ -49,6 +53,7 @@ command_named name words =
     else if bytes_eq name (codes "judge") then option_map Judge (judging_in words)
     else if bytes_eq name (codes "audit") then option_map Audit (auditing_in words)
     else if bytes_eq name (codes "schedule") then option_map Schedule (scheduling_in words)
+    else if bytes_eq name (codes "make") then option_map Make (making_in words)
     else None
 
 -- the command of these words: its name, and then its own words
@@ -67,3 +72,4 @@ HasRoom (Upgrade session) = Unit {0}
 HasRoom (Judge j) = Unit {0}
 HasRoom (Audit a) = length a.logs ≤ MOST_LOGS
 HasRoom (Schedule session) = Unit {0}
+HasRoom (Make number) = Unit {0}

@@ -32,7 +32,7 @@ fn begin_empty(alloc: Global, session: &Session, player: PlayerId) -> Result<Res
 }
 
 /// A peer for the player of the session, with the log in a file, if one is named.
-fn begin<H: Shelf>(
+pub(crate) fn begin<H: Shelf>(
     alloc: Global,
     shelf: &mut H,
     session: &Session,

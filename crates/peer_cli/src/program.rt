@@ -1,17 +1,23 @@
 //! The program.
 
-ghost use Rattle.std.specs.Prelude.{◌≡◌, Some, map};
+ghost use Rattle.std.specs.Prelude.{◌≡◌, [], None, Some, map};
 ghost use Rattle.drive_command.specs.Laws.{DrivesAreRuns, LinesAreOneStream};
+ghost use Rattle.peer_command.specs.Words.{Peering};
+ghost use Rattle.peer_cli.specs.Peers.{RunsPeer, peering_of};
 ghost use Rattle.peer_cli.specs.Words.{HasRoom, command_of, command_said};
 ghost use Rattle.peer_cli.specs.Runs.{Runs, Works};
 
 use crate::auditing::audit_for;
 use crate::driving::drive_for;
 use crate::judging::judge_for;
+use crate::matches::make_for;
+use crate::peering::peer_for;
 use crate::scheduling::schedule_for;
 use crate::upgrading::upgrade_for;
-use crate::words::{Command, read_command};
+use crate::words::{Command, read_command, read_peering};
+use rand_core::Rng;
 use run_frame::{Status, refuse};
+use socket_station::Station;
 use station::{Shelf, Sink, Source};
 use std::alloc::Global;
 
@@ -38,6 +44,7 @@ fn obey<I: Source, O: Sink, H: Shelf>(
         Command::Judge(words) => judge_for(alloc, words, input, out, shelf),
         Command::Audit(words) => audit_for(alloc, words, input, out, shelf),
         Command::Schedule(session) => schedule_for(alloc, session, input, out, shelf),
+        Command::Make(number) => make_for(alloc, number, input, out, shelf),
     }
 }
 
@@ -63,23 +70,48 @@ fn work<I: Source, O: Sink, H: Shelf>(
     }
 }
 
-/// Does what the words ask for, which are those behind the program's name: `drive SESSION PLAYER` lets the input drive a peer
-/// for the player of the session in that file, and writes what the peer does; `drive SESSION PLAYER OLD` does so with a peer
-/// that goes on from the log in the file OLD; `upgrade SESSION` prints the session in version 2; `judge SESSION EVIDENCE` says whether
-/// the frames of the exhibit in the file EVIDENCE show what it says; `audit SESSION LOG..` prints what the logs in these files, from 1 to
-/// 16, show together; `schedule SESSION` steps the honest peers of a match in that session by the lines of the input, and writes what
-/// came of each. The words are asked first, then the session, the player, the log, and then the
-/// input line by line; the first that is refused decides.
-pub fn run<I: Source, O: Sink, H: Shelf>(
+/// Does what the words ask for, where they ask for no sockets.
+pub(crate) fn run_offline<I: Source, O: Sink, H: Shelf>(
     alloc: Global,
     words: &[Vec<u8>],
     input: &mut I,
     out: &mut O,
     shelf: &mut H,
 ) -> Status
+    ensures { Runs
+        (record {
+          command = command_of (map (λ w. w.items) words.now);
+          before = record { input = I.state input.old; output = O.state out.old; shelf = H.state shelf.old };
+          after = record { input = I.state input.new; output = O.state out.new; shelf = H.state shelf.new };
+        })
+        (input.new ≡ input.old) result }
+{
+    let status = work(alloc, words, input, out, shelf);
+    refuse(status, out)
+}
 
-    // What is read and written, why each status comes, what is left alone, when the run comes to its end, and what is behind it.
-    ensures run { Runs
+/// Does what the words ask for, which are those behind the program's name: `drive SESSION PLAYER` lets the input drive a peer
+/// for the player of the session in that file, and writes what the peer does; `drive SESSION PLAYER OLD` does so with a peer
+/// that goes on from the log in the file OLD; `upgrade SESSION` prints the session in version 2; `judge SESSION EVIDENCE` says whether
+/// the frames of the exhibit in the file EVIDENCE show what it says; `audit SESSION LOG..` prints what the logs in these files, from 1 to
+/// 16, show together; `schedule SESSION` steps the honest peers of a match in that session by the lines of the input, and writes what
+/// came of each; `make N` makes the match of the number N, and prints what came of it; `peer SESSION ROSTER MOVES PLAYER POLLS LOG` plays for the
+/// player of the session with those of the roster, over sockets of the station, by the moves in the file MOVES, with nonces of the generator and a log of
+/// the name LOG, with at most POLLS polls, and with `OLD` behind it from the log in that file on. The words are asked first, then the session, the
+/// player, the other files in their order, and then the input line by line; the first that is refused decides. No call of the station was made before.
+pub fn run<I: Source, O: Sink, H: Shelf, S: Station, R: Rng>(
+    alloc: Global,
+    words: &[Vec<u8>],
+    input: &mut I,
+    out: &mut O,
+    shelf: &mut H,
+    station: &mut S,
+    chance: &mut R,
+) -> Status
+    requires first { S.history station.old ≡ [] }
+
+    // Without sockets: what is read and written, why each status comes, what is left alone, when the run comes to its end, and what is behind it.
+    ensures offline { peering_of (map (λ w. w.items) words.now) ≡ None → Runs
         (record {
           command = command_of (map (λ w. w.items) words.now);
           before = record { input = I.state input.old; output = O.state out.old; shelf = H.state shelf.old };
@@ -87,10 +119,28 @@ pub fn run<I: Source, O: Sink, H: Shelf>(
         })
         (input.new ≡ input.old) result }
 
-    // The log that it tells is that of the protocol's steps that the lines of the input bring, their bytes in whatever pieces.
+    // The station and the generator are left alone then.
+    ensures apart { peering_of (map (λ w. w.items) words.now) ≡ None → (station.new ≡ station.old) × (chance.new ≡ chance.old) }
+
+    // Over sockets: what is read, how the loop is played, and what is written of it.
+    ensures online { (p : Peering) → peering_of (map (λ w. w.items) words.now) ≡ Some p → RunsPeer
+        (record {
+          peering = p;
+          before = record { input = I.state input.old; output = O.state out.old; shelf = H.state shelf.old };
+          after = record { input = I.state input.new; output = O.state out.new; shelf = H.state shelf.new };
+          items = S.history station.old;
+          items' = S.history station.new;
+          chance = R.stream chance.old;
+          later = R.stream chance.new;
+        })
+        (input.new ≡ input.old) result }
+
+    // The log that `drive` tells is that of the protocol's steps that the lines of the input bring, their bytes in whatever pieces.
     ensures steps { DrivesAreRuns }
     ensures streams { LinesAreOneStream }
 {
-    let status = work(alloc, words, input, out, shelf);
-    refuse(status, out)
+    match read_peering(words) {
+        None => run_offline(alloc, words, input, out, shelf),
+        Some(peer) => peer_for(alloc, peer, input, out, shelf, station, chance),
+    }
 }

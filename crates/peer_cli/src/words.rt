@@ -3,11 +3,15 @@
 ghost use Rattle.std.specs.Prelude.{◌≡◌, map, option_map};
 ghost use Rattle.std.specs.List.{list_all};
 ghost use Rattle.std.specs.Str.{is_utf8};
+ghost use Rattle.peer_command.specs.Words.{peering_said};
+ghost use Rattle.peer_cli.specs.Peers as P;
 ghost use Rattle.peer_cli.specs.Words as W;
 
 use audit_command::{AuditWords, read_audit_words};
 use drive_command::{DriveWords, read_drive_words};
 use judge_command::{JudgeWords, read_judge_words};
+use make_command::read_make_words;
+use peer_command::{PeerWords, read_peer_words};
 use schedule_command::read_schedule_words;
 use std::str::from_utf8;
 use upgrade_command::read_upgrade_words;
@@ -25,6 +29,8 @@ pub(crate) enum Command<'a> {
     Audit(AuditWords<'a>),
     /// The honest peers of a match in the session of this file are stepped by the input.
     Schedule(&'a [u8]),
+    /// The match of this number is made.
+    Make(u64),
 }
 
 /// Whether the bytes are UTF-8.
@@ -82,6 +88,9 @@ fn read_named<'a>(name: &[u8], words: &'a [Vec<u8>]) -> Option<Command<'a>>
     } else if name == b"schedule".as_slice() {
         let session = read_schedule_words(words)?;
         Some(Command::Schedule(session))
+    } else if name == b"make".as_slice() {
+        let number = read_make_words(words)?;
+        Some(Command::Make(number))
     } else {
         None
     }
@@ -104,6 +113,39 @@ pub(crate) fn read_command(words: &[Vec<u8>]) -> Option<Command<'_>>
 {
     if are_words(words) {
         read_words(words)
+    } else {
+        None
+    }
+}
+
+/// What a run over sockets is to do, by the command's name and its words.
+fn read_peer_named<'a>(name: &[u8], words: &'a [Vec<u8>]) -> Option<PeerWords<'a>>
+    ensures { option_map peering_said result ≡ P.peering_named name.now (map (λ w. w.items) words.now) }
+{
+    if name == b"peer".as_slice() {
+        read_peer_words(words)
+    } else {
+        None
+    }
+}
+
+/// What a run over sockets is to do, by words that are words.
+fn read_peer_behind(words: &[Vec<u8>]) -> Option<PeerWords<'_>>
+    ensures { option_map peering_said result ≡ P.peering_behind (map (λ w. w.items) words.now) }
+{
+    match words {
+        [] => None,
+        [name, rest @ ..] => read_peer_named(name.as_slice(), rest),
+    }
+}
+
+/// What a run over sockets is to do, by the program's words, if they ask for one.
+#[tactic(auto, unfolding(crate::specs::Peers::peering_of))]
+pub(crate) fn read_peering(words: &[Vec<u8>]) -> Option<PeerWords<'_>>
+    ensures { option_map peering_said result ≡ P.peering_of (map (λ w. w.items) words.now) }
+{
+    if are_words(words) {
+        read_peer_behind(words)
     } else {
         None
     }

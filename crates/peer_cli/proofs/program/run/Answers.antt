@@ -1,13 +1,42 @@
+use Rattle.std.proofs.Common.{refl, ◌∙◌}
 use Rattle.drive_command.proofs.Runs.{drive_runs}
 use Rattle.drive_command.proofs.Streams.{gives_next}
-use Rattle.peer_cli.proofs.Running.{ran}
+use Rattle.peer_command.specs.Words.{peering_said}
+use Rattle.peer_cli.proofs.OverSockets.{none_some, same_some, some_none}
 use Rattle.peer_cli.proofs.program.run.Goals as goal
 
-pub returns-clause-run : goal.returns-clause-run
-returns-clause-run g c = ran _ _ _ _ _ _ _ c.work-status.result c.refuse.result c.work-status.ensures c.refuse.ensures
+-- ---- no sockets are asked for
 
-pub returns-clause-steps : goal.returns-clause-steps
-returns-clause-steps g c = drive_runs
+pub returns-in-None-clause-offline : goal.returns-in-None-clause-offline
+returns-in-None-clause-offline g c = λ e. c.run_offline.ensures
 
-pub returns-clause-streams : goal.returns-clause-streams
-returns-clause-streams g c = gives_next
+pub returns-in-None-clause-apart : goal.returns-in-None-clause-apart
+returns-in-None-clause-apart g c = λ e. (refl, refl)
+
+pub returns-in-None-clause-online : goal.returns-in-None-clause-online
+returns-in-None-clause-online g c = λ p e. absurd (none_some p (c.in-None.ensures ∙ e))
+
+-- ---- they are
+
+pub returns-in-Some-clause-offline : goal.returns-in-Some-clause-offline
+returns-in-Some-clause-offline g c = λ e. absurd (some_none _ (c.in-Some.ensures ∙ e))
+
+pub returns-in-Some-clause-apart : goal.returns-in-Some-clause-apart
+returns-in-Some-clause-apart g c = λ e. absurd (some_none _ (c.in-Some.ensures ∙ e))
+
+pub returns-in-Some-clause-online : goal.returns-in-Some-clause-online
+returns-in-Some-clause-online g c = λ p e. rw (← same_some (peering_said c.in-Some.peer) p (c.in-Some.ensures ∙ e)) c.peer_for.ensures
+
+-- ---- the laws
+
+pub returns-in-None-clause-steps : goal.returns-in-None-clause-steps
+returns-in-None-clause-steps g c = drive_runs
+
+pub returns-in-None-clause-streams : goal.returns-in-None-clause-streams
+returns-in-None-clause-streams g c = gives_next
+
+pub returns-in-Some-clause-steps : goal.returns-in-Some-clause-steps
+returns-in-Some-clause-steps g c = drive_runs
+
+pub returns-in-Some-clause-streams : goal.returns-in-Some-clause-streams
+returns-in-Some-clause-streams g c = gives_next

@@ -1,0 +1,108 @@
+//! A run of the program over a station in memory.
+
+ghost use Rattle.std.specs.Prelude.{◌≡◌, []};
+
+use memory_station::MemoryStation;
+use peer_cli::run;
+use rand_core::SeedableRng;
+use rand_pcg::Pcg32;
+use run_frame::Status;
+use socket_station::Station;
+use station::{MemoryShelf, MemorySink, MemorySource, ShelfFile};
+use std::alloc::{AllocError, Global};
+
+/// The texts of the files `s`, `r`, `q`, `m` and `o`.
+#[derive(Clone, Copy)]
+pub struct Texts {
+    pub session: &'static [u8],
+    pub roster: &'static [u8],
+    pub other: &'static [u8],
+    pub moves: &'static [u8],
+    pub old: &'static [u8],
+}
+
+/// How a run ended: its status, what it wrote, how many polls it made, what it kept, and how many bytes it gave on its first socket.
+#[derive(Drop)]
+pub struct Ran {
+    pub status: Status,
+    pub text: Vec<u8>,
+    pub polls: u32,
+    pub kept: Vec<u8>,
+    pub given: usize,
+}
+
+/// A file of one letter.
+fn file(alloc: Global, name: &[u8], text: &[u8]) -> Result<ShelfFile, AllocError> {
+    Ok(ShelfFile::new(Vec::from_slice(alloc, name)?, Vec::from_slice(alloc, text)?))
+}
+
+/// A shelf with these files.
+fn shelf_of(alloc: Global, texts: &Texts) -> Result<MemoryShelf, AllocError> {
+    let mut files = Vec::new(alloc);
+    files.push(file(alloc, b"s", texts.session)?)?;
+    files.push(file(alloc, b"r", texts.roster)?)?;
+    files.push(file(alloc, b"q", texts.other)?)?;
+    files.push(file(alloc, b"m", texts.moves)?)?;
+    files.push(file(alloc, b"o", texts.old)?)?;
+    Ok(MemoryShelf::new(files, Vec::new(alloc)))
+}
+
+/// The words, which stand with a blank between each two.
+fn words_of(alloc: Global, line: &str) -> Result<Vec<Vec<u8>>, AllocError> {
+    let mut words = Vec::new(alloc);
+    for word in line.split(' ') {
+        words.push(Vec::from_slice(alloc, word.as_bytes())?)?;
+    }
+    Ok(words)
+}
+
+/// How many bytes were given on the first socket.
+fn given_first(station: &MemoryStation) -> usize {
+    let mut out = [0; 4096];
+    station.given(0, 0, &mut out)
+}
+
+/// Runs the words over a station of which no call was made.
+pub fn run_over(
+    alloc: Global,
+    line: &str,
+    texts: &Texts,
+    station: &mut MemoryStation,
+) -> Result<Ran, AllocError>
+    requires { ⟦<MemoryStation as Station>⟧.history station.old ≡ [] }
+{
+    let words = words_of(alloc, line)?;
+    let mut shelf = shelf_of(alloc, texts)?;
+    let mut input = MemorySource::new(Vec::new(alloc), Vec::new(alloc));
+    let mut out = MemorySink::new(alloc, 65_536, Vec::new(alloc))?;
+    let mut chance = Pcg32::seed_from_u64(7);
+    let status = run(
+        alloc,
+        words.as_slice(),
+        &mut input,
+        &mut out,
+        &mut shelf,
+        station,
+        &mut chance,
+    );
+    Ok(Ran {
+        status,
+        text: Vec::from_slice(alloc, out.bytes())?,
+        polls: station.polls(),
+        kept: Vec::from_slice(alloc, station.kept())?,
+        given: given_first(station),
+    })
+}
+
+/// Runs the words over a station with room for so many items, of which call `fails` fails, counted from 1.
+pub fn run_words(
+    alloc: Global,
+    line: &str,
+    texts: &Texts,
+    events: u32,
+    fails: u32,
+) -> Result<Ran, AllocError> {
+    let mut station = MemoryStation::new(alloc, events, 16_384)?;
+    station.fail_call(fails);
+    run_over(alloc, line, texts, &mut station)
+}

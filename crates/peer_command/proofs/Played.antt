@@ -1,0 +1,99 @@
+-- Played: a run from the first call of its loop to its end, and what its station told.
+use Rattle.std.proofs.Common.{◌≡◌, ℕ, false, List, [], ◌∷◌, ◌++◌, Option, ap, sym, refl, ◌∙◌, subst, append-nil, take, arith}
+use Rattle.std.proofs.Math.Seq.{take-length}
+use Rattle.definitions.specs.declared.logs.Entry.{Entry}
+use Rattle.definitions.specs.declared.openings.Opening.{Opening}
+use Rattle.definitions.specs.Logs.{chosen}
+use Rattle.station.specs.Sinks.{SinkState}
+use Rattle.socket_station.specs.Items.{Item, Gave}
+use Rattle.rosters.specs.Rosters.{Neighbours}
+use Rattle.peer_core.specs.Standing.{IsStanding}
+use Rattle.peer_core.specs.Views.{PeerState}
+use Rattle.loop_rules.specs.Histories.{IsHistory}
+use Rattle.loop_rules.specs.Laws.{GivenIsDue, KeptIsHonest, PrefixesAreHistories, RevealsGivenAreFair}
+use Rattle.fair_play.proofs.Fair.{honest_fair}
+use Rattle.run_frame.specs.Frame.{Ends}
+use Rattle.run_frame.specs.declared.statuses.Status.{Status}
+use Rattle.ready_loop.specs.declared.beginning.Begun.TheVariants as B
+use Rattle.ready_loop.specs.declared.polling.Ended.{Ended}
+use Rattle.ready_loop.specs.declared.polling.Ended.TheVariants as E
+use Rattle.ready_loop.specs.States.{LoopState, kept_of}
+use Rattle.ready_loop.specs.Choices.{Chooser, ChoosesBy}
+use Rattle.ready_loop.specs.Settling.{IsReady}
+use Rattle.ready_loop.specs.Beginning.{Begins, IsNew, given_by, new_loop}
+use Rattle.ready_loop.specs.Laws.{BeginningsAreHistories, RunsAreWhole}
+use Rattle.ready_loop.specs.Polling as L
+use Rattle.peer_command.specs.Ends.{peer_answer}
+use Rattle.peer_command.specs.Fair.{IsFairMatch}
+use Rattle.peer_command.specs.Plays.{PlayedOut, PlaysOut}
+
+-- ---- what its station told
+
+module _ (prefixes : PrefixesAreHistories) (given_is_due : GivenIsDue) (reveals_given_are_fair : RevealsGivenAreFair) (kept_is_honest : KeptIsHonest) (p : PeerState) (r : Neighbours) (standing : IsStanding p) (items : List Item) where
+  fair_history : IsHistory (given_by p r) items → IsFairMatch p r items
+  fair_history h = record {
+    history = h;
+    given = λ before more socket bytes e.
+        let g = given_is_due (given_by p r) before more socket bytes (subst (IsHistory (given_by p r)) e h) in
+        (g.0, g.1, g.3);
+    received = λ before more place t m n e own.
+        reveals_given_are_fair (given_by p r) before place t m n standing.session.ahead.0 standing.honest (prefixes (given_by p r) before more (subst (IsHistory (given_by p r)) e h)) own;
+    log = honest_fair p.game p.me _ standing.session.ahead.0 (kept_is_honest (given_by p r) items standing.honest h);
+  }
+
+  -- the loop of a run, and what was written at its end
+  pub a_match : (dropped : Option ℕ) (log : List ℕ) (polls : ℕ) (by to : Chooser) (ended : Ended) (l n : LoopState) (before now : SinkState) (status : Status) → l ≡ new_loop p r →
+      PlaysOut log by to polls ended l n items → Ends before now (peer_answer dropped polls ended n) status →
+      PlayedOut (record { peer = p; roster = r; dropped = dropped; log = log; polls = polls }) by to items before now status
+  a_match dropped log polls by to ended l n before now status new plays written =
+      let w : PlaysOut log by to polls ended (new_loop p r) n items = subst (λ (x : LoopState). PlaysOut log by to polls ended x n items) new plays in
+      record { ended = ended; last = n; plays = w; fair = fair_history w.run.history.allowed; written = written }
+
+-- ---- how the loop goes
+
+-- nothing was chosen
+none_chosen : (by : Chooser) (l m : LoopState) → m.peer ≡ l.peer → ChoosesBy l.peer.game l.peer.me by by false l.peer.entries m.peer.entries
+none_chosen by l m same = record {
+  more = [];
+  grown = ap (λ (p : PeerState). chosen l.peer.me p.entries) same ∙ sym (append-nil (chosen l.peer.me l.peer.entries));
+  last = by.chance;
+  made = refl;
+  chance = refl;
+  plan = refl;
+}
+
+module _ (histories : BeginningsAreHistories) (log : List ℕ) (by : Chooser) (polls : ℕ) (l m : LoopState) (items : List Item) (new : IsNew l) where
+  -- the log could not be begun or kept, and nothing was played
+  pub logs_not : Begins log B.KeepFault l m items → PlaysOut log by by polls E.KeepFault l m items
+  logs_not b = record {
+    run = record { history = histories log B.KeepFault l m items new b; kept = λ differs. absurd (differs refl); refused = false; refuses = tt; choices = none_chosen by l m b.peer };
+    made = 0;
+    few = omega arith;
+    stands = b.stands;
+  }
+
+  -- it could not listen, and nothing was played
+  pub listens_not : Begins log B.PollFault l m items → PlaysOut log by by polls E.PollFault l m items
+  listens_not b = record {
+    run = record {
+      history = histories log B.PollFault l m items new b;
+      kept = λ differs. ap (λ (n : ℕ). take n m.peer.entries) b.stands.kept ∙ take-length m.peer.entries;
+      refused = false;
+      refuses = refl;
+      choices = none_chosen by l m b.peer;
+    };
+    made = 0;
+    few = omega arith;
+    stands = b.stands;
+  }
+
+-- it listens, and is ready to play
+pub began_on : (log : List ℕ) (l m : LoopState) (items : List Item) → Begins log B.Ready l m items → IsReady items m
+began_on log l m items b = record { told = b.told; idle = b.stands.0 }
+
+-- and it played
+pub on_from : (whole : RunsAreWhole) (log : List ℕ) (by to : Chooser) (polls polls' : ℕ) (ended : Ended) (l m n : LoopState) (first items : List Item) → IsNew l → Begins log B.Ready l m first → polls' ≡ polls →
+    L.Ends by to polls' ended first items m n → PlaysOut log by to polls ended l n items
+on_from whole log by to polls polls' ended l m n first items new b e w =
+    let x : L.Ends by to polls ended first items m n = subst (λ (k : ℕ). L.Ends by to k ended first items m n) e w in
+    record { run = whole log by to polls ended l m n first items new b x; made = x.made; few = x.few; stands = x.stands }

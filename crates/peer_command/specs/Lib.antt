@@ -1,0 +1,4 @@
+pub mod Words
+pub mod Ends
+pub mod Fair
+pub mod Plays

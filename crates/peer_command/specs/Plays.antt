@@ -1,0 +1,54 @@
+-- Plays: what a run makes of the station and the generator.
+use Rattle.std.specs.Prelude.{◌≡◌, ◌⊎◌, ◌≤◌, ℕ, List, Option}
+use Rattle.station.specs.Sinks.{SinkState}
+use Rattle.socket_station.specs.Items.{Item}
+use Rattle.rosters.specs.Rosters.{Neighbours}
+use Rattle.peer_core.specs.Views.{PeerState}
+use Rattle.run_frame.specs.Frame.{Ends}
+use Rattle.run_frame.specs.declared.statuses.Status.{Status}
+use Rattle.run_frame.specs.declared.statuses.Status.TheVariants.{NoMemory}
+use Rattle.ready_loop.specs.declared.polling.Ended.{Ended}
+use Rattle.ready_loop.specs.States.{LoopState}
+use Rattle.ready_loop.specs.Choices.{Chooser}
+use Rattle.ready_loop.specs.Beginning.{new_loop}
+use Rattle.ready_loop.specs.Laws.{IsRun}
+use Rattle.ready_loop.specs.Polling.{StandsEnded}
+use Rattle.peer_command.specs.Ends.{peer_answer}
+use Rattle.peer_command.specs.Fair.{IsFairMatch}
+
+-- The loop was begun, with a log of this name, and played to its end.
+pub record PlaysOut (log : List ℕ) (by to : Chooser) (polls : ℕ) (ended : Ended) (l n : LoopState) (items : List Item) : Type 0 where
+  -- its station told a whole history; the log kept is the peer's, but for an end of the log itself; and whose the choices in it are
+  pub run : IsRun log by to ended l n items
+  -- how many polls it made, and why it ended so
+  pub made : ℕ
+  pub few : made ≤ polls
+  pub stands : StandsEnded by.plan polls made ended n
+
+-- what a run plays with: the peer, the others, the byte from which on an older log was dropped, if it was, the name of the log, and how many polls are
+-- granted
+pub record Start : Type 0 where
+  pub peer : PeerState
+  pub roster : Neighbours
+  pub dropped : Option ℕ
+  pub log : List ℕ
+  pub polls : ℕ
+
+-- The run played, and wrote the end of its loop.
+pub record PlayedOut (s : Start) (by to : Chooser) (items : List Item) (before now : SinkState) (status : Status) : Type 0 where
+  pub ended : Ended
+  pub last : LoopState
+  pub plays : PlaysOut s.log by to s.polls ended (new_loop s.peer s.roster) last items
+  -- what its station told shows fair play
+  pub fair : IsFairMatch s.peer s.roster items
+  pub written : Ends before now (peer_answer s.dropped s.polls ended last) status
+
+-- Memory was wanting, and no call was made and nothing written.
+pub record MadeNoCall (by to : Chooser) (items items' : List Item) (before now : SinkState) (status : Status) : Type 0 where
+  pub lacks : status ≡ NoMemory
+  pub calls : items' ≡ items
+  pub chooser : to ≡ by
+  pub written : now ≡ before
+
+abbrev pub PlaysPeer : Start → (by to : Chooser) → (items items' : List Item) → (before now : SinkState) → Status → Type 0
+PlaysPeer s by to items items' before now status = MadeNoCall by to items items' before now status ⊎ PlayedOut s by to items' before now status

@@ -1,0 +1,16 @@
+//! The command that plays a match over sockets: what its words say, the loop from its beginning to its end, and what is written then.
+//!
+//! A run begins the log, plays by the moves of a pilot until it is over or as many polls as its words grant were made, and writes how it ended: what
+//! its end was, whom it waits for, what others lack, what its log shows of each player, and its own score. For a program of many commands the crate
+//! has its words (`specs/Words.antt`), its text and its status by how the loop ended (`Ends`), one function (`play_peer`), and what that makes of the
+//! station and the generator (`Plays`). It touches the station, the pilot, the generator and the sink that it is handed, and takes all memory
+//! before the first call of the station.
+#![tactic(auto)]
+
+mod ends;
+mod lines;
+mod playing;
+mod words;
+
+pub use playing::play_peer;
+pub use words::{MOST_POLLS, PeerWords, read_peer_words};
