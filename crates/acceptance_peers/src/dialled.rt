@@ -1,5 +1,7 @@
 //! A player that the other one dials, and what that one says.
 
+ghost use Rattle.std.specs.Prelude.{◌≡◌};
+
 use crate::runs::{Ran, Texts, run_over};
 use bytes::Bytes;
 use commitment::digest_of;
@@ -88,16 +90,13 @@ fn said(alloc: Global, session: &Session, turns: Turn, lies: bool) -> Result<Vec
 }
 
 /// Brings the bytes on a new socket, in pieces of this size.
-fn bring(
-    alloc: Global,
-    station: &mut MemoryStation,
-    bytes: &[u8],
-    size: usize,
-) -> Result<(), Fail> {
+fn bring(alloc: Global, station: &mut MemoryStation, bytes: &[u8], size: usize) -> Result<(), Fail>
+    ensures { station.new.book.history ≡ station.old.book.history }
+{
     let Some(socket) = station.bring_socket() else {
         return Err("no socket".into());
     };
-    for piece in bytes.chunks(size.max(1)) {
+    'pieces: for piece in bytes.chunks(size.max(1)) {
         if piece.is_empty() || !station.is_known(socket) {
             return Err("no piece".into());
         }
@@ -121,7 +120,6 @@ fn run_with(
     let texts = Texts {
         session: FAR,
         roster: ROSTER,
-        other: ROSTER,
         moves: STAY,
         old: b"",
     };

@@ -1,6 +1,6 @@
 //! A run of the program over a station in memory.
 
-ghost use Rattle.std.specs.Prelude.{◌≡◌, []};
+ghost use Rattle.std.specs.Prelude.{◌≡◌, ◌∷◌, [], false, bytes_eq, IfOk};
 
 use memory_station::MemoryStation;
 use peer_cli::run;
@@ -11,12 +11,11 @@ use socket_station::Station;
 use station::{MemoryShelf, MemorySink, MemorySource, ShelfFile};
 use std::alloc::{AllocError, Global};
 
-/// The texts of the files `s`, `r`, `q`, `m` and `o`.
+/// The texts of the files `s`, `r`, `m` and `o`.
 #[derive(Clone, Copy)]
 pub struct Texts {
     pub session: &'static [u8],
     pub roster: &'static [u8],
-    pub other: &'static [u8],
     pub moves: &'static [u8],
     pub old: &'static [u8],
 }
@@ -31,20 +30,58 @@ pub struct Ran {
     pub given: usize,
 }
 
-/// A file of one letter.
-fn file(alloc: Global, name: &[u8], text: &[u8]) -> Result<ShelfFile, AllocError> {
-    Ok(ShelfFile::new(Vec::from_slice(alloc, name)?, Vec::from_slice(alloc, text)?))
+/// A file.
+fn file_of(alloc: Global, name: &[u8], text: &[u8]) -> Result<ShelfFile, AllocError>
+    ensures { IfOk result (λ file. file.name ≡ name.now) }
+{
+    let name = Vec::from_slice(alloc, name)?;
+    Ok(ShelfFile::new(name, Vec::from_slice(alloc, text)?))
+}
+
+/// Four files.
+fn four_of(
+    alloc: Global,
+    first: ShelfFile,
+    second: ShelfFile,
+    third: ShelfFile,
+    fourth: ShelfFile,
+) -> Result<Vec<ShelfFile>, AllocError>
+    ensures { IfOk result (λ files. files.items ≡ first ∷ second ∷ third ∷ fourth ∷ []) }
+{
+    let mut files = Vec::new(alloc);
+    files.push(first)?;
+    files.push(second)?;
+    files.push(third)?;
+    files.push(fourth)?;
+    Ok(files)
+}
+
+/// A shelf with four files.
+fn shelf_of_four(
+    alloc: Global,
+    first: ShelfFile,
+    second: ShelfFile,
+    third: ShelfFile,
+    fourth: ShelfFile,
+) -> Result<MemoryShelf, AllocError>
+    requires first_second { bytes_eq first.name second.name ≡ false }
+    requires first_third { bytes_eq first.name third.name ≡ false }
+    requires first_fourth { bytes_eq first.name fourth.name ≡ false }
+    requires second_third { bytes_eq second.name third.name ≡ false }
+    requires second_fourth { bytes_eq second.name fourth.name ≡ false }
+    requires third_fourth { bytes_eq third.name fourth.name ≡ false }
+{
+    let files = four_of(alloc, first, second, third, fourth)?;
+    Ok(MemoryShelf::new(files, Vec::new(alloc)))
 }
 
 /// A shelf with these files.
 fn shelf_of(alloc: Global, texts: &Texts) -> Result<MemoryShelf, AllocError> {
-    let mut files = Vec::new(alloc);
-    files.push(file(alloc, b"s", texts.session)?)?;
-    files.push(file(alloc, b"r", texts.roster)?)?;
-    files.push(file(alloc, b"q", texts.other)?)?;
-    files.push(file(alloc, b"m", texts.moves)?)?;
-    files.push(file(alloc, b"o", texts.old)?)?;
-    Ok(MemoryShelf::new(files, Vec::new(alloc)))
+    let session = file_of(alloc, b"s", texts.session)?;
+    let roster = file_of(alloc, b"r", texts.roster)?;
+    let moves = file_of(alloc, b"m", texts.moves)?;
+    let old = file_of(alloc, b"o", texts.old)?;
+    shelf_of_four(alloc, session, roster, moves, old)
 }
 
 /// The words, which stand with a blank between each two.
