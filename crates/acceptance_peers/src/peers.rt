@@ -46,7 +46,7 @@ const TOO_FAR: &[u8] = b"0 0\n0 0\n0 0\n2 0\n0 0\n0 0\n0 0\n0 0\n";
 const OLD: &[u8] =
     b"\x00\x00)\x01\x00\x00\x00\x00\x00\x00\x00\x00\x00\x00\x00\x00\x00\x00\x00\x00\x00\x00\x00\x00\x00\x00\x00\x00\x00\x00\x00\x00\x00\x00\x00\x00\x00\x00\x00\x00\x00\x00\x00\x00\x00\x92\xbc&\xba\x9b\x97\x1b\x90\xd6n\x88r\xc5x\xd4TP~\xf4K+9Ms\x9f:\xac<\x97\xd5\x99\xc2\x00(\x02\x02\x00%\x00\x00\x00\x00\x002\xd5|\x07\x7fI-\x02\x9a%q\x952\xe3\xed\xa4\x9cw\x92\xb2\xe9+\xe6\xe7\x7f@\xa2\xb1\xaf\xcc\xfa\xb2*!\x99\xfc\xa3>\xd5\xe2\x87\xcax\x17\xc8\x22ak\xe9k\xbf`\xd3\xd2\xd0X\x8d\x09\x1f\x1b\xc5Q\xca\x85\x00-\x02";
 
-static ROWS: [Row; 24] = [
+static ROWS: [Row; 26] = [
     Row {
         name: "a neighbour that brings nothing",
         words: "peer s r m 0 100 log",
@@ -378,6 +378,34 @@ static ROWS: [Row; 24] = [
         events: 4000,
         fails: 0,
         text: b"playout 2\ngrid 12 1\nrules 1 1 0\ncharge 1 2 1\nturns 8\nahead 1\nplayers 2\nplayer 0 0 0\nplayer 1 9 0\nend\n",
+        status: 0,
+        polls: 0,
+        kept: 0,
+        given: 0,
+    },
+    Row {
+        name: "the match of a number, which asks for no sockets",
+        words: "make 7",
+        session: FAR,
+        roster: ROSTER,
+        moves: STAY,
+        events: 0,
+        fails: 0,
+        text: b"players 8 turns 200\nchosen 1600\ndelivered 22400\nlost 5583\nrepeated 7096\nfindings 0\nworld 0 at 16 60 charge 3 given 3 taken 0\nworld 1 at 14 50 charge 4 given 2 taken 3\nworld 2 at 7 63 charge 3 given 3 taken 8\nworld 3 at 33 19 charge 3 given 0 taken 0\nworld 4 at 13 58 charge 3 given 5 taken 4\nworld 5 at 18 47 charge 2 given 6 taken 8\nworld 6 at 3 58 charge 2 given 7 taken 3\nworld 7 at 54 17 charge 1 given 0 taken 0\nend\n",
+        status: 0,
+        polls: 0,
+        kept: 0,
+        given: 0,
+    },
+    Row {
+        name: "the same match once more",
+        words: "make 7",
+        session: FAR,
+        roster: ROSTER,
+        moves: STAY,
+        events: 0,
+        fails: 0,
+        text: b"players 8 turns 200\nchosen 1600\ndelivered 22400\nlost 5583\nrepeated 7096\nfindings 0\nworld 0 at 16 60 charge 3 given 3 taken 0\nworld 1 at 14 50 charge 4 given 2 taken 3\nworld 2 at 7 63 charge 3 given 3 taken 8\nworld 3 at 33 19 charge 3 given 0 taken 0\nworld 4 at 13 58 charge 3 given 5 taken 4\nworld 5 at 18 47 charge 2 given 6 taken 8\nworld 6 at 3 58 charge 2 given 7 taken 3\nworld 7 at 54 17 charge 1 given 0 taken 0\nend\n",
         status: 0,
         polls: 0,
         kept: 0,
