@@ -1,15 +1,16 @@
 //! The program `lethwyrn`. It makes the real objects of the outside, hands them with its words to `peer_cli::run`, whose
-//! contract says what is then written, and ends with the status. It reads files, the standard input, its words and random bytes of the machine, and
-//! writes to the standard output alone. It has no sockets of the machine yet: its station has room for no call, so `peer` ends with `keep fault`.
+//! contract says what is then written, and ends with the status. It reads files, the standard input, its words and random bytes of the
+//! machine, and writes to the standard output; its `peer` also opens sockets at the addresses of its roster and creates the one file of
+//! its log.
 #![tactic(auto)]
 
 use file_shelf::FileShelf;
-use memory_station::MemoryStation;
 use peer_cli::run;
 use rand_chacha::ChaCha20Rng;
 use rand_core::SeedableRng;
 use run_frame::{Status, refuse};
 use station::{StdSink, StdSource};
+use station_mio::MioStation;
 use std::io::{self, ErrorKind};
 use std::process::ExitCode;
 use std::random::RandomSource;
@@ -49,7 +50,7 @@ fn chance_of(rt: &HostRuntime) -> Option<ChaCha20Rng> {
 
 /// Does what the words ask for.
 fn obey<W: io::Write>(rt: &HostRuntime, words: &[Vec<u8>], out: &mut StdSink<W>) -> u8 {
-    let Ok(mut station) = MemoryStation::new(rt.alloc(), 0, 0) else {
+    let Ok(mut station) = MioStation::new(rt, rt.alloc()) else {
         return refuse(Status::NoMemory, out).code();
     };
     let Some(mut chance) = chance_of(rt) else {
@@ -57,7 +58,7 @@ fn obey<W: io::Write>(rt: &HostRuntime, words: &[Vec<u8>], out: &mut StdSink<W>)
     };
     let mut input = StdSource::new(rt.reader());
     let mut shelf = FileShelf::new(rt.alloc(), rt);
-    run(
+    let status = run(
         rt.alloc(),
         words,
         &mut input,
@@ -65,8 +66,9 @@ fn obey<W: io::Write>(rt: &HostRuntime, words: &[Vec<u8>], out: &mut StdSink<W>)
         &mut shelf,
         &mut station,
         &mut chance,
-    )
-    .code()
+    );
+    station.finish();
+    status.code()
 }
 
 fn main(rt: HostRuntime) -> ExitCode {
