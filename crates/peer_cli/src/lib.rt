@@ -2,7 +2,9 @@
 //!
 //! `run` carries the promises of the whole: what is written for these words, files and input, why each status comes, that
 //! nothing but memory can be wanting where all is good, and that the log behind the text is one of fair play. The crate
-//! touches the source, the sink and the shelf that it is handed, and takes its memory before the first byte is written.
+//! touches the source, the sink and the shelf that it is handed, and takes its memory before the first byte is written. Only `peer`
+//! touches the station and the generator: what `run` promises of it is a record of its own (`specs/Peers.antt`), and of all other
+//! commands `specs/Runs.antt` is the one.
 //!
 //! A further command is a case of `Command` and of `obey`, and in `specs/` of `Words`, `Commands` and `Causes`: its crate has its words, its
 //! answer, its causes, one function and its laws, as `drive_command` does. What `run` promises (`specs/Runs.antt`) names none of them.

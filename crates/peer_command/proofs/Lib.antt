@@ -1,2 +1,3 @@
 pub mod Unsents
+pub mod Failures
 pub mod Played

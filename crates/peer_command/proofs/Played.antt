@@ -1,23 +1,26 @@
 -- Played: a run from the first call of its loop to its end, and what its station told.
 use Rattle.std.proofs.Common.{◌≡◌, ℕ, false, List, [], ◌∷◌, ◌++◌, Option, ap, sym, refl, ◌∙◌, subst, append-nil, take, arith}
 use Rattle.std.proofs.Math.Seq.{take-length}
-use Rattle.definitions.specs.declared.logs.Entry.{Entry}
-use Rattle.definitions.specs.declared.openings.Opening.{Opening}
 use Rattle.definitions.specs.Logs.{chosen}
 use Rattle.station.specs.Sinks.{SinkState}
-use Rattle.socket_station.specs.Items.{Item, Gave}
+use Rattle.socket_station.specs.Items.{Item}
 use Rattle.rosters.specs.Rosters.{Neighbours}
+use Rattle.pilots.specs.Plans.{Plan}
 use Rattle.peer_core.specs.Standing.{IsStanding}
 use Rattle.peer_core.specs.Views.{PeerState}
+use Rattle.loop_rules.specs.declared.phases.Phase.{Phase}
+use Rattle.loop_rules.specs.declared.phases.Phase.TheVariants.{Running, KeepFault, PollFault}
 use Rattle.loop_rules.specs.Histories.{IsHistory}
-use Rattle.loop_rules.specs.Laws.{GivenIsDue, KeptIsHonest, PrefixesAreHistories, RevealsGivenAreFair}
+use Rattle.loop_rules.specs.Laws.{FaultsAreLast, GivenIsDue, KeptIsHonest, PrefixesAreHistories, RevealsGivenAreFair}
+use Rattle.loop_rules.specs.Told.{IsTold}
+use Rattle.loop_rules.proofs.Kept.{keeps_sorted}
 use Rattle.fair_play.proofs.Fair.{honest_fair}
 use Rattle.run_frame.specs.Frame.{Ends}
 use Rattle.run_frame.specs.declared.statuses.Status.{Status}
 use Rattle.ready_loop.specs.declared.beginning.Begun.TheVariants as B
 use Rattle.ready_loop.specs.declared.polling.Ended.{Ended}
 use Rattle.ready_loop.specs.declared.polling.Ended.TheVariants as E
-use Rattle.ready_loop.specs.States.{LoopState, kept_of}
+use Rattle.ready_loop.specs.States.{LoopState, base_of, rest_of, view_of}
 use Rattle.ready_loop.specs.Choices.{Chooser, ChoosesBy}
 use Rattle.ready_loop.specs.Settling.{IsReady}
 use Rattle.ready_loop.specs.Beginning.{Begins, IsNew, given_by, new_loop}
@@ -25,7 +28,9 @@ use Rattle.ready_loop.specs.Laws.{BeginningsAreHistories, RunsAreWhole}
 use Rattle.ready_loop.specs.Polling as L
 use Rattle.peer_command.specs.Ends.{peer_answer}
 use Rattle.peer_command.specs.Fair.{IsFairMatch}
+use Rattle.peer_command.specs.Faults.{StandsByFaults}
 use Rattle.peer_command.specs.Plays.{PlayedOut, PlaysOut}
+use Rattle.peer_command.proofs.Failures.{keep_failed, poll_failed, fails_neither}
 
 -- ---- what its station told
 
@@ -62,7 +67,20 @@ none_chosen by l m same = record {
   plan = refl;
 }
 
-module _ (histories : BeginningsAreHistories) (log : List ℕ) (by : Chooser) (polls : ℕ) (l m : LoopState) (items : List Item) (new : IsNew l) where
+-- what the station told shows the loop's phase
+phase_shown : (l : LoopState) (p : Phase) → l.phase ≡ p → (view_of l).phase ≡ p
+phase_shown l p e = (keeps_sorted (rest_of l) (base_of l)).phase ∙ e
+
+-- which failed calls stand behind the end
+by_faults : (last : FaultsAreLast) (plan : Option Plan) (polls made : ℕ) (ended : Ended) (items : List Item) (n : LoopState) → IsTold items (view_of n) → L.StandsEnded plan polls made ended n → StandsByFaults ended items
+by_faults last plan polls made E.KeepFault items n told stands = keep_failed last items (view_of n) told (phase_shown n KeepFault stands)
+by_faults last plan polls made E.PollFault items n told stands = poll_failed last items (view_of n) told (phase_shown n PollFault stands.fault)
+by_faults last plan polls made E.Done items n told stands = fails_neither last items (view_of n) told (phase_shown n Running stands.whole.idle.running)
+by_faults last plan polls made (E.Caught f) items n told stands = fails_neither last items (view_of n) told (phase_shown n Running stands.0.idle.running)
+by_faults last plan polls made (E.OwnMove turn fault) items n told stands = fails_neither last items (view_of n) told (phase_shown n Running stands.0.idle.running)
+by_faults last plan polls made E.GaveUp items n told stands = fails_neither last items (view_of n) told (phase_shown n Running stands.whole.idle.running)
+
+module _ (last : FaultsAreLast) (histories : BeginningsAreHistories) (log : List ℕ) (by : Chooser) (polls : ℕ) (l m : LoopState) (items : List Item) (new : IsNew l) where
   -- the log could not be begun or kept, and nothing was played
   pub logs_not : Begins log B.KeepFault l m items → PlaysOut log by by polls E.KeepFault l m items
   logs_not b = record {
@@ -70,6 +88,7 @@ module _ (histories : BeginningsAreHistories) (log : List ℕ) (by : Chooser) (p
     made = 0;
     few = omega arith;
     stands = b.stands;
+    faults = keep_failed last items (view_of m) b.told (phase_shown m KeepFault b.stands);
   }
 
   -- it could not listen, and nothing was played
@@ -85,6 +104,7 @@ module _ (histories : BeginningsAreHistories) (log : List ℕ) (by : Chooser) (p
     made = 0;
     few = omega arith;
     stands = b.stands;
+    faults = poll_failed last items (view_of m) b.told (phase_shown m PollFault b.stands.fault);
   }
 
 -- it listens, and is ready to play
@@ -92,8 +112,8 @@ pub began_on : (log : List ℕ) (l m : LoopState) (items : List Item) → Begins
 began_on log l m items b = record { told = b.told; idle = b.stands.0 }
 
 -- and it played
-pub on_from : (whole : RunsAreWhole) (log : List ℕ) (by to : Chooser) (polls polls' : ℕ) (ended : Ended) (l m n : LoopState) (first items : List Item) → IsNew l → Begins log B.Ready l m first → polls' ≡ polls →
+pub on_from : (last : FaultsAreLast) (whole : RunsAreWhole) (log : List ℕ) (by to : Chooser) (polls polls' : ℕ) (ended : Ended) (l m n : LoopState) (first items : List Item) → IsNew l → Begins log B.Ready l m first → polls' ≡ polls →
     L.Ends by to polls' ended first items m n → PlaysOut log by to polls ended l n items
-on_from whole log by to polls polls' ended l m n first items new b e w =
+on_from last whole log by to polls polls' ended l m n first items new b e w =
     let x : L.Ends by to polls ended first items m n = subst (λ (k : ℕ). L.Ends by to k ended first items m n) e w in
-    record { run = whole log by to polls ended l m n first items new b x; made = x.made; few = x.few; stands = x.stands }
+    record { run = whole log by to polls ended l m n first items new b x; made = x.made; few = x.few; stands = x.stands; faults = by_faults last by.plan polls x.made ended items n x.goes.told x.stands }

@@ -1,5 +1,5 @@
 -- Unsents: what players lack, one after another.
-use Rattle.std.proofs.Common.{◌≡◌, ℕ, ◌+◌, ◌-◌, ◌<◌, List, [], ◌++◌, ap, arith, refl, suc, ◌∙◌}
+use Rattle.std.proofs.Common.{◌≡◌, ℕ, ◌+◌, ◌-◌, ◌<◌, [], ◌++◌, ap, arith, refl, suc, ◌∙◌}
 use Rattle.ready_loop.specs.States.{LoopState}
 use Rattle.peer_command.specs.Ends.{unsent_to, unsents_text}
 

@@ -1,4 +1,5 @@
 pub mod Words
 pub mod Ends
 pub mod Fair
+pub mod Faults
 pub mod Plays

@@ -15,6 +15,7 @@ use Rattle.ready_loop.specs.Laws.{IsRun}
 use Rattle.ready_loop.specs.Polling.{StandsEnded}
 use Rattle.peer_command.specs.Ends.{peer_answer}
 use Rattle.peer_command.specs.Fair.{IsFairMatch}
+use Rattle.peer_command.specs.Faults.{StandsByFaults}
 
 -- The loop was begun, with a log of this name, and played to its end.
 pub record PlaysOut (log : List ℕ) (by to : Chooser) (polls : ℕ) (ended : Ended) (l n : LoopState) (items : List Item) : Type 0 where
@@ -24,6 +25,8 @@ pub record PlaysOut (log : List ℕ) (by to : Chooser) (polls : ℕ) (ended : En
   pub made : ℕ
   pub few : made ≤ polls
   pub stands : StandsEnded by.plan polls made ended n
+  -- and which failed calls stand behind that
+  pub faults : StandsByFaults ended items
 
 -- what a run plays with: the peer, the others, the byte from which on an older log was dropped, if it was, the name of the log, and how many polls are
 -- granted

@@ -9,7 +9,8 @@ ghost use Rattle.peer_command.specs.Plays.{PlaysOut, PlaysPeer};
 
 use crate::ends::end;
 use loop_rules::laws::{
-    given_is_due, histories_grow_by_items, kept_logs_are_honest, reveals_given_are_fair,
+    faults_are_last, given_is_due, histories_grow_by_items, kept_logs_are_honest,
+    reveals_given_are_fair,
 };
 use peer_core::Peer;
 use pilots::Pilot;
@@ -37,6 +38,7 @@ fn play_out<S: Station, P: Pilot, R: Rng>(
         polls result played.old played.new (S.history station.new) }
 {
     beginnings_are_histories();
+    faults_are_last();
     runs_are_whole();
     match played.begin(station, log) {
         Begun::KeepFault => Ended::KeepFault,

@@ -1,6 +1,6 @@
 //! The open sockets of a station, by their numbers.
 
-ghost use Rattle.std.specs.Prelude.{◌<◌, IfSome, length};
+ghost use Rattle.std.specs.Prelude.{◌≡◌, ◌<◌, Some, IfSome, length, slice_get};
 
 use mio::net::TcpStream;
 use socket_station::{Addr, SocketId};
@@ -8,7 +8,7 @@ use std::time::Duration;
 
 /// How a socket stands to the machine.
 #[derive(Drop)]
-pub(crate) enum Link {
+pub(crate) enum Wire {
     /// It is to be dialled at that time.
     Due(Addr, Duration),
     /// It was dialled, and the address has until that time to answer.
@@ -23,12 +23,13 @@ pub(crate) enum Link {
 #[derive(Drop)]
 pub(crate) struct Row {
     pub(crate) number: SocketId,
-    pub(crate) link: Link,
+    pub(crate) wire: Wire,
 }
 
 /// The place of the row of this number.
 pub(crate) fn place_of(rows: &[Row], number: SocketId) -> Option<usize>
-    ensures { IfSome result (λ i. i < length rows.now) }
+    ensures inside { IfSome result (λ i. i < length rows.now) }
+    ensures numbered { IfSome result (λ i. (row : Row) → slice_get rows.now i ≡ Some row → row.number ≡ number) }
 {
     rows.iter().position(|row| row.number == number)
 }

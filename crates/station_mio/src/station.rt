@@ -3,8 +3,8 @@
 ghost use Rattle.std.specs.Prelude.{◌≡◌, [], IfOk};
 ghost use Rattle.station_mio.specs.Numbers.{AreUnused};
 
-use crate::links::Links;
 use crate::log_file::{self, LogFile};
+use crate::sockets::Sockets;
 use definitions::PlayerId;
 use socket_station::{
     Addr, Dial, Did, ReadyList, SocketId, SocketRead, SocketWrite, Station, StationNotes,
@@ -18,10 +18,10 @@ use std::time::Clock;
 /// Sockets and a log file of the machine. What its calls answered is told by record.
 #[derive(Drop)]
 pub struct MioStation<R: Files> {
-    links: Links<R>,
+    sockets: Sockets<R>,
     log: Option<LogFile<R::File>>,
     notes: StationNotes,
-    ghost unused: { AreUnused links.next notes },
+    ghost unused: { AreUnused sockets.next notes },
 }
 
 /// What is answered to a call of the machine.
@@ -38,7 +38,7 @@ impl<R: Files + Net + Clock + Drop> MioStation<R> {
         ensures { IfOk result (λ s. ⟦<MioStation<R> as Station>⟧.history s ≡ []) }
     {
         Ok(MioStation {
-            links: Links::new(alloc, machine)?,
+            sockets: Sockets::new(alloc, machine)?,
             log: None,
             notes: StationNotes::new(),
         })
@@ -49,7 +49,7 @@ impl<R: Files + Net + Clock + Drop> MioStation<R> {
     pub fn finish(&mut self)
         ensures { ⟦<MioStation<R> as Station>⟧.history self.new ≡ ⟦<MioStation<R> as Station>⟧.history self.old }
     {
-        self.links.finish();
+        self.sockets.finish();
     }
 }
 
@@ -57,13 +57,13 @@ impl<R: Files + Net + Clock + Drop> Station for MioStation<R> {
     ghost history = { λ s. s.notes };
 
     fn listen(&mut self, addr: Addr) -> Did {
-        let did = did(self.links.listen(addr));
+        let did = did(self.sockets.listen(addr));
         self.notes.listen(did, addr);
         did
     }
 
     fn log_to(&mut self, name: &[u8]) -> Did {
-        let did = match log_file::create(&self.links.machine, name) {
+        let did = match log_file::create(&self.sockets.machine, name) {
             Ok(log) => {
                 self.log = Some(log);
                 Did::Done
@@ -75,31 +75,31 @@ impl<R: Files + Net + Clock + Drop> Station for MioStation<R> {
     }
 
     fn dial(&mut self, player: PlayerId, addr: Addr) -> Dial {
-        let dial = self.links.dial(player, addr);
+        let dial = self.sockets.dial(player, addr);
         self.notes.dial(dial, player, addr);
         dial
     }
 
     fn poll(&mut self, ready: &mut ReadyList) -> Did {
-        let did = self.links.poll(ready);
+        let did = self.sockets.poll(ready);
         self.notes.poll(did, ready.as_slice());
         did
     }
 
     fn read(&mut self, socket: SocketId, buf: &mut [u8]) -> SocketRead {
-        let read = self.links.read(socket, buf);
+        let read = self.sockets.read(socket, buf);
         self.notes.read(socket, read, buf);
         read
     }
 
     fn write(&mut self, socket: SocketId, bytes: &[u8]) -> SocketWrite {
-        let write = self.links.write(socket, bytes);
+        let write = self.sockets.write(socket, bytes);
         self.notes.write(socket, write, bytes);
         write
     }
 
     fn shut(&mut self, socket: SocketId) {
-        self.links.shut(socket);
+        self.sockets.shut(socket);
         self.notes.shut(socket);
     }
 

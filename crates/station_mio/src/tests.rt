@@ -1,7 +1,7 @@
 //! The machine's sockets over loopback, and its files: no contract says what comes over a wire, or stands on a disk.
 
 use crate::MioStation;
-use crate::links::Links;
+use crate::sockets::Sockets;
 use socket_station::{
     Addr, Dial, Did, Ready, ReadyList, SocketId, SocketRead, SocketWrite, Station,
 };
@@ -14,8 +14,8 @@ use std::{fs, process, thread};
 /// How many polls a test waits for what must come: two seconds.
 const ROUNDS: u32 = 20;
 
-fn links_of(rt: &HostRuntime) -> Result<Links<&HostRuntime>, Fail> {
-    Ok(Links::new(rt.alloc(), rt)?)
+fn sockets_of(rt: &HostRuntime) -> Result<Sockets<&HostRuntime>, Fail> {
+    Ok(Sockets::new(rt.alloc(), rt)?)
 }
 
 /// An address of this machine that nobody listens at.
@@ -33,10 +33,10 @@ fn stream_to(rt: &HostRuntime, addr: Addr) -> Result<TcpStream, Fail> {
 }
 
 /// The first socket that a poll opens.
-fn accepted(links: &mut Links<&HostRuntime>) -> Option<SocketId> {
+fn accepted(sockets: &mut Sockets<&HostRuntime>) -> Option<SocketId> {
     let mut ready = ReadyList::new();
     for _ in 0..ROUNDS {
-        links.poll(&mut ready);
+        sockets.poll(&mut ready);
         for item in ready.as_slice() {
             if let Ready::Opened(number) = *item {
                 return Some(number);
@@ -47,12 +47,12 @@ fn accepted(links: &mut Links<&HostRuntime>) -> Option<SocketId> {
 }
 
 /// The first answer of a read but `NotYet`.
-fn heard(links: &mut Links<&HostRuntime>, socket: SocketId, buf: &mut [u8]) -> SocketRead {
+fn heard(sockets: &mut Sockets<&HostRuntime>, socket: SocketId, buf: &mut [u8]) -> SocketRead {
     let mut ready = ReadyList::new();
     for _ in 0..ROUNDS {
-        match links.read(socket, buf) {
+        match sockets.read(socket, buf) {
             SocketRead::NotYet => {
-                links.poll(&mut ready);
+                sockets.poll(&mut ready);
             }
             read => return read,
         }
@@ -63,8 +63,8 @@ fn heard(links: &mut Links<&HostRuntime>, socket: SocketId, buf: &mut [u8]) -> S
 #[test]
 fn carries_bytes_both_ways(rt: HostRuntime) -> Result<(), Fail> {
     let addr = free_addr(&rt)?;
-    let mut near = links_of(&rt)?;
-    let mut far = links_of(&rt)?;
+    let mut near = sockets_of(&rt)?;
+    let mut far = sockets_of(&rt)?;
     let mut buf = [b'-'; 8];
     far.listen(addr)?;
     assert!(rt; near.listen(addr).is_err());
@@ -91,27 +91,27 @@ fn carries_bytes_both_ways(rt: HostRuntime) -> Result<(), Fail> {
 #[test]
 fn reads_what_came_before_the_other_side_ended(rt: HostRuntime) -> Result<(), Fail> {
     let addr = free_addr(&rt)?;
-    let mut links = links_of(&rt)?;
+    let mut sockets = sockets_of(&rt)?;
     let mut buf = [b'-'; 4];
-    links.listen(addr)?;
+    sockets.listen(addr)?;
     let mut stream = stream_to(&rt, addr)?;
     stream.write_all(b"ab")?;
     stream.shutdown(Shutdown::Write)?;
-    assert_eq!(rt; accepted(&mut links), Some(0));
-    assert_eq!(rt; links.write(0, b"cd"), SocketWrite::Gave(2));
-    assert_eq!(rt; heard(&mut links, 0, &mut buf), SocketRead::Took(2));
-    assert_eq!(rt; heard(&mut links, 0, &mut buf), SocketRead::Ended);
+    assert_eq!(rt; accepted(&mut sockets), Some(0));
+    assert_eq!(rt; sockets.write(0, b"cd"), SocketWrite::Gave(2));
+    assert_eq!(rt; heard(&mut sockets, 0, &mut buf), SocketRead::Took(2));
+    assert_eq!(rt; heard(&mut sockets, 0, &mut buf), SocketRead::Ended);
     assert_eq!(rt; stream.read(&mut buf)?, 2);
     assert_eq!(rt; buf, *b"cd--");
     Ok(())
 }
 
 /// Writes until no more is taken now, and says how much was.
-fn fill(links: &mut Links<&HostRuntime>, socket: SocketId) -> usize {
+fn fill(sockets: &mut Sockets<&HostRuntime>, socket: SocketId) -> usize {
     let piece = [7u8; 4096];
     let mut given = 0usize;
     for _ in 0..100_000u32 {
-        match links.write(socket, &piece) {
+        match sockets.write(socket, &piece) {
             SocketWrite::Gave(count) => given = given.saturating_add(count),
             SocketWrite::NotYet | SocketWrite::Failed => break,
         }
@@ -120,16 +120,16 @@ fn fill(links: &mut Links<&HostRuntime>, socket: SocketId) -> usize {
 }
 
 /// Writes until no more is taken, the machine's buffers having grown as far as they do.
-fn fill_up(links: &mut Links<&HostRuntime>, socket: SocketId) -> usize {
+fn fill_up(sockets: &mut Sockets<&HostRuntime>, socket: SocketId) -> usize {
     let mut ready = ReadyList::new();
     let mut given = 0usize;
     for _ in 0..ROUNDS {
-        let more = fill(links, socket);
+        let more = fill(sockets, socket);
         if more == 0 {
             break;
         }
         given = given.saturating_add(more);
-        links.poll(&mut ready);
+        sockets.poll(&mut ready);
     }
     given
 }
@@ -137,13 +137,13 @@ fn fill_up(links: &mut Links<&HostRuntime>, socket: SocketId) -> usize {
 #[test]
 fn lists_a_socket_again_once_it_takes_more(rt: HostRuntime) -> Result<(), Fail> {
     let addr = free_addr(&rt)?;
-    let mut links = links_of(&rt)?;
+    let mut sockets = sockets_of(&rt)?;
     let mut ready = ReadyList::new();
-    links.listen(addr)?;
+    sockets.listen(addr)?;
     let mut stream = stream_to(&rt, addr)?;
-    assert_eq!(rt; accepted(&mut links), Some(0));
-    let given = fill_up(&mut links, 0);
-    assert_eq!(rt; links.write(0, b"a"), SocketWrite::NotYet);
+    assert_eq!(rt; accepted(&mut sockets), Some(0));
+    let given = fill_up(&mut sockets, 0);
+    assert_eq!(rt; sockets.write(0, b"a"), SocketWrite::NotYet);
     let mut buf = [0u8; 4096];
     let mut taken = 0usize;
     for _ in 0..1_000_000u32 {
@@ -152,16 +152,16 @@ fn lists_a_socket_again_once_it_takes_more(rt: HostRuntime) -> Result<(), Fail> 
         }
         taken = taken.saturating_add(stream.read(&mut buf)?);
     }
-    links.poll(&mut ready);
+    sockets.poll(&mut ready);
     assert_eq!(rt; ready.as_slice(), [Ready::Socket(0)].as_slice());
-    assert_eq!(rt; links.write(0, b"a"), SocketWrite::Gave(1));
+    assert_eq!(rt; sockets.write(0, b"a"), SocketWrite::Gave(1));
     Ok(())
 }
 
 #[test]
 fn dials_an_address_that_refuses_ten_times_a_second(rt: HostRuntime) -> Result<(), Fail> {
     let addr = free_addr(&rt)?;
-    let mut links = links_of(&rt)?;
+    let mut sockets = sockets_of(&rt)?;
     let mut ready = ReadyList::new();
     let mut buf = [0u8; 4];
     let mut refused = 0u32;
@@ -170,18 +170,18 @@ fn dials_an_address_that_refuses_ten_times_a_second(rt: HostRuntime) -> Result<(
         if refused == 4 {
             break;
         }
-        match links.dial(3, addr) {
+        match sockets.dial(3, addr) {
             Dial::Failed => refused = refused.saturating_add(1),
             // it waits for its turn, or for the answer
             Dial::Socket(number) => {
-                if heard(&mut links, number, &mut buf) == SocketRead::Failed {
+                if heard(&mut sockets, number, &mut buf) == SocketRead::Failed {
                     refused = refused.saturating_add(1);
                 }
             }
         }
         // others may wake the poll at once
         if refused < 2 {
-            links.poll(&mut ready);
+            sockets.poll(&mut ready);
         }
     }
     let taken = start.elapsed(&rt)?.as_millis();
@@ -193,9 +193,9 @@ fn dials_an_address_that_refuses_ten_times_a_second(rt: HostRuntime) -> Result<(
 #[test]
 fn accepts_all_of_a_crowd_and_waits_when_nothing_comes(rt: HostRuntime) -> Result<(), Fail> {
     let addr = free_addr(&rt)?;
-    let mut links = links_of(&rt)?;
+    let mut sockets = sockets_of(&rt)?;
     let mut ready = ReadyList::new();
-    links.listen(addr)?;
+    sockets.listen(addr)?;
     let mut crowd = Vec::new(rt.alloc());
     for _ in 0..200 {
         let mut stream = stream_to(&rt, addr)?;
@@ -207,7 +207,7 @@ fn accepts_all_of_a_crowd_and_waits_when_nothing_comes(rt: HostRuntime) -> Resul
         if opened == 200 {
             break;
         }
-        assert_eq!(rt; links.poll(&mut ready), Did::Done);
+        assert_eq!(rt; sockets.poll(&mut ready), Did::Done);
         for item in ready.as_slice() {
             if let Ready::Opened(number) = *item {
                 assert_eq!(rt; number, opened);
@@ -218,14 +218,14 @@ fn accepts_all_of_a_crowd_and_waits_when_nothing_comes(rt: HostRuntime) -> Resul
     assert_eq!(rt; opened, 200);
     let mut buf = [0u8; 4];
     for number in 0..200 {
-        assert_eq!(rt; heard(&mut links, number, &mut buf), SocketRead::Took(1));
-        assert_eq!(rt; links.read(number, &mut buf), SocketRead::NotYet);
+        assert_eq!(rt; heard(&mut sockets, number, &mut buf), SocketRead::Took(1));
+        assert_eq!(rt; sockets.read(number, &mut buf), SocketRead::NotYet);
     }
     for _ in 0..5 {
-        links.poll(&mut ready);
+        sockets.poll(&mut ready);
     }
     let start = Instant::now(&rt)?;
-    links.poll(&mut ready);
+    sockets.poll(&mut ready);
     let taken = start.elapsed(&rt)?.as_millis();
     assert!(rt; ready.as_slice().is_empty());
     assert!(rt; taken >= 90 && taken < 1_000, "{taken} ms");
@@ -235,11 +235,11 @@ fn accepts_all_of_a_crowd_and_waits_when_nothing_comes(rt: HostRuntime) -> Resul
 #[test]
 fn ends_behind_what_it_gave(rt: HostRuntime) -> Result<(), Fail> {
     let addr = free_addr(&rt)?;
-    let mut links = links_of(&rt)?;
-    links.listen(addr)?;
+    let mut sockets = sockets_of(&rt)?;
+    sockets.listen(addr)?;
     let mut stream = stream_to(&rt, addr)?;
-    assert_eq!(rt; accepted(&mut links), Some(0));
-    assert_eq!(rt; links.write(0, b"abc"), SocketWrite::Gave(3));
+    assert_eq!(rt; accepted(&mut sockets), Some(0));
+    assert_eq!(rt; sockets.write(0, b"abc"), SocketWrite::Gave(3));
     // what came and was not read would reset the socket where it is closed at once
     stream.write_all(b"not read")?;
     let ended = thread::Builder::new().spawn(&rt, move || {
@@ -248,7 +248,7 @@ fn ends_behind_what_it_gave(rt: HostRuntime) -> Result<(), Fail> {
         (first, stream.read(&mut buf).unwrap_or(9), buf)
     })?;
     let start = Instant::now(&rt)?;
-    links.finish();
+    sockets.finish();
     assert!(rt; start.elapsed(&rt)?.as_millis() < 900);
     let (first, second, buf) = ended.join(&rt);
     assert_eq!(rt; (first, second), (3, 0));

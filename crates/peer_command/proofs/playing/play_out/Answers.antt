@@ -2,13 +2,13 @@ use Rattle.peer_command.proofs.Played.{began_on, listens_not, logs_not, on_from}
 use Rattle.peer_command.proofs.playing.play_out.Goals as goal
 
 pub returns-in-KeepFault : goal.returns-in-KeepFault
-returns-in-KeepFault g c = logs_not c.beginnings_are_histories.ensures _ _ _ _ _ _ c.requires.new c.in-KeepFault.ensures
+returns-in-KeepFault g c = logs_not c.faults_are_last.ensures c.beginnings_are_histories.ensures _ _ _ _ _ _ c.requires.new c.in-KeepFault.ensures
 
 pub returns-in-PollFault : goal.returns-in-PollFault
-returns-in-PollFault g c = listens_not c.beginnings_are_histories.ensures _ _ _ _ _ _ c.requires.new c.in-PollFault.ensures
+returns-in-PollFault g c = listens_not c.faults_are_last.ensures c.beginnings_are_histories.ensures _ _ _ _ _ _ c.requires.new c.in-PollFault.ensures
 
 pub returns-in-Ready : goal.returns-in-Ready
-returns-in-Ready g c = on_from c.runs_are_whole.ensures _ _ _ _ _ _ _ _ _ _ _ c.requires.new c.in-Ready.ensures c.from.ensures c.play.ensures
+returns-in-Ready g c = on_from c.faults_are_last.ensures c.runs_are_whole.ensures _ _ _ _ _ _ _ _ _ _ _ c.requires.new c.in-Ready.ensures c.from.ensures c.play.ensures
 
 pub play-requires : goal.play-requires
 play-requires g c = record { ready = began_on _ _ _ _ c.in-Ready.ensures }

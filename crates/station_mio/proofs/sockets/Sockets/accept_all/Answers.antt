@@ -3,7 +3,7 @@ use Rattle.socket_station.specs.declared.answers.Ready.{Ready}
 use Rattle.socket_station.specs.declared.answers.Ready.TheVariants.{Opened}
 use Rattle.station_mio.specs.Numbers.{OpensBetween}
 use Rattle.station_mio.proofs.Listed.{opened-listed}
-use Rattle.station_mio.proofs.links.Links.accept_all.Goals as goal
+use Rattle.station_mio.proofs.sockets.Sockets.accept_all.Goals as goal
 
 pub loop-preserved : goal.loop-preserved
 loop-preserved g c = λ first h.

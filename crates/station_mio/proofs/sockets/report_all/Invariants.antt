@@ -1,6 +1,6 @@
 use Rattle.std.proofs.Common.{ℕ}
 use Rattle.station_mio.specs.Numbers.{OpensBetween}
-use Rattle.station_mio.proofs.links.report_all.Given as goal
+use Rattle.station_mio.proofs.sockets.report_all.Given as goal
 
 abbrev pub invariant-loop-event : goal.invariant-loop-event
 invariant-loop-event l =

@@ -2,7 +2,7 @@ use Rattle.std.proofs.Common.{subst, sym, List}
 use Rattle.socket_station.specs.declared.answers.Ready.{Ready}
 use Rattle.station_mio.specs.Numbers.{OpensBetween}
 use Rattle.station_mio.proofs.Listed.{seems-listed}
-use Rattle.station_mio.proofs.links.list.Goals as goal
+use Rattle.station_mio.proofs.sockets.list.Goals as goal
 
 pub returns-then-has_room : goal.returns-then-has_room
 returns-then-has_room c = λ first last h.

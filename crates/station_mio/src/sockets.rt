@@ -5,7 +5,7 @@ ghost use Rattle.socket_station.specs.Withins.{TakesWithin, GivesWithin};
 ghost use Rattle.station_mio.specs.Numbers.{OpensBetween, DialsBetween};
 
 use crate::pace::{LINGER, PATIENCE, PAUSE, Turns, behind, now};
-use crate::rows::{Link, Row, place_of, remove};
+use crate::rows::{Row, Wire, place_of, remove};
 use definitions::PlayerId;
 use mio::event::Event;
 use mio::net::{TcpListener, TcpStream};
@@ -43,7 +43,7 @@ enum Backlog {
 
 /// Sockets, and their readiness.
 #[derive(Drop)]
-pub(crate) struct Links<R> {
+pub(crate) struct Sockets<R> {
     pub(crate) machine: R,
     poll: Option<Poll>,
     events: Events,
@@ -126,19 +126,19 @@ fn list_lost(rows: &[Row], ready: &mut ReadyList)
     ensures { (first last : ℕ) → OpensBetween first last ready.old → OpensBetween first last ready.new }
 {
     for row in rows {
-        if let Link::Lost = row.link {
+        if let Wire::Lost = row.wire {
             list(ready, row.number);
         }
     }
 }
 
 /// How long a poll may wait for this socket's sake.
-fn patience_for(link: &Link, now: Duration) -> Duration {
-    match link {
-        Link::Due(_, due) => due.saturating_sub(now),
-        Link::Dialled(_, due) => due.saturating_sub(now),
-        Link::Up(_) => Duration::from_millis(PAUSE),
-        Link::Lost => Duration::ZERO,
+fn patience_for(wire: &Wire, now: Duration) -> Duration {
+    match wire {
+        Wire::Due(_, due) => due.saturating_sub(now),
+        Wire::Dialled(_, due) => due.saturating_sub(now),
+        Wire::Up(_) => Duration::from_millis(PAUSE),
+        Wire::Lost => Duration::ZERO,
     }
 }
 
@@ -146,16 +146,16 @@ fn patience_for(link: &Link, now: Duration) -> Duration {
 fn patience_for_all(rows: &[Row], now: Duration) -> Duration {
     let mut patience = Duration::from_millis(PAUSE);
     for row in rows {
-        patience = patience.min(patience_for(&row.link, now));
+        patience = patience.min(patience_for(&row.wire, now));
     }
     patience
 }
 
 /// Marks a socket that is ready as one that stands.
 fn mark_up(row: &mut Row) {
-    row.link = match mem::replace(&mut row.link, Link::Lost) {
-        Link::Dialled(stream, _) => Link::Up(stream),
-        link => link,
+    row.wire = match mem::replace(&mut row.wire, Wire::Lost) {
+        Wire::Dialled(stream, _) => Wire::Up(stream),
+        wire => wire,
     };
 }
 
@@ -189,7 +189,7 @@ fn report_all(events: &Events, rows: &mut [Row], backlog: &mut Backlog, ready: &
 /// Says to the other sides that nothing more is sent.
 fn end_all(rows: &[Row]) {
     for row in rows {
-        if let Link::Up(stream) = &row.link {
+        if let Wire::Up(stream) = &row.wire {
             // one that is broken already is found so by its next read
             let _ = stream.shutdown(Shutdown::Write);
         }
@@ -197,8 +197,8 @@ fn end_all(rows: &[Row]) {
 }
 
 /// Reads what came, which nobody wants any more, and says whether more may come.
-fn drain(link: &mut Link) -> bool {
-    let Link::Up(stream) = link else {
+fn drain(wire: &mut Wire) -> bool {
+    let Wire::Up(stream) = wire else {
         return false;
     };
     let mut buf = [0; 4096];
@@ -216,19 +216,19 @@ fn drain(link: &mut Link) -> bool {
 fn drain_all(rows: &mut Vec<Row>) {
     for place in (0..rows.len()).rev() {
         if let Some(row) = rows.get_mut(place)
-            && !drain(&mut row.link)
+            && !drain(&mut row.wire)
         {
             rows.swap_remove(place);
         }
     }
 }
 
-impl<R: Net + Clock + Drop> Links<R> {
+impl<R: Net + Clock + Drop> Sockets<R> {
     /// Takes all the memory. The machine is asked for nothing yet.
-    pub(crate) fn new(alloc: Global, machine: R) -> Result<Links<R>, AllocError>
+    pub(crate) fn new(alloc: Global, machine: R) -> Result<Sockets<R>, AllocError>
         ensures { IfOk result (λ l. l.next ≡ 0) }
     {
-        Ok(Links {
+        Ok(Sockets {
             machine,
             poll: None,
             events: Events::with_capacity(alloc, MOST_EVENTS)?,
@@ -253,23 +253,23 @@ impl<R: Net + Clock + Drop> Links<R> {
     }
 
     /// Begins to connect.
-    fn connect(&mut self, number: SocketId, addr: Addr, now: Duration) -> io::Result<Link>
+    fn connect(&mut self, number: SocketId, addr: Addr, now: Duration) -> io::Result<Wire>
         ensures { self.new.next ≡ self.old.next }
     {
         let poll = selector(&self.machine, &mut self.poll)?;
         let stream = TcpStream::connect(&self.machine, socket_addr(addr))?;
         let stream = enroll(poll, stream, number)?;
-        Ok(Link::Dialled(stream, behind(now, PATIENCE)))
+        Ok(Wire::Dialled(stream, behind(now, PATIENCE)))
     }
 
     /// Begins to connect, where that is due.
-    fn begin(&mut self, number: SocketId, player: PlayerId, addr: Addr) -> io::Result<Link>
+    fn begin(&mut self, number: SocketId, player: PlayerId, addr: Addr) -> io::Result<Wire>
         ensures { self.new.next ≡ self.old.next }
     {
         let now = now(&self.machine);
         let due = self.turns.take(player, now);
         if due > now {
-            return Ok(Link::Due(addr, due));
+            return Ok(Wire::Due(addr, due));
         }
         self.connect(number, addr, now)
     }
@@ -282,13 +282,13 @@ impl<R: Net + Clock + Drop> Links<R> {
     }
 
     /// Adds a socket with the next number.
-    fn add(&mut self, link: Link) -> Option<SocketId>
+    fn add(&mut self, wire: Wire) -> Option<SocketId>
         requires { self.old.next < 2 ^ 32 - 1 }
         ensures some { IfSome result (λ s. (s ≡ self.old.next) × (self.new.next ≡ s + 1)) }
         ensures none { IfNone result (self.new.next ≡ self.old.next) }
     {
         let number = self.next;
-        let row = Row { number, link };
+        let row = Row { number, wire };
         if self.rows.push(row).is_err() {
             return None;
         }
@@ -305,7 +305,7 @@ impl<R: Net + Clock + Drop> Links<R> {
         }
         match self.begin(self.next, player, addr) {
             Err(_) => Dial::Failed,
-            Ok(link) => match self.add(link) {
+            Ok(wire) => match self.add(wire) {
                 None => Dial::Failed,
                 Some(number) => Dial::Socket(number),
             },
@@ -320,15 +320,15 @@ impl<R: Net + Clock + Drop> Links<R> {
             return;
         };
         let number = row.number;
-        let link = match mem::replace(&mut row.link, Link::Lost) {
-            Link::Due(addr, due) if due <= now => {
-                self.connect(number, addr, now).unwrap_or(Link::Lost)
+        let wire = match mem::replace(&mut row.wire, Wire::Lost) {
+            Wire::Due(addr, due) if due <= now => {
+                self.connect(number, addr, now).unwrap_or(Wire::Lost)
             }
-            Link::Dialled(_, due) if due <= now => Link::Lost,
-            link => link,
+            Wire::Dialled(_, due) if due <= now => Wire::Lost,
+            wire => wire,
         };
         if let Some(row) = self.rows.get_mut(place) {
-            row.link = link;
+            row.wire = wire;
         }
     }
 
@@ -383,7 +383,7 @@ impl<R: Net + Clock + Drop> Links<R> {
             return None;
         }
         match self.accept() {
-            Ok(stream) => self.add(Link::Up(stream)),
+            Ok(stream) => self.add(Wire::Up(stream)),
             Err(error) if error.kind() == ErrorKind::WouldBlock => {
                 self.backlog = Backlog::Empty;
                 None
@@ -436,11 +436,11 @@ impl<R: Net + Clock + Drop> Links<R> {
     {
         let read = match place_of(&self.rows, socket) {
             None => SocketRead::Failed,
-            Some(place) => match &mut self.rows[place].link {
-                Link::Due(_, _) => SocketRead::NotYet,
-                Link::Dialled(stream, _) => read_stream(stream, buf),
-                Link::Up(stream) => read_stream(stream, buf),
-                Link::Lost => SocketRead::Failed,
+            Some(place) => match &mut self.rows[place].wire {
+                Wire::Due(_, _) => SocketRead::NotYet,
+                Wire::Dialled(stream, _) => read_stream(stream, buf),
+                Wire::Up(stream) => read_stream(stream, buf),
+                Wire::Lost => SocketRead::Failed,
             },
         };
         match read {
@@ -457,11 +457,11 @@ impl<R: Net + Clock + Drop> Links<R> {
     {
         let write = match place_of(&self.rows, socket) {
             None => SocketWrite::Failed,
-            Some(place) => match &mut self.rows[place].link {
-                Link::Due(_, _) => SocketWrite::NotYet,
-                Link::Dialled(stream, _) => write_stream(stream, bytes),
-                Link::Up(stream) => write_stream(stream, bytes),
-                Link::Lost => SocketWrite::Failed,
+            Some(place) => match &mut self.rows[place].wire {
+                Wire::Due(_, _) => SocketWrite::NotYet,
+                Wire::Dialled(stream, _) => write_stream(stream, bytes),
+                Wire::Up(stream) => write_stream(stream, bytes),
+                Wire::Lost => SocketWrite::Failed,
             },
         };
         if let SocketWrite::Failed = write {

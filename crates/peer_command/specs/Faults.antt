@@ -1,0 +1,28 @@
+-- Faults: which failed calls stand behind the end of a run.
+use Rattle.std.specs.Prelude.{◌≡◌, Bool, true, List, [], ◌∷◌, ◌++◌}
+use Rattle.socket_station.specs.Faults.{is_keep_call, is_poll_call}
+use Rattle.socket_station.specs.Items.{Item, Call, Failed}
+use Rattle.ready_loop.specs.declared.polling.Ended.{Ended}
+use Rattle.ready_loop.specs.declared.polling.Ended.TheVariants as E
+
+-- the last item is the failure of such a call
+abbrev pub EndsBy : (Call → Bool) → List Item → Type 0
+EndsBy is_such items = (before : List Item) × (call : Call) × (items ≡ before ++ Failed call ∷ []) × (is_such call ≡ true)
+
+-- no item is the failure of such a call
+abbrev pub FailsNone : (Call → Bool) → List Item → Type 0
+FailsNone is_such items = (before more : List Item) (call : Call) → items ≡ before ++ Failed call ∷ more → is_such call ≡ true → ⊥
+
+-- no call of the log failed, nor one of listening and polling
+abbrev pub FailsNeither : List Item → Type 0
+FailsNeither items = FailsNone is_keep_call items × FailsNone is_poll_call items
+
+-- A run ends by a keep fault only behind a failed call of the log, and by a poll fault only behind a failed call of listening or polling, which is
+-- the last call; and it ends otherwise only where none of these failed. So it blames the outside for no fault that never came, and passes none over.
+abbrev pub StandsByFaults : Ended → List Item → Type 0
+StandsByFaults E.KeepFault items = EndsBy is_keep_call items
+StandsByFaults E.PollFault items = EndsBy is_poll_call items
+StandsByFaults E.Done items = FailsNeither items
+StandsByFaults (E.Caught f) items = FailsNeither items
+StandsByFaults (E.OwnMove turn fault) items = FailsNeither items
+StandsByFaults E.GaveUp items = FailsNeither items
