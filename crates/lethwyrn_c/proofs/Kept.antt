@@ -18,6 +18,7 @@ use Rattle.wire_frames.specs.Reading.{at_start}
 use Rattle.lethwyrn_c.specs.declared.link.TheConstants.{LINKS}
 use Rattle.lethwyrn_c.specs.Calls.{IsGoneOn, IsThere, kept_at}
 use Rattle.lethwyrn_c.specs.Standings.{Standing}
+use Rattle.lethwyrn_c.proofs.Owners.{own_first}
 
 -- ---- the log begins with the bytes of what was read
 
@@ -81,11 +82,10 @@ pub record IsKeptOf (game : Game) (me : ℕ) (log : List ℕ) (es : List Entry) 
   pub whole : dropped ≡ None → rest ≡ []
   pub at : length (log_bytes game.id me es) ≡ kept_at es dropped (length log)
 
-pub kept_of : (game : Game) (me : ℕ) (log : List ℕ) → AreBytes log → ((e : Entry) (more : List Entry) → old_entries game log ≡ e ∷ more → (rest : List ℕ) × (log ≡ me ∷ rest)) →
-    IsKeptOf game me log (old_entries game log) (dropped_at game log)
-kept_of game me log are begins =
+pub kept_of : (game : Game) (me : ℕ) (log : List ℕ) → AreBytes log → old_fault game me log ≡ None → IsKeptOf game me log (old_entries game log) (dropped_at game log)
+kept_of game me log are fit =
     let ends = log_ends game log are in
-    let f : IsFront game.id me log (old_entries game log) ends.0 = front_by game me log (old_entries game log) ends.0 begins ends.2 in
+    let f : IsFront game.id me log (old_entries game log) ends.0 = front_by game me log (old_entries game log) ends.0 (own_first game me log fit) ends.2 in
     let last : dropped_at game log ≡ fault_place ends.0 = ap place_said ends.1 in
     record { rest = f.rest; bytes_are = f.bytes_are; whole = λ h. f.whole (sym last ∙ h); at = f.at ∙ ap (λ (o : Option ℕ). kept_at (old_entries game log) o (length log)) (sym last) }
 
@@ -126,10 +126,10 @@ gone_on_by game me log es is honest k =
     }
 
 pub gone_on : (game : Game) (me : ℕ) (log : List ℕ) (p : PeerState) (v : Option Standing) → AreBytes log → v ≡ Some (seated p) → p ≡ record { game = game; me = me; entries = old_entries game log } →
-    IsHonest game me p.entries → ((e : Entry) (more : List Entry) → p.entries ≡ e ∷ more → (rest : List ℕ) × (log ≡ me ∷ rest)) → IsThere (IsGoneOn game me log) v
-gone_on game me log p v are at is honest own =
+    IsHonest game me p.entries → old_fault game me log ≡ None → IsThere (IsGoneOn game me log) v
+gone_on game me log p v are at is honest fit =
     let es : p.entries ≡ old_entries game log = ap (λ (q : PeerState). q.entries) is in
-    let k = kept_of game me log are (λ e more eq. own e more (es ∙ eq)) in
+    let k = kept_of game me log are fit in
     let h : IsHonest game me (old_entries game log) = subst (λ (l : List Entry). IsHonest game me l) es honest in
     let there : IsGoneOn game me log (seated (record { game = game; me = me; entries = old_entries game log })) = gone_on_by game me log (old_entries game log) refl h k in
     subst (λ (w : Option Standing). IsThere (IsGoneOn game me log) w) (ap (λ (q : PeerState). Some (seated q)) (sym is) ∙ sym at) there

@@ -1,7 +1,6 @@
 //! What C calls to make a peer, and to free it.
 
 ghost use Rattle.std.specs.Prelude.{◌≡◌, ◌≢◌, ◌<◌, ◌≤◌, ◌⊎◌, ℕ, List, ◌∷◌, Some, None, Ok, Err, IfOk, IfErr, IsTrue, length, pos, replicate};
-ghost use Rattle.definitions.specs.declared.logs.Entry.{Entry as DefinedEntry};
 ghost use Rattle.definitions.specs.World.{players_of};
 ghost use Rattle.grid_world.specs.Answers.{IsReadFrom};
 ghost use Rattle.grid_world.specs.Reading.{game_at};
@@ -84,18 +83,6 @@ pub extern "C" fn lethwyrn_make(
     }
 }
 
-/// Whether a log with entries begins with the player's byte. Where `resume_from` made a peer it does, since that byte is the owner that it read; but
-/// contracts see so only by this test.
-fn is_own(entries: &[Entry], player: u8, log: &[u8]) -> bool
-    ensures { IsTrue result → (e : DefinedEntry) (more : List DefinedEntry) → entries.now ≡ e ∷ more → (rest : List ℕ) × (log.now ≡ player ∷ rest) }
-{
-    match (entries, log) {
-        ([], _) => true,
-        (_, []) => false,
-        (_, [first, ..]) => *first == player,
-    }
-}
-
 /// How many bytes of a log are kept: up to its first fault, if it has one, and none where it has no whole entry.
 fn kept_at(entries: &[Entry], dropped: Option<u32>, log: &[u8]) -> u32
     requires { length log.now ≤ LONGEST_LOG }
@@ -132,9 +119,6 @@ fn resume(
             codes::BAD_LOG
         }
         Ok(resumed) => {
-            if !is_own(resumed.peer.entries(), player, log) {
-                return codes::NO_MEMORY;
-            }
             let kept = kept_at(resumed.peer.entries(), resumed.dropped, log);
             let dropped = resumed.dropped.is_some();
             let code = seat(alloc, handle, resumed.peer);
