@@ -19,4 +19,6 @@ mod playing;
 mod seat;
 mod showing;
 mod telling;
+#[cfg(test)]
+mod tests;
 mod views;
