@@ -19,6 +19,7 @@ use Rattle.evidence.specs.Text.{exhibit_text}
 use Rattle.evidence.proofs.Counted.{shown_counted}
 use Rattle.evidence.proofs.Showing.{pairs_shown}
 use Rattle.lethwyrn_c.specs.Convicting.{EvidenceConvicts}
+use Rattle.lethwyrn_c.proofs.Fair.{runs_fair}
 use Rattle.lethwyrn_c.specs.Showing.{exhibit_of, frame_at, got_in, text_if, text_of_kind, text_of_two}
 
 -- the frame of the entry, or none, both ways
@@ -81,10 +82,11 @@ two_counted Collision t n none e = e
 two_counted Illegal t n none e = absurd (none refl)
 
 pub convicts : EvidenceConvicts
-convicts s f session honest found none =
+convicts s taken named f r found none =
     let game = s.peer.game in
+    let fair = runs_fair s taken named r in
     let h : List Entry = s.peer.entries in
-    let well = honest_well_formed game s.peer.me h (ahead_least game session) honest in
+    let well = honest_well_formed game s.peer.me h (ahead_least game fair.session) fair.honest in
     let shown : Shows game f.player f.turn f.kind (E.pair_at (h ∷ []) f) = pairs_shown game (h ∷ []) f ((s.peer.me, well), tt) (slice_get_Has (findings game (h ∷ [])) 0 f found) none in
     let two : AreTwo h f = two_there h f (two_counted f.kind f.turn _ none (shown_counted game f.player f.turn f.kind (E.pair_at (h ∷ []) f) shown)) in
     let text : text_if h (Some f) ≡ Some (exhibit_text (exhibit_of f two.first two.second)) = two_text h f f.kind two.first two.second none two.first_at two.second_at in

@@ -3,6 +3,7 @@ pub mod Handles
 pub mod Fronts
 pub mod Marks
 pub mod Runs
+pub mod Fair
 pub mod Owners
 pub mod Kept
 pub mod Links

@@ -77,9 +77,9 @@ runs_told u all most (begun text player s is) =
     let front : log_front s.peer 0 ≡ log_front s.peer s.given = ap (λ i. log_front s.peer i) (sym is.given) in
     let none = ap (λ i. length (log_front s.peer i)) is.stored in
     record { within = omega arith; stored_within = omega arith; taken_is = front; named_is = omega arith }
-runs_told u all most (went_on game player log s is) =
-    let given = is.given in let stored = is.stored in
-    let same = ap (λ i. length (log_front s.peer i)) (is.stored ∙ sym is.given) in
+runs_told u all most (went_on text player log s is) =
+    let given = is.on.given in let stored = is.on.stored in
+    let same = ap (λ i. length (log_front s.peer i)) (is.on.stored ∙ sym is.on.given) in
     record { within = omega arith; stored_within = omega arith; taken_is = refl; named_is = omega arith }
 runs_told u all most (chose m nonce s taken named r) =
     grown s taken named _ s.links (choice_grows m nonce s.peer (choice_fault s.peer.game s.peer.me s.peer.entries m)) (runs_told s taken named r)

@@ -1,5 +1,5 @@
 -- Heard: how the bytes of a player's link are read on, what becomes of the peer by them, and what C is told.
-use Rattle.std.specs.Prelude.{ℕ, List, Option, Some, None, length, get_or, set, nat_lt, nat_le, ◌||◌, if◌then◌else◌}
+use Rattle.std.specs.Prelude.{ℕ, ◌^◌, List, Option, Some, None, length, get_or, set, nat_le, ◌||◌, if◌then◌else◌}
 use Rattle.std.specs.Str.{bytes_eq}
 use Rattle.definitions.specs.declared.logs.Entry.{Entry}
 use Rattle.definitions.specs.World.{Game, players_of}
@@ -9,7 +9,6 @@ use Rattle.wire_frames.specs.declared.frames.FedWhat.{FedWhat}
 use Rattle.wire_frames.specs.declared.frames.FedWhat.TheVariants.{More, Whole, Bad}
 use Rattle.wire_frames.specs.declared.frames.Frame.TheVariants.{Hello, Turn, Want}
 use Rattle.wire_frames.specs.Reading.{Reading, Step, at_start, fed_step}
-use Rattle.lethwyrn_c.specs.declared.link.TheConstants.{MOST_AT_ONCE, MOST_IN_ALL}
 use Rattle.lethwyrn_c.specs.declared.views.GreetView.{GreetView}
 use Rattle.lethwyrn_c.specs.Codes.{code_of_answer}
 use Rattle.lethwyrn_c.specs.Standings.{Standing}
@@ -45,11 +44,11 @@ reader_of s from = get_or s.links from at_start
 abbrev pub step_of : ℕ → List ℕ → Standing → Step
 step_of from bytes s = fed_step (reader_of s from) bytes
 
--- why bytes aren't read: the session has no such player, or there are too many at once or in all
+-- why bytes aren't read: the session has no such player, or there are 2^32 or more at once, or 2^63 in all
 abbrev pub refusal : ℕ → List ℕ → Standing → Option ℕ
 refusal from bytes s =
     if nat_le (players_of s.peer.game) from then Some 4
-    else if nat_lt MOST_AT_ONCE (length bytes) || nat_le MOST_IN_ALL (reader_of s from).place then Some 9 else None
+    else if nat_le (2 ^ 32) (length bytes) || nat_le (2 ^ 63) (reader_of s from).place then Some 9 else None
 
 -- the one where nothing is refused, else the other
 abbrev pub unless : {X : Type 0} → Option ℕ → X → X → X

@@ -4,7 +4,8 @@ use Rattle.commitment.specs.Spelling.{frame_bytes}
 use Rattle.definitions.specs.declared.frames.TurnFrame.{TurnFrame}
 use Rattle.definitions.specs.declared.logs.Entry.TheVariants.{Made}
 use Rattle.definitions.specs.declared.world.Move.{Move}
-use Rattle.definitions.specs.World.{Game}
+use Rattle.definitions.specs.Honest.{IsHonest}
+use Rattle.grid_world.specs.Sessions.{IsSession}
 use Rattle.lethwyrn_c.specs.Calls as C
 use Rattle.lethwyrn_c.specs.Heard as H
 use Rattle.lethwyrn_c.specs.Sending as S
@@ -14,7 +15,7 @@ use Rattle.lethwyrn_c.specs.Standings.{Standing, log_front}
 -- that it goes on from among them), and the greatest count of bytes that was named as stored (that of this log's, at first).
 pub data Run : Standing → List ℕ → ℕ → Type 0 where
   begun : (text : List ℕ) (player : ℕ) (s : Standing) → C.IsMade text player s → Run s [] 0
-  went_on : (game : Game) (player : ℕ) (log : List ℕ) (s : Standing) → C.IsGoneOn game player log s → Run s (log_front s.peer s.given) (length (log_front s.peer s.given))
+  went_on : (text : List ℕ) (player : ℕ) (log : List ℕ) (s : Standing) → C.IsOn text player log s → Run s (log_front s.peer s.given) (length (log_front s.peer s.given))
   chose : (m : Move) (nonce : List ℕ) (s : Standing) (taken : List ℕ) (named : ℕ) → Run s taken named → Run (C.after_choice m nonce s) taken named
   heard_bytes : (from : ℕ) (bytes : List ℕ) (s : Standing) (taken : List ℕ) (named : ℕ) → Run s taken named → Run (H.hear_behind from bytes s) taken named
   relinked : (player : ℕ) (s : Standing) (taken : List ℕ) (named : ℕ) → Run s taken named → Run (H.link_behind player s) taken named
@@ -23,6 +24,15 @@ pub data Run : Standing → List ℕ → ℕ → Type 0 where
   stored_to : (bytes : ℕ) (s t : Standing) (taken : List ℕ) (named : ℕ) → Run s taken named → S.IsStoredTo bytes s t → Run t taken (max named bytes)
   took_frame : (bytes : List ℕ) (s t : Standing) (taken : List ℕ) (named : ℕ) → Run s taken named → S.IsFrameTaken bytes s t → Run t taken named
   sends_from : (place : ℕ) (s : Standing) (taken : List ℕ) (named : ℕ) → Run s taken named → Run (C.sending_from place s) taken named
+
+-- the log is one of a session, whose player kept to the protocol
+pub record IsFair (s : Standing) : Type 0 where
+  pub session : IsSession s.peer.game
+  pub honest : IsHonest s.peer.game s.peer.me s.peer.entries
+
+-- in every run
+abbrev pub RunsAreFair : Type 0
+RunsAreFair = (s : Standing) (taken : List ℕ) (named : ℕ) → Run s taken named → IsFair s
 
 -- what was handed out is the log's first bytes, and what is stored ends within what was named
 pub record IsTold (s : Standing) (taken : List ℕ) (named : ℕ) : Type 0 where
