@@ -312,6 +312,46 @@ static void cheat(void)
     lethwyrn_free(&own);
 }
 
+static void step(unsigned me, uint32_t turns)
+{
+    lethwyrn_track own;
+    hear(me);
+    if (lethwyrn_next(&players[me].peer, &own) == LETHWYRN_OK && own.turns < turns) choose(me, 2);
+    lethwyrn_advance(&players[me].peer, &made);
+    store(me);
+    send_out(me);
+}
+
+/* in the third turn, where the numbers that are told differ from each other: for whom player 1 waits, and a cheat of player 0 */
+static void third_turn(void)
+{
+    lethwyrn *peer = &players[1].peer;
+    lethwyrn_wait wait;
+    lethwyrn_found found;
+    left = UNLIMITED;
+    for (unsigned p = 0; p < 2; p++) {
+        memset(&players[p], 0, sizeof players[p]);
+        want(make(&players[p].peer, p), LETHWYRN_OK, "make");
+    }
+    left = 0;
+    for (int i = 0; i < 20; i++) step((unsigned)i % 2, 2);
+    step(0, 3);
+    queue commit = players[1].from[0];
+    want((int32_t)commit.len, 40, "the third commitment");
+    step(1, 3);
+    want(lethwyrn_advance(peer, &made), LETHWYRN_WAITS, "advance");
+    want(lethwyrn_need(peer, 0, &wait), LETHWYRN_OK, "need");
+    want(wait.player == 0 && wait.turn == 2 && wait.what == 1 && wait.next == 5, 1, "the need of a reveal");
+    commit.bytes[39] ^= 1;
+    want(hear_of(peer, 0, commit.bytes, 40), LETHWYRN_CAUGHT, "another commitment");
+    want(lethwyrn_finding(peer, &found), LETHWYRN_OK, "finding");
+    want(found.player == 0 && found.turn == 2 && found.kind == 1, 1, "the finding");
+    /* two turns have ten entries; behind the commitment stand an own choice, commitment and reveal */
+    want(found.first == 10 && found.second == 14, 1, "its entries");
+    left = UNLIMITED;
+    for (unsigned p = 0; p < 2; p++) lethwyrn_free(&players[p].peer);
+}
+
 int main(void)
 {
     uint8_t frame[LETHWYRN_FRAME_ROOM];
@@ -347,6 +387,7 @@ int main(void)
     logs(&players[0].disk);
     for (unsigned p = 0; p < 2; p++) lethwyrn_free(&players[p].peer);
     cheat();
+    third_turn();
     puts("all answers are as they are due");
     return 0;
 }

@@ -1,5 +1,6 @@
 /* Three players of a session of version 2, who commit three turns ahead and differ in speed and reach, play over queues of bytes. One is lost
- * while the first entry of its log was being written, another one twice in the match. */
+ * while the first entry of its log was being written, another one twice in the match. Where a folder is named, the session and the logs are left
+ * there. */
 #include "harness.h"
 
 enum { TURNS = 12, COST = 2 };
@@ -63,7 +64,16 @@ static size_t log_len(unsigned me)
     return len;
 }
 
-int main(void)
+/* the session's text and the logs, for whoever reads them without the library */
+static void save(const char *folder, const char *name, const void *bytes, size_t len)
+{
+    char path[512];
+    want(snprintf(path, sizeof path, "%s/%s", folder, name) < (int)sizeof path, 1, "a path");
+    FILE *file = fopen(path, "wb");
+    want(file && fwrite(bytes, 1, len, file) == len && !fclose(file), 1, path);
+}
+
+int main(int words, char **word)
 {
     text = TEXT, count = 3;
     for (unsigned p = 0; p < count; p++) want(make(&players[p].peer, p), LETHWYRN_OK, "make");
@@ -94,6 +104,11 @@ int main(void)
         lethwyrn_free(&again);
     }
     want(same > 0, 1, "frames that came again");
+    if (words > 1) {
+        static const char *const LOGS[] = { "log0", "log1", "log2" };
+        save(word[1], "session", TEXT, sizeof TEXT - 1);
+        for (unsigned p = 0; p < count; p++) save(word[1], LOGS[p], players[p].disk.bytes, players[p].disk.len);
+    }
     for (unsigned p = 0; p < count; p++) lethwyrn_free(&players[p].peer);
     return 0;
 }
