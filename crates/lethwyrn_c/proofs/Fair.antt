@@ -6,7 +6,7 @@ use Rattle.definitions.specs.declared.frames.TurnFrame.{TurnFrame}
 use Rattle.definitions.specs.declared.logs.Entry.{Entry}
 use Rattle.definitions.specs.declared.logs.Entry.TheVariants.{Chose, Got}
 use Rattle.definitions.specs.declared.world.Move.{Move}
-use Rattle.definitions.specs.World.{Game, players_of}
+use Rattle.definitions.specs.World.{players_of}
 use Rattle.definitions.specs.Honest.{IsHonest}
 use Rattle.definitions.specs.Logs.{chosen}
 use Rattle.definitions.specs.Needs.{choice_fault}
@@ -17,14 +17,13 @@ use Rattle.definition_laws.proofs.Stepping.{taken_allowed}
 use Rattle.grid_world.proofs.Reveals.{ahead_least}
 use Rattle.grid_world.specs.Sessions.{IsSession}
 use Rattle.peer_core.proofs.Replaying.{this_turn}
-use Rattle.peer_core.specs.Views.{PeerState, with_got}
+use Rattle.peer_core.specs.Views.{PeerState}
 use Rattle.wire_frames.specs.declared.frames.FedWhat.{FedWhat}
 use Rattle.wire_frames.specs.declared.frames.FedWhat.TheVariants.{More, Whole, Bad}
 use Rattle.wire_frames.specs.declared.frames.Frame.TheVariants.{Hello, Turn, Want}
 use Rattle.wire_frames.specs.Reading.{at_start}
 use Rattle.lethwyrn_c.specs.Calls as C
 use Rattle.lethwyrn_c.specs.Heard as H
-use Rattle.lethwyrn_c.specs.Sending as S
 use Rattle.lethwyrn_c.specs.Standings.{Standing}
 use Rattle.lethwyrn_c.specs.Runs.{begun, went_on, chose, heard_bytes, relinked, advanced, took_log, stored_to, took_frame, sends_from, IsFair, RunsAreFair}
 

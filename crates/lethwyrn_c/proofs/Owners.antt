@@ -12,8 +12,7 @@ use Rattle.session_log.specs.Finding.{digest_at, entry_at, is_torn, is_unchained
 use Rattle.definitions.specs.Entries.{is_well_formed}
 use Rattle.session_log.specs.Spelling.{first_chain}
 use Rattle.session_log.specs.Reading.{LogReading, log_at_start, Step, owned, ended, step_on, step_behind, first_step, further_step, step_by, step_unless, next_step, ReadLog, read_on, read_by, read_log}
-use Rattle.old_log.specs.Old.{Fault, breach, is_anothers, old_entries, old_fault, old_owner}
-use Rattle.peer_core.specs.Resuming.{first_not_replayed}
+use Rattle.old_log.specs.Old.{Fault, is_anothers, old_entries, old_fault, old_owner}
 
 -- ---- a reader that has an owner keeps it
 
