@@ -1,5 +1,5 @@
-/* The answers of each call, what it tells, and that no call takes memory but lethwyrn_make and lethwyrn_resume. It is linked with --wrap=malloc
- * and --wrap=realloc. */
+/* The answers of each call, what it tells, that no call takes memory but lethwyrn_make and lethwyrn_resume, and that lethwyrn_free gives all of
+ * it back. It is linked with --wrap=malloc, --wrap=realloc and --wrap=free. */
 #define _DEFAULT_SOURCE
 #include "harness.h"
 #include <sys/mman.h>
@@ -8,14 +8,34 @@ static const char TEXT[] = "playout 1\ngrid 12 12\nrules 1 2 1\ncharge 1 3 2\ntu
 enum { UNLIMITED = 1000000 };
 
 static int left = UNLIMITED; /* how many blocks of memory may still be taken */
+static int taken;            /* how many are */
 
 void *__real_malloc(size_t size);
 void *__real_realloc(void *at, size_t size);
 void *__wrap_malloc(size_t size);
 void *__wrap_realloc(void *at, size_t size);
+void __real_free(void *at);
+void __wrap_free(void *at);
 
-void *__wrap_malloc(size_t size) { return left > 0 && left-- ? __real_malloc(size) : NULL; }
-void *__wrap_realloc(void *at, size_t size) { return left > 0 && left-- ? __real_realloc(at, size) : NULL; }
+void *__wrap_malloc(size_t size)
+{
+    void *at = left > 0 && left-- ? __real_malloc(size) : NULL;
+    taken += at != NULL;
+    return at;
+}
+
+void *__wrap_realloc(void *at, size_t size)
+{
+    void *to = left > 0 && left-- ? __real_realloc(at, size) : NULL;
+    taken += to && !at;
+    return to;
+}
+
+void __wrap_free(void *at)
+{
+    taken -= at != NULL;
+    __real_free(at);
+}
 
 static lethwyrn_refusal why;
 static uint8_t made, zero[48];
@@ -388,6 +408,7 @@ int main(void)
     for (unsigned p = 0; p < 2; p++) lethwyrn_free(&players[p].peer);
     cheat();
     third_turn();
+    want(taken, 0, "blocks that weren't given back");
     puts("all answers are as they are due");
     return 0;
 }
