@@ -1,0 +1,90 @@
+//! What a harness itself says on a socket.
+
+use crate::grounds::pass_of;
+use commitment::digest_of;
+use definitions::{Cell, Move, Nonce, Opening, Place, PlayerId, Turn, TurnFrame};
+use grid_world::Session;
+use peer_core::Peer;
+use std::alloc::Global;
+use std::test::Fail;
+use wire_frames::{Frame, put_frame};
+
+/// Adds a frame.
+pub fn put(out: &mut Vec<u8>, frame: &Frame) -> Result<(), Fail> {
+    let mut bytes = [0; 64];
+    let count = put_frame(frame, &mut bytes);
+    out.extend_from_slice(&bytes[..count.min(64)])?;
+    Ok(())
+}
+
+/// The greeting of one player to another one.
+pub fn hello(session: &Session, from: PlayerId, to: PlayerId, next: Place) -> Frame {
+    Frame::Hello {
+        id: *session.id(),
+        player: from,
+        pass: pass_of(from, to),
+        next,
+    }
+}
+
+/// A player that stays in a row's cell, with nonces of equal bytes.
+pub fn stays(player: PlayerId, turn: Turn, x: u16) -> Opening {
+    let byte = (turn & 255) as u8;
+    Opening {
+        player,
+        turn,
+        mv: Move {
+            to: Cell { x, y: 0 },
+            strike: None,
+        },
+        nonce: Nonce { bytes: [byte; 32] },
+    }
+}
+
+pub fn commit(session: &Session, opening: &Opening) -> TurnFrame {
+    TurnFrame::Commit {
+        player: opening.player,
+        turn: opening.turn,
+        digest: digest_of(session.id(), opening),
+    }
+}
+
+pub fn reveal(opening: &Opening) -> TurnFrame {
+    TurnFrame::Reveal {
+        player: opening.player,
+        turn: opening.turn,
+        mv: opening.mv,
+        nonce: opening.nonce,
+    }
+}
+
+/// Adds the frames that the peer made, from this place on.
+pub fn put_made_from(peer: &Peer, from: Place, out: &mut Vec<u8>) -> Result<(), Fail> {
+    for place in from..peer.made_count() {
+        let mut bytes = [0; 64];
+        if let Some(count) = peer.put_made(place, &mut bytes) {
+            out.extend_from_slice(&bytes[..count])?;
+        }
+    }
+    Ok(())
+}
+
+/// The place that is asked for by a greeting at the front of these bytes.
+pub fn place_asked(bytes: &[u8]) -> Option<Place> {
+    if bytes.len() < 56 {
+        return None;
+    }
+    Some(u32::from_be_bytes([bytes[52], bytes[53], bytes[54], bytes[55]]))
+}
+
+/// What the player of this peer says to another one that greets: its own greeting, and its frames from the place that is asked for.
+pub fn reply(alloc: Global, peer: &Peer, to: PlayerId, asked: Place) -> Result<Vec<u8>, Fail> {
+    let mut out = Vec::new(alloc);
+    if to >= peer.session().players() {
+        return Err("no player".into());
+    }
+    let next = peer.player(to).next;
+    put(&mut out, &hello(peer.session(), peer.me(), to, next))?;
+    put_made_from(peer, asked, &mut out)?;
+    Ok(out)
+}
