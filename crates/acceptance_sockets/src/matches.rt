@@ -118,7 +118,7 @@ fn three_players_play_over_sockets(rt: HostRuntime) -> Result<(), Fail> {
         &rt,
         rt.alloc(),
         3,
-        &|seat| { peer(&rt, folder, seat, seat, 150, logs_of(seat).0) },
+        &|seat| { peer(&rt, folder, seat, seat, 300, logs_of(seat).0) },
     )?;
     assert!(rt; are_done(&rt, &ran)?);
     let audit = audit(&rt, folder, &["0.log", "1.log", "2.log"])?;
@@ -147,10 +147,10 @@ fn players_go_on_from_their_logs(rt: HostRuntime) -> Result<(), Fail> {
         &|seat| {
             let (log, old) = logs_of(seat);
             if seat == 2 {
-                return peer(&rt, folder, seat, seat, 150, log);
+                return peer(&rt, folder, seat, seat, 300, log);
             }
             let words = format!(in rt.alloc(); "{log} {folder}/{old}");
-            peer(&rt, folder, seat, seat, 150, words.ok()?.as_str())
+            peer(&rt, folder, seat, seat, 300, words.ok()?.as_str())
         },
     )?;
     assert!(rt; are_done(&rt, &ran)?);
@@ -173,7 +173,7 @@ fn a_liar_is_found_by_the_logs(rt: HostRuntime) -> Result<(), Fail> {
         rt.alloc(),
         4,
         &|seat| {
-            let polls = if seat < 2 { 150 } else { 40 };
+            let polls = if seat < 2 { 300 } else { 90 };
             peer(&rt, folder, seat, seat.min(2), polls, logs_of(seat).0)
         },
     )?;

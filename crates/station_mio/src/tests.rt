@@ -11,8 +11,8 @@ use std::test::Fail;
 use std::time::Instant;
 use std::{fs, process, thread};
 
-/// How many polls a test waits for what must come: two seconds.
-const ROUNDS: u32 = 20;
+/// How many polls a test waits for what must come: ten seconds.
+const ROUNDS: u32 = 100;
 
 fn sockets_of(rt: &HostRuntime) -> Result<Sockets<&HostRuntime>, Fail> {
     Ok(Sockets::new(rt.alloc(), rt)?)
@@ -186,7 +186,7 @@ fn dials_an_address_that_refuses_ten_times_a_second(rt: HostRuntime) -> Result<(
     }
     let taken = start.elapsed(&rt)?.as_millis();
     assert_eq!(rt; refused, 4);
-    assert!(rt; taken >= 300 && taken < 2_000, "{taken} ms");
+    assert!(rt; taken >= 300 && taken < 20_000, "{taken} ms");
     Ok(())
 }
 
@@ -228,7 +228,7 @@ fn accepts_all_of_a_crowd_and_waits_when_nothing_comes(rt: HostRuntime) -> Resul
     sockets.poll(&mut ready);
     let taken = start.elapsed(&rt)?.as_millis();
     assert!(rt; ready.as_slice().is_empty());
-    assert!(rt; taken >= 90 && taken < 1_000, "{taken} ms");
+    assert!(rt; taken >= 90 && taken < 10_000, "{taken} ms");
     Ok(())
 }
 
