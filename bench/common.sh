@@ -4,10 +4,12 @@ here=$(cd "$(dirname "$0")" && pwd)
 work=$(mktemp -d)
 trap 'rm -rf "$work"' EXIT
 
-# build NAME DEPS: the program of bench/NAME, proved and built over a copy of the repository's crates; its file is $proved then
+# build NAME DEPS [CRATE]: the program of bench/NAME, as a crate of that name or of another, proved and built over a copy of the repository's
+# crates; its file is $proved then
 build() {
+    name=${3:-$1}
     tar -C "$here/.." --exclude=out -cf - crates crates.txt HANDLES | tar -C "$work" -xf -
-    crate="$work/crates/$1"
+    crate="$work/crates/$name"
     mkdir -p "$crate/src"
     # under other endings, since the gate reads every .rt and .antt file of the repository
     cp "$here/$1/main.rattle" "$crate/src/main.rt"
@@ -16,9 +18,17 @@ build() {
         mkdir -p "$crate/proofs/$of"
         cp "$invariants" "$crate/proofs/$of/Invariants.antt"
     done
-    echo "$1: $2" >> "$work/crates.txt"
+    # lemmas, where the program's functions cite some
+    for lemmas in "$here/$1"/lemmas/*.txt; do
+        if [ -e "$lemmas" ]; then
+            of=$(basename "$lemmas" .txt)
+            cp "$lemmas" "$crate/proofs/$of.antt"
+            echo "pub mod $of" >> "$crate/proofs/Lib.antt"
+        fi
+    done
+    echo "$name: $2" >> "$work/crates.txt"
     (cd "$crate" && rt run) > "$work/log" 2>&1 || { cat "$work/log" >&2; exit 1; }
-    proved="$crate/out/$1"
+    proved="$crate/out/$name"
 }
 
 # build_plain NAME: the program of bench/NAME in plain Rust; its file is $plain then

@@ -152,7 +152,10 @@ pub fn loop_of(alloc: Global, peer: Peer, roster: &[u8]) -> Result<Loop, Fail>
     ensures { IfOk result (λ l. IsNew l) }
 {
     let me = peer.me();
-    let roster = read_roster(alloc, roster, peer.session(), me).map_err(|_| "roster")?;
+    let roster = match read_roster(alloc, roster, peer.session(), me) {
+        Ok(roster) => roster,
+        Err(_) => return Err("roster".into()),
+    };
     Ok(Loop::new(alloc, peer, roster)?)
 }
 

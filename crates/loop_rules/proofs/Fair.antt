@@ -92,14 +92,14 @@ fair_logged s v e same h r = (
   λ early. absurd (false≢true (sym (ap is_early same) ∙ early)),
 )
 
-fair_entry : (s : Setting) (v : View) (e : Entry) (p : Phase) → IsHonest s.game s.me s.over → v.phase ≡ p → may_keep_in p v e ≡ true → Fair s v → Fair s (with_entry e v)
+pub fair_entry : (s : Setting) (v : View) (e : Entry) (p : Phase) → IsHonest s.game s.me s.over → v.phase ≡ p → may_keep_in p v e ≡ true → Fair s v → Fair s (with_entry e v)
 fair_entry s v e Fresh over same h r = absurd (false≢true h)
 fair_entry s v e Logged over same h r = fair_over s v e over same h r
 fair_entry s v e Running over same h r = fair_logged s v e same (and_parts _ _ h).0 r
 fair_entry s v e KeepFault over same h r = absurd (false≢true h)
 fair_entry s v e PollFault over same h r = absurd (false≢true h)
 
-fair_kept : (s : Setting) (v : View) (bytes : List ℕ) (o : Option Entry) → IsHonest s.game s.me s.over → may_keep_as v bytes o ≡ true → Fair s v → Fair s (kept_entry v o)
+pub fair_kept : (s : Setting) (v : View) (bytes : List ℕ) (o : Option Entry) → IsHonest s.game s.me s.over → may_keep_as v bytes o ≡ true → Fair s v → Fair s (kept_entry v o)
 fair_kept s v bytes None over h r = r
 fair_kept s v bytes (Some e) over h r =
     let w = with_entry e v in
@@ -112,7 +112,7 @@ fresh_early Running e = e
 fresh_early KeepFault e = e
 fresh_early PollFault e = e
 
-fair_item : (s : Setting) (v : View) (item : Item) → IsHonest s.game s.me s.over → is_allowed v item ≡ true → Fair s v → Fair s (after v item)
+pub fair_item : (s : Setting) (v : View) (item : Item) → IsHonest s.game s.me s.over → is_allowed v item ≡ true → Fair s v → Fair s (after v item)
 fair_item s v (LogBegun name) over h r = (r.0, r.1, λ early. r.2 (fresh_early v.phase h))
 fair_item s v (Listening addr) over h r = (r.0, r.1, λ early. absurd (false≢true early))
 fair_item s v (Dialled n q addr) over h r = fair_keeps s v (after v (Dialled n q addr)) (keeps_same v (after v (Dialled n q addr)) refl refl refl refl refl) r
@@ -140,8 +140,11 @@ fair_all s v (item ∷ items) over h r =
     let p = and_parts _ _ h in
     fair_all s (after v item) items over p.1 (fair_item s v item over p.0 r)
 
+pub fair_first : (s : Setting) → IsHonest s.game s.me s.over → Fair s (start s)
+fair_first s over = (refl, IsHonest_prefix s.game s.me [] s.over over, λ early. (s.over, refl))
+
 pub kept_is_honest : KeptIsHonest
-kept_is_honest s items over h = (fair_all s (start s) items over h (refl, IsHonest_prefix s.game s.me [] s.over over, λ early. (s.over, refl))).1
+kept_is_honest s items over h = (fair_all s (start s) items over h (fair_first s over)).1
 
 pub reveals_kept_stand_behind : RevealsKeptStandBehind
 reveals_kept_stand_behind s items g rest t q m n ahead over h same lt other met =

@@ -4,6 +4,7 @@ mod Ends
 pub mod Given
 pub mod Kept
 mod Fair
+mod Runs
 mod Computed
 mod Received
 mod Revealed

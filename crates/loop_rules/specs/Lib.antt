@@ -11,4 +11,5 @@ pub mod Histories
 pub mod Told
 pub mod Images
 pub mod Laws
+pub mod Runs
 pub mod Worked

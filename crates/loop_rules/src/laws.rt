@@ -1,6 +1,7 @@
 //! Laws of histories: functions that do nothing, whose clauses are proved.
 
 ghost use Rattle.loop_rules.specs.Laws.{PrefixesAreHistories, ItemsAreAllowed, AllowedItemsAreAdded, PollsAreLicensed, FailedPollsAreLicensed, LogsAreBegunFirst, FaultsAreLast, ToldGoesOn, GivenIsDue, KeptBytesAreTheLog, KeptIsHonest, RevealsKeptStandBehind, ReceiptsStandBehind, RevealsGivenAreFair};
+ghost use Rattle.loop_rules.specs.Runs.{LogsAreRuns};
 
 /// What was told up to some moment is a history: each of its items may come behind those before it, and such an item makes one more.
 pub fn histories_grow_by_items()
@@ -47,6 +48,12 @@ pub fn kept_bytes_are_the_log()
 pub fn kept_logs_are_honest()
     ensures honest { KeptIsHonest }
     ensures reveals { RevealsKeptStandBehind }
+{}
+
+/// Once the entries taken over are kept, the log kept is the protocol's own run: it begins with these, each own frame stands in it as soon as it
+/// may be made, and its steps are its own choices and the frames that came, in their order.
+pub fn logs_are_runs()
+    ensures { LogsAreRuns }
 {}
 
 /// A frame that the log has as received stands in the entries taken over, or bytes were taken earlier that made it whole.

@@ -1,6 +1,6 @@
 -- Alone: a run of a command that leaves its input alone.
 use Rattle.std.proofs.Common.{◌≡◌, inl, inr, ℕ, Bool, false, true, List, [], Some, refl, ap, sym, ◌∙◌, subst}
-use Rattle.station.specs.Outside.{Rose, faults_behind}
+use Rattle.station.specs.Outside.{faults_behind}
 use Rattle.station.specs.Shelves.{ShelfState}
 use Rattle.station.specs.Since.{grows_none}
 use Rattle.station.specs.Sinks.{SinkState, after_bytes}
@@ -32,7 +32,7 @@ lacked_counts : (late : Bool) (a b : SinkState) (text : List ℕ) → Lacked lat
 lacked_counts false a b text l = ap (λ (s : SinkState). s.faults) l
 lacked_counts true a b text l = ap (λ (s : SinkState). s.faults) l.2
 
-lacked_none : (late : Bool) (a : SinkState) (text : List ℕ) → Lacked late a a text
+pub lacked_none : (late : Bool) (a : SinkState) (text : List ℕ) → Lacked late a a text
 lacked_none false a text = refl
 lacked_none true a text = ([], (text, refl), sym (bytes_none a))
 

@@ -1,5 +1,5 @@
 -- AuditMeant: the logs that are read of files are ones that their owners may have written, and so their audit shows two faces.
-use Rattle.std.proofs.Common.{◌≡◌, ℕ, zero, suc, ◌<◌, List, [], ◌∷◌, Option, Some, None, refl, subst}
+use Rattle.std.proofs.Common.{◌≡◌, ℕ, zero, suc, ◌<◌, List, [], ◌∷◌, Some, None, subst}
 use Rattle.std.specs.Prelude.{slice_get}
 use Rattle.definitions.specs.declared.world.Move.{Move}
 use Rattle.definitions.specs.declared.logs.Entry.{Entry}

@@ -11,11 +11,10 @@ use Rattle.station.specs.Shelves.{ShelfState}
 use Rattle.station.specs.Since.{since}
 use Rattle.station.specs.Sinks.{SinkState}
 use Rattle.line_io.specs.Files.{AreContents, AreReadings, Contents, in_turn, content}
-use Rattle.line_io.specs.Inputs.{Input}
 use Rattle.auditor.specs.declared.auditor.Auditor.{Auditor}
 use Rattle.auditor.specs.Agreed.{AreOwned}
 use Rattle.auditor.specs.Audits.{StandsFor}
-use Rattle.log_files.specs.Several.{LogFault, TakesFiles, behind_first, first_fault, logs_in, owners_in}
+use Rattle.log_files.specs.Several.{LogFault, TakesFiles, behind_first, logs_in, owners_in}
 use Rattle.log_files.specs.declared.several.LogsTaken.TheVariants as became
 use Rattle.log_files.proofs.OneMore.{behind_are, none_at, none_in_turn, none_read, none_readings}
 use Rattle.run_frame.specs.Frame.{Answer, Ran}
@@ -24,10 +23,10 @@ use Rattle.run_frame.specs.declared.statuses.Status.TheVariants.{BadLog, BadSess
 use Rattle.audit_command.specs.Audit.{audit_answer}
 use Rattle.audit_command.specs.Words.{Auditing}
 use Rattle.peer_cli.specs.declared.audits.Audited.{Audited}
-use Rattle.peer_cli.specs.Audits.{AreLogsDue, IsAuditDue, IsAuditFor, IsSoundBefore, IsTakenFor, OpensAudit, TakesAll, audit_by, audit_for}
-use Rattle.peer_cli.specs.Commands.{ReadsFor, answer_of}
+use Rattle.peer_cli.specs.Audits.{IsAuditDue, IsAuditFor, IsSoundBefore, IsTakenFor, OpensAudit, TakesAll, audit_by, audit_for}
+use Rattle.peer_cli.specs.Commands.{ReadsFor}
 use Rattle.peer_cli.specs.Files.{OpensSession}
-use Rattle.peer_cli.specs.Games.{IsDue, is_shelf_fault, session_in}
+use Rattle.peer_cli.specs.Games.{IsDue, is_shelf_fault}
 use Rattle.peer_cli.specs.Words.{Audit}
 use Rattle.peer_cli.proofs.Alone.{IsRefused}
 use Rattle.peer_cli.proofs.AuditMeant.{logs_owned}

@@ -12,6 +12,9 @@ pub mod Scheduled
 pub mod Judged
 pub mod AuditOpened
 pub mod Rooms
+pub mod Splitting
+pub mod Unremembered
 pub mod Opening
 pub mod Seated
+pub mod Completing
 pub mod OverSockets

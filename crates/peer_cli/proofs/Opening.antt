@@ -2,10 +2,10 @@
 use Rattle.std.proofs.Common.{◌≡◌, ◌⊎◌, inl, inr, ℕ, zero, suc, Bool, false, List, [], ◌∷◌, ◌++◌, Option, refl, ap, sym, ◌∙◌, subst, append_assoc, append-nil}
 use Rattle.definitions.specs.Lists.{item_or}
 use Rattle.station.specs.Outside.{faults_behind}
-use Rattle.station.specs.Pieces.{AllGive, Piece}
+use Rattle.station.specs.Pieces.{Piece}
 use Rattle.station.specs.Shelves.{ShelfState}
 use Rattle.station.specs.Since.{since}
-use Rattle.line_io.specs.Files.{AreContents, AreReadings, Calls, Contents, content, in_turn}
+use Rattle.line_io.specs.Files.{AreContents, AreReadings, Contents, content, in_turn}
 use Rattle.log_files.specs.Several.{behind_first}
 use Rattle.log_files.proofs.OneMore.{behind_are, none_at, none_in_turn, none_read, none_readings}
 use Rattle.peer_cli.specs.Opening.{Opens, Reads}

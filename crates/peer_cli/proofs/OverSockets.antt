@@ -1,5 +1,5 @@
 -- OverSockets: a run over sockets, from what it opened to its last line.
-use Rattle.std.proofs.Common.{◌≡◌, ◌⊎◌, inl, inr, ℕ, Bool, true, false, List, [], None, Option, Some, refl, ap, sym, ◌∙◌, subst, arith}
+use Rattle.std.proofs.Common.{◌≡◌, ◌⊎◌, inl, inr, ℕ, Bool, false, List, [], None, Option, Some, refl, ap, sym, ◌∙◌, subst, arith}
 use Rattle.std.specs.Prelude.{Result, Ok, Err}
 use Rattle.rand_core.specs.Stream.{Stream}
 use Rattle.station.specs.Outside.{Rose, faults_behind}
@@ -14,7 +14,7 @@ use Rattle.line_io.specs.Files.{AreContents, Contents}
 use Rattle.line_io.specs.Texts.{CutShort}
 use Rattle.line_io.proofs.Writing.{bytes_none}
 use Rattle.run_frame.specs.Ends.{Refuses}
-use Rattle.run_frame.specs.Frame.{Answer, Ends, Ran, is_input_fault}
+use Rattle.run_frame.specs.Frame.{Ends, Ran, is_input_fault}
 use Rattle.run_frame.specs.Statuses.{refusal_of}
 use Rattle.run_frame.specs.declared.statuses.Status.{Status}
 use Rattle.run_frame.specs.declared.statuses.Status.TheVariants.{NoMemory, InputFault, OutputFault}
@@ -29,10 +29,11 @@ use Rattle.peer_command.specs.Words.{Peering}
 use Rattle.peer_cli.specs.declared.seats.Seat.{Seat}
 use Rattle.peer_cli.specs.Opening.{IsRefusedBy, Reads}
 use Rattle.peer_cli.specs.Outside.{CountsFaults}
-use Rattle.peer_cli.specs.Peers.{IsPlayed, IsUnplayed, NotPlayed, PeerRun, RunsPeer, WorksPeer, chooser_of, loop_start, unplayed_answer}
+use Rattle.peer_cli.specs.Peers.{IsPlayed, IsUnplayed, NotPlayed, PeerRun, RunsPeer, WorksPeer, chooser_of, unplayed_answer}
 use Rattle.peer_cli.specs.Seats.{IsSeated, MayReadRoster, OpensSeat, Start, seat_names, start_for}
 use Rattle.peer_cli.proofs.Counts.{refused_counts}
 use Rattle.peer_cli.proofs.Running.{readings_fit, some_contents}
+use Rattle.peer_cli.proofs.Completing.{completes}
 
 -- ---- whether sockets are asked for
 
@@ -191,7 +192,7 @@ module _ (p : Peering) (i : SourceState) (a : SinkState) (h h' : ShelfState) (it
     played_on due d = record {
       start = d.start;
       due_is = d.due_is;
-      plays = record { ended = d.plays.ended; last = d.plays.last; plays = d.plays.plays; fair = d.plays.fair; written = ended_on a b c _ _ d.plays.ended d.plays.last s result d.plays.written r };
+      plays = record { ended = d.plays.ended; last = d.plays.last; plays = d.plays.plays; fair = d.plays.fair; steps = d.plays.steps; written = ended_on a b c _ _ d.plays.ended d.plays.last s result d.plays.written r };
     }
 
     unplayed_on : (due : Result Start Status) → NotPlayed (run_at i' b items' later) due s → IsUnplayed (run_at i' c items' later) due result
@@ -212,6 +213,7 @@ module _ (p : Peering) (i : SourceState) (a : SinkState) (h h' : ShelfState) (it
         record {
           failed = w.failed;
           reads = told;
+          complete = λ contents h. completes (run_at i' c items' later) (start_for p contents) result (told.due contents h);
           possible = (some_contents told.calls, some_are h h' (seat_names p) w.failed (MayReadRoster p) _ told);
           faults = refused_counts i i' a b c h h' s result r w.faults;
           untouched = left;

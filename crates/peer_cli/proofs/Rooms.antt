@@ -1,6 +1,6 @@
 -- Rooms: a command that the words say has no more logs than an auditor has room for.
 use Rattle.std.proofs.Common.{◌≡◌, ◌≤◌, ℕ, Bool, true, false, List, [], ◌∷◌, Option, None, Some, length, refl, subst, ap, arith}
-use Rattle.std.specs.Prelude.{bytes_eq, codes, nat_le, option_map, not, ◌&&◌, if◌then◌else◌}
+use Rattle.std.specs.Prelude.{IfSome, bytes_eq, codes, nat_le, option_and_then, option_map, not, if◌then◌else◌}
 use Rattle.std.specs.List.{list_all}
 use Rattle.std.proofs.lemmas.Bool.{and_parts, leb-true}
 use Rattle.definitions.specs.Lists.{is_empty}
@@ -12,7 +12,10 @@ use Rattle.make_command.specs.Words.{making_in}
 use Rattle.audit_command.specs.declared.limits.TheConstants.{MOST_AUDITED}
 use Rattle.audit_command.specs.Words.{Auditing, are_few, auditing_in}
 use Rattle.frame_index.specs.declared.limits.TheConstants.{MOST_LOGS}
-use Rattle.peer_cli.specs.Words.{Audit, Command, Drive, HasRoom, Judge, Make, Schedule, Upgrade, command_in, command_named, command_of, is_word}
+use Rattle.peer_cli.specs.Words.{Audit, Command, Drive, HasRoom, Judge, Make, Schedule, Upgrade, command_in, command_named, command_of, command_on}
+use Rattle.command_line.specs.Lines.{Line}
+use Rattle.command_line.specs.Names.{text_of}
+use Rattle.command_line.specs.Words.{is_word}
 
 -- a command of each of these words has
 abbrev RoomIf : Option Command → Type 0
@@ -77,3 +80,12 @@ command_room words c e = go (list_all is_word words) words e
     go true [] e = absurd (let never : None ≡ Some c = e in cc)
     go true (name ∷ words) e = named name words c e
     go false words e = absurd (let never : None ≡ Some c = e in cc)
+
+-- and so has one of a command line
+pub line_room : (o : Option Line) → IfSome (option_and_then command_on o) HasRoom
+line_room None = tt
+line_room (Some line) = go (command_on line) refl
+  where
+    go : (c : Option Command) → command_on line ≡ c → IfSome c HasRoom
+    go None e = tt
+    go (Some c) e = named (text_of line.name) line.words c e

@@ -1,5 +1,5 @@
 -- Scheduled: a run of the command to step a match.
-use Rattle.std.proofs.Common.{◌≡◌, inl, inr, ℕ, Bool, false, true, List, [], Some, refl, ap, sym, ◌∙◌, subst}
+use Rattle.std.proofs.Common.{◌≡◌, ℕ, false, true, List, [], Some, refl, ap, sym, ◌∙◌, subst}
 use Rattle.std.specs.Prelude.{Result, Ok, Err}
 use Rattle.station.specs.Outside.{Rose, faults_behind}
 use Rattle.station.specs.Shelves.{ShelfState}

@@ -1,12 +1,12 @@
 -- Seated: what a player plays by, read from the files.
-use Rattle.std.proofs.Common.{◌≡◌, ◌⊎◌, ◌<◌, inl, inr, ℕ, zero, suc, Bool, true, false, List, [], ◌∷◌, ◌++◌, Option, Some, None, refl, ap, sym, ◌∙◌, subst, append-nil, nat_lt, if◌then◌else◌}
+use Rattle.std.proofs.Common.{◌≡◌, ◌<◌, inl, inr, ℕ, Bool, true, false, List, [], ◌∷◌, Option, Some, None, refl, ap, sym, ◌∙◌, subst, append-nil, nat_lt, if◌then◌else◌}
 use Rattle.std.specs.Prelude.{Result, Ok, Err, option_map}
 use Rattle.definitions.specs.declared.world.Move.{Move}
 use Rattle.definitions.specs.World.{Game, players_of}
 use Rattle.rosters.specs.declared.limits.TheConstants.{ROSTER_FRONT}
 use Rattle.rosters.specs.Rosters.{LinksOthers, Neighbours}
 use Rattle.pilots.specs.declared.sizes.TheConstants.{MOVES_FRONT}
-use Rattle.station.specs.Pieces.{AllGive, Piece}
+use Rattle.station.specs.Pieces.{AllGive}
 use Rattle.station.specs.Shelves.{ShelfState}
 use Rattle.station.specs.Since.{since, since_is}
 use Rattle.line_io.specs.Files.{Contents, content}

@@ -1,7 +1,7 @@
 -- Files: what a run reads of those that its words name, in their order.
-use Rattle.std.specs.Prelude.{◌≡◌, ◌⊎◌, ℕ, ◌<◌, false, Ok, Result, Option, Some, None, List, [], ◌∷◌, ◌++◌, flat_map, option_map}
+use Rattle.std.specs.Prelude.{◌≡◌, ◌⊎◌, ℕ, ◌<◌, false, Ok, Result, Option, Some, None, List, [], ◌∷◌, option_map}
 use Rattle.station.specs.Outside.{faults_behind}
-use Rattle.station.specs.Pieces.{Piece, AllGive}
+use Rattle.station.specs.Pieces.{AllGive}
 use Rattle.station.specs.Shelves.{ShelfState}
 use Rattle.station.specs.Since.{since}
 use Rattle.line_io.specs.Files.{AreContents, Calls, Contents, ReadsFiles, content}

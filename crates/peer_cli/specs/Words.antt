@@ -1,7 +1,9 @@
 -- Words: the commands that the program's words say.
-use Rattle.std.specs.Prelude.{ℕ, ◌≤◌, length, Bool, false, not, ◌&&◌, List, [], ◌∷◌, Option, None, bytes_eq, ◌==◌, codes, option_map, if◌then◌else◌}
+use Rattle.std.specs.Prelude.{ℕ, ◌≤◌, length, List, [], ◌∷◌, Option, None, bytes_eq, codes, option_map, if◌then◌else◌}
 use Rattle.std.specs.List.{list_all}
-use Rattle.std.specs.Str.{is_utf8}
+use Rattle.command_line.specs.Words.{is_word}
+use Rattle.command_line.specs.Lines.{Line}
+use Rattle.command_line.specs.Names.{text_of}
 use Rattle.drive_command.specs.Words.{Driving, driving_in, driving_said}
 use Rattle.upgrade_command.specs.Words.{upgrading_in}
 use Rattle.judge_command.specs.Words.{Judging, judging_in, judging_said}
@@ -36,15 +38,6 @@ command_said (said.Audit auditing) = Audit (auditing_said auditing)
 command_said (said.Schedule session) = Schedule session.now
 command_said (said.Make number) = Make number
 
--- the word begins with `-`
-abbrev pub begins_with_dash : List ℕ → Bool
-begins_with_dash [] = false
-begins_with_dash (b ∷ word) = b == 45
-
--- a word is UTF-8, and doesn't begin with `-`
-abbrev pub is_word : List ℕ → Bool
-is_word word = is_utf8 word && not (begins_with_dash word)
-
 -- the command of this name with these words
 abbrev pub command_named : (name : List ℕ) → (words : List (List ℕ)) → Option Command
 command_named name words =
@@ -60,6 +53,10 @@ command_named name words =
 abbrev pub command_in : List (List ℕ) → Option Command
 command_in [] = None
 command_in (name ∷ words) = command_named name words
+
+-- the same, by a command line that was split
+abbrev pub command_on : Line → Option Command
+command_on line = command_named (text_of line.name) line.words
 
 -- the command of the program's words
 unfoldable pub command_of : List (List ℕ) → Option Command

@@ -1,10 +1,11 @@
 //! The program.
 
-ghost use Rattle.std.specs.Prelude.{◌≡◌, [], None, Some, map};
+ghost use Rattle.std.specs.Prelude.{◌≡◌, [], IfSome, None, Some, map, option_and_then, option_map};
+ghost use Rattle.command_line.specs.Lines.{owned};
 ghost use Rattle.drive_command.specs.Laws.{DrivesAreRuns, LinesAreOneStream};
 ghost use Rattle.peer_command.specs.Words.{Peering};
 ghost use Rattle.peer_cli.specs.Peers.{RunsPeer, peering_of};
-ghost use Rattle.peer_cli.specs.Words.{HasRoom, command_of, command_said};
+ghost use Rattle.peer_cli.specs.Words.{HasRoom, command_of, command_on, command_said};
 ghost use Rattle.peer_cli.specs.Runs.{Runs, Works};
 
 use crate::auditing::audit_for;
@@ -14,7 +15,9 @@ use crate::matches::make_for;
 use crate::peering::peer_for;
 use crate::scheduling::schedule_for;
 use crate::upgrading::upgrade_for;
-use crate::words::{Command, read_command, read_peering};
+use crate::words;
+use crate::words::{Command, is_command, is_peering};
+use command_line::{OwnLine, split_words};
 use rand_core::Rng;
 use run_frame::{Status, refuse};
 use socket_station::Station;
@@ -48,7 +51,31 @@ fn obey<I: Source, O: Sink, H: Shelf>(
     }
 }
 
-/// Does what the words ask for, but for the last line of a refusal.
+/// Does what a command line asks for, but for the last line of a refusal.
+fn obey_line<I: Source, O: Sink, H: Shelf>(
+    alloc: Global,
+    line: &Option<OwnLine>,
+    input: &mut I,
+    out: &mut O,
+    shelf: &mut H,
+) -> Status
+    requires room { IfSome (option_and_then command_on (option_map owned line.now)) HasRoom }
+    ensures { Works
+        (record {
+          command = option_and_then command_on (option_map owned line.now);
+          before = record { input = I.state input.old; output = O.state out.old; shelf = H.state shelf.old };
+          after = record { input = I.state input.new; output = O.state out.new; shelf = H.state shelf.new };
+        })
+        (input.new ≡ input.old) result }
+{
+    match words::command_on(line) {
+        None => Status::Usage,
+        Some(command) => obey(alloc, command, input, out, shelf),
+    }
+}
+
+/// Does what the words ask for, but for the last line of a refusal. Words that are no command are told so before clap is asked, which takes
+/// memory.
 fn work<I: Source, O: Sink, H: Shelf>(
     alloc: Global,
     words: &[Vec<u8>],
@@ -64,9 +91,12 @@ fn work<I: Source, O: Sink, H: Shelf>(
         })
         (input.new ≡ input.old) result }
 {
-    match read_command(words) {
-        None => Status::Usage,
-        Some(command) => obey(alloc, command, input, out, shelf),
+    if !is_command(words) {
+        return Status::Usage;
+    }
+    match split_words(alloc, words) {
+        Err(_) => Status::NoMemory,
+        Ok(line) => obey_line(alloc, &line, input, out, shelf),
     }
 }
 
@@ -139,8 +169,9 @@ pub fn run<I: Source, O: Sink, H: Shelf, S: Station, R: Rng>(
     ensures steps { DrivesAreRuns }
     ensures streams { LinesAreOneStream }
 {
-    match read_peering(words) {
-        None => run_offline(alloc, words, input, out, shelf),
-        Some(peer) => peer_for(alloc, peer, input, out, shelf, station, chance),
+    if is_peering(words) {
+        peer_for(alloc, words, input, out, shelf, station, chance)
+    } else {
+        run_offline(alloc, words, input, out, shelf)
     }
 }

@@ -1,19 +1,18 @@
 //! The program's words.
 
-ghost use Rattle.std.specs.Prelude.{◌≡◌, map, option_map};
-ghost use Rattle.std.specs.List.{list_all};
-ghost use Rattle.std.specs.Str.{is_utf8};
+ghost use Rattle.std.specs.Prelude.{◌≡◌, is_some, map, option_and_then, option_map};
+ghost use Rattle.command_line.specs.Lines.{owned};
 ghost use Rattle.peer_command.specs.Words.{peering_said};
 ghost use Rattle.peer_cli.specs.Peers as P;
 ghost use Rattle.peer_cli.specs.Words as W;
 
 use audit_command::{AuditWords, read_audit_words};
+use command_line::{OwnLine, are_words};
 use drive_command::{DriveWords, read_drive_words};
 use judge_command::{JudgeWords, read_judge_words};
 use make_command::read_make_words;
 use peer_command::{PeerWords, read_peer_words};
 use schedule_command::read_schedule_words;
-use std::str::from_utf8;
 use upgrade_command::read_upgrade_words;
 
 /// A command, with its words.
@@ -31,42 +30,6 @@ pub(crate) enum Command<'a> {
     Schedule(&'a [u8]),
     /// The match of this number is made.
     Make(u64),
-}
-
-/// Whether the bytes are UTF-8.
-fn is_text(word: &[u8]) -> bool
-    ensures { result ≡ is_utf8 word.now }
-{
-    match from_utf8(word) {
-        Ok(_) => true,
-        Err(_) => false,
-    }
-}
-
-/// Whether it begins with `-`.
-fn begins_with_dash(word: &[u8]) -> bool
-    ensures { result ≡ W.begins_with_dash word.now }
-{
-    matches!(word, [b'-', ..])
-}
-
-/// Whether it is a word of a command.
-fn is_word(word: &[u8]) -> bool
-    ensures { result ≡ W.is_word word.now }
-{
-    is_text(word) && !begins_with_dash(word)
-}
-
-/// Whether all are words of a command.
-fn are_words(words: &[Vec<u8>]) -> bool
-    ensures { result ≡ list_all W.is_word (map (λ w. w.items) words.now) }
-{
-    for word in words {
-        if !is_word(word.as_slice()) {
-            return false;
-        }
-    }
-    true
 }
 
 /// The command of this name with these words.
@@ -108,7 +71,7 @@ fn read_words(words: &[Vec<u8>]) -> Option<Command<'_>>
 
 /// The command that the program's words are.
 #[tactic(auto, unfolding(crate::specs::Words::command_of))]
-pub(crate) fn read_command(words: &[Vec<u8>]) -> Option<Command<'_>>
+fn read_command(words: &[Vec<u8>]) -> Option<Command<'_>>
     ensures { option_map W.command_said result ≡ W.command_of (map (λ w. w.items) words.now) }
 {
     if are_words(words) {
@@ -141,12 +104,46 @@ fn read_peer_behind(words: &[Vec<u8>]) -> Option<PeerWords<'_>>
 
 /// What a run over sockets is to do, by the program's words, if they ask for one.
 #[tactic(auto, unfolding(crate::specs::Peers::peering_of))]
-pub(crate) fn read_peering(words: &[Vec<u8>]) -> Option<PeerWords<'_>>
+fn read_peering(words: &[Vec<u8>]) -> Option<PeerWords<'_>>
     ensures { option_map peering_said result ≡ P.peering_of (map (λ w. w.items) words.now) }
 {
     if are_words(words) {
         read_peer_behind(words)
     } else {
         None
+    }
+}
+
+/// Whether the program's words are a command. That takes no memory, so that words that are none are told so whatever the memory.
+pub(crate) fn is_command(words: &[Vec<u8>]) -> bool
+    ensures { result ≡ is_some (W.command_of (map (λ w. w.items) words.now)) }
+{
+    read_command(words).is_some()
+}
+
+/// Whether the program's words ask for a run over sockets. That takes no memory.
+pub(crate) fn is_peering(words: &[Vec<u8>]) -> bool
+    ensures { result ≡ is_some (P.peering_of (map (λ w. w.items) words.now)) }
+{
+    read_peering(words).is_some()
+}
+
+/// The command of a command line, if it says one.
+pub(crate) fn command_on(line: &Option<OwnLine>) -> Option<Command<'_>>
+    ensures { option_map W.command_said result ≡ option_and_then W.command_on (option_map owned line.now) }
+{
+    match line {
+        None => None,
+        Some(line) => read_named(line.name.as_str().as_bytes(), line.words.as_slice()),
+    }
+}
+
+/// What a run over sockets is to do, by a command line, if it asks for one.
+pub(crate) fn peering_on(line: &Option<OwnLine>) -> Option<PeerWords<'_>>
+    ensures { option_map peering_said result ≡ option_and_then P.peering_on (option_map owned line.now) }
+{
+    match line {
+        None => None,
+        Some(line) => read_peer_named(line.name.as_str().as_bytes(), line.words.as_slice()),
     }
 }

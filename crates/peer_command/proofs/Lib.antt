@@ -1,3 +1,4 @@
 pub mod Unsents
 pub mod Failures
+pub mod Steps
 pub mod Played

@@ -1,5 +1,5 @@
 -- Played: a run from the first call of its loop to its end, and what its station told.
-use Rattle.std.proofs.Common.{◌≡◌, ℕ, false, List, [], ◌∷◌, ◌++◌, Option, ap, sym, refl, ◌∙◌, subst, append-nil, take, arith}
+use Rattle.std.proofs.Common.{◌≡◌, ℕ, false, List, [], Option, ap, sym, refl, ◌∙◌, subst, append-nil, take, arith}
 use Rattle.std.proofs.Math.Seq.{take-length}
 use Rattle.definitions.specs.Logs.{chosen}
 use Rattle.station.specs.Sinks.{SinkState}
@@ -11,7 +11,8 @@ use Rattle.peer_core.specs.Views.{PeerState}
 use Rattle.loop_rules.specs.declared.phases.Phase.{Phase}
 use Rattle.loop_rules.specs.declared.phases.Phase.TheVariants.{Running, KeepFault, PollFault}
 use Rattle.loop_rules.specs.Histories.{IsHistory}
-use Rattle.loop_rules.specs.Laws.{FaultsAreLast, GivenIsDue, KeptIsHonest, PrefixesAreHistories, RevealsGivenAreFair}
+use Rattle.loop_rules.specs.Laws.{FailedPollsAreLicensed, FaultsAreLast, GivenIsDue, KeptIsHonest, PrefixesAreHistories, RevealsGivenAreFair}
+use Rattle.loop_rules.specs.Runs.{LogsAreRuns}
 use Rattle.loop_rules.specs.Told.{IsTold}
 use Rattle.loop_rules.proofs.Kept.{keeps_sorted}
 use Rattle.fair_play.proofs.Fair.{honest_fair}
@@ -26,15 +27,17 @@ use Rattle.ready_loop.specs.Settling.{IsReady}
 use Rattle.ready_loop.specs.Beginning.{Begins, IsNew, given_by, new_loop}
 use Rattle.ready_loop.specs.Laws.{BeginningsAreHistories, RunsAreWhole}
 use Rattle.ready_loop.specs.Polling as L
+use Rattle.ready_loop.proofs.Whole.{new_setting}
 use Rattle.peer_command.specs.Ends.{peer_answer}
 use Rattle.peer_command.specs.Fair.{IsFairMatch}
 use Rattle.peer_command.specs.Faults.{StandsByFaults}
 use Rattle.peer_command.specs.Plays.{PlayedOut, PlaysOut}
 use Rattle.peer_command.proofs.Failures.{keep_failed, poll_failed, fails_neither}
+use Rattle.peer_command.proofs.Steps.{log_is_run}
 
 -- ---- what its station told
 
-module _ (prefixes : PrefixesAreHistories) (given_is_due : GivenIsDue) (reveals_given_are_fair : RevealsGivenAreFair) (kept_is_honest : KeptIsHonest) (p : PeerState) (r : Neighbours) (standing : IsStanding p) (items : List Item) where
+module _ (prefixes : PrefixesAreHistories) (given_is_due : GivenIsDue) (reveals_given_are_fair : RevealsGivenAreFair) (kept_is_honest : KeptIsHonest) (logs_are_runs : LogsAreRuns) (failed_polls : FailedPollsAreLicensed) (p : PeerState) (r : Neighbours) (standing : IsStanding p) (items : List Item) where
   fair_history : IsHistory (given_by p r) items → IsFairMatch p r items
   fair_history h = record {
     history = h;
@@ -52,7 +55,7 @@ module _ (prefixes : PrefixesAreHistories) (given_is_due : GivenIsDue) (reveals_
       PlayedOut (record { peer = p; roster = r; dropped = dropped; log = log; polls = polls }) by to items before now status
   a_match dropped log polls by to ended l n before now status new plays written =
       let w : PlaysOut log by to polls ended (new_loop p r) n items = subst (λ (x : LoopState). PlaysOut log by to polls ended x n items) new plays in
-      record { ended = ended; last = n; plays = w; fair = fair_history w.run.history.allowed; written = written }
+      record { ended = ended; last = n; plays = w; fair = fair_history w.run.history.allowed; steps = log_is_run logs_are_runs failed_polls p r log by to polls ended n items standing w.run w.faults; written = written }
 
 -- ---- how the loop goes
 
@@ -84,10 +87,17 @@ module _ (last : FaultsAreLast) (histories : BeginningsAreHistories) (log : List
   -- the log could not be begun or kept, and nothing was played
   pub logs_not : Begins log B.KeepFault l m items → PlaysOut log by by polls E.KeepFault l m items
   logs_not b = record {
-    run = record { history = histories log B.KeepFault l m items new b; kept = λ differs. absurd (differs refl); refused = false; refuses = tt; choices = none_chosen by l m b.peer };
-    made = 0;
-    few = omega arith;
-    stands = b.stands;
+    run = record {
+      history = histories log B.KeepFault l m items new b;
+      setting = b.setting ∙ new_setting l new;
+      told = b.told;
+      few = (let none = b.polls in omega (arith, none));
+      stands = b.stands;
+      kept = λ differs. absurd (differs refl);
+      refused = false;
+      refuses = tt;
+      choices = none_chosen by l m b.peer;
+    };
     faults = keep_failed last items (view_of m) b.told (phase_shown m KeepFault b.stands);
   }
 
@@ -96,14 +106,15 @@ module _ (last : FaultsAreLast) (histories : BeginningsAreHistories) (log : List
   listens_not b = record {
     run = record {
       history = histories log B.PollFault l m items new b;
+      setting = b.setting ∙ new_setting l new;
+      told = b.told;
+      few = (let none = b.polls in omega (arith, none));
+      stands = b.stands;
       kept = λ differs. ap (λ (n : ℕ). take n m.peer.entries) b.stands.kept ∙ take-length m.peer.entries;
       refused = false;
       refuses = refl;
       choices = none_chosen by l m b.peer;
     };
-    made = 0;
-    few = omega arith;
-    stands = b.stands;
     faults = poll_failed last items (view_of m) b.told (phase_shown m PollFault b.stands.fault);
   }
 
@@ -116,4 +127,4 @@ pub on_from : (last : FaultsAreLast) (whole : RunsAreWhole) (log : List ℕ) (by
     L.Ends by to polls' ended first items m n → PlaysOut log by to polls ended l n items
 on_from last whole log by to polls polls' ended l m n first items new b e w =
     let x : L.Ends by to polls ended first items m n = subst (λ (k : ℕ). L.Ends by to k ended first items m n) e w in
-    record { run = whole log by to polls ended l m n first items new b x; made = x.made; few = x.few; stands = x.stands; faults = by_faults last by.plan polls x.made ended items n x.goes.told x.stands }
+    record { run = whole log by to polls ended l m n first items new b x; faults = by_faults last by.plan polls x.made ended items n x.goes.told x.stands }

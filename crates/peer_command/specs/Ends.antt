@@ -1,5 +1,5 @@
 -- Ends: what is written at the end of a run, and its status, by how its loop ended.
-use Rattle.std.specs.Prelude.{ℕ, List, [], ◌∷◌, ◌++◌, Option, codes, decimal, flat_map, nat_lt, ◌==◌, if◌then◌else◌}
+use Rattle.std.specs.Prelude.{ℕ, List, [], ◌++◌, Option, codes, decimal, flat_map, nat_lt, ◌==◌, if◌then◌else◌}
 use Rattle.std.specs.List.{range_with_len}
 use Rattle.definitions.specs.declared.world.MoveFault.{MoveFault}
 use Rattle.definitions.specs.World.{players_of}

@@ -1,9 +1,14 @@
 -- Faults: which failed calls stand behind the end of a run.
-use Rattle.std.specs.Prelude.{◌≡◌, Bool, true, List, [], ◌∷◌, ◌++◌}
+use Rattle.std.specs.Prelude.{◌≡◌, Bool, true, false, List, [], ◌∷◌, ◌++◌}
 use Rattle.socket_station.specs.Faults.{is_keep_call, is_poll_call}
-use Rattle.socket_station.specs.Items.{Item, Call, Failed}
+use Rattle.socket_station.specs.Items.{Item, Call, ListenCall, Failed}
 use Rattle.ready_loop.specs.declared.polling.Ended.{Ended}
 use Rattle.ready_loop.specs.declared.polling.Ended.TheVariants as E
+
+-- `listen` alone
+abbrev pub is_listen_call : Call → Bool
+is_listen_call (ListenCall addr) = true
+is_listen_call _ = false
 
 -- the last item is the failure of such a call
 abbrev pub EndsBy : (Call → Bool) → List Item → Type 0

@@ -2,4 +2,5 @@ pub mod Words
 pub mod Ends
 pub mod Fair
 pub mod Faults
+pub mod Steps
 pub mod Plays

@@ -1,5 +1,5 @@
 -- Plays: what a run makes of the station and the generator.
-use Rattle.std.specs.Prelude.{◌≡◌, ◌⊎◌, ◌≤◌, ℕ, List, Option}
+use Rattle.std.specs.Prelude.{◌≡◌, ◌⊎◌, ℕ, List, Option}
 use Rattle.station.specs.Sinks.{SinkState}
 use Rattle.socket_station.specs.Items.{Item}
 use Rattle.rosters.specs.Rosters.{Neighbours}
@@ -8,23 +8,21 @@ use Rattle.run_frame.specs.Frame.{Ends}
 use Rattle.run_frame.specs.declared.statuses.Status.{Status}
 use Rattle.run_frame.specs.declared.statuses.Status.TheVariants.{NoMemory}
 use Rattle.ready_loop.specs.declared.polling.Ended.{Ended}
+use Rattle.ready_loop.specs.declared.polling.Ended.TheVariants as E
 use Rattle.ready_loop.specs.States.{LoopState}
 use Rattle.ready_loop.specs.Choices.{Chooser}
 use Rattle.ready_loop.specs.Beginning.{new_loop}
 use Rattle.ready_loop.specs.Laws.{IsRun}
-use Rattle.ready_loop.specs.Polling.{StandsEnded}
 use Rattle.peer_command.specs.Ends.{peer_answer}
 use Rattle.peer_command.specs.Fair.{IsFairMatch}
-use Rattle.peer_command.specs.Faults.{StandsByFaults}
+use Rattle.peer_command.specs.Faults.{FailsNone, StandsByFaults, is_listen_call}
+use Rattle.peer_command.specs.Steps.{IsLogRun}
 
 -- The loop was begun, with a log of this name, and played to its end.
 pub record PlaysOut (log : List ℕ) (by to : Chooser) (polls : ℕ) (ended : Ended) (l n : LoopState) (items : List Item) : Type 0 where
-  -- its station told a whole history; the log kept is the peer's, but for an end of the log itself; and whose the choices in it are
-  pub run : IsRun log by to ended l n items
-  -- how many polls it made, and why it ended so
-  pub made : ℕ
-  pub few : made ≤ polls
-  pub stands : StandsEnded by.plan polls made ended n
+  -- its station told a whole history, of no more polls than were granted; why it ended so, by these polls; the log kept is the peer's, but for an
+  -- end of the log itself; and whose the choices in it are
+  pub run : IsRun log by to polls ended l n items
   -- and which failed calls stand behind that
   pub faults : StandsByFaults ended items
 
@@ -44,6 +42,8 @@ pub record PlayedOut (s : Start) (by to : Chooser) (items : List Item) (before n
   pub plays : PlaysOut s.log by to s.polls ended (new_loop s.peer s.roster) last items
   -- what its station told shows fair play
   pub fair : IsFairMatch s.peer s.roster items
+  -- and where it listened, and no call of the log failed, the peer's log at the end is the protocol's run
+  pub steps : (ended ≡ E.KeepFault → ⊥) → FailsNone is_listen_call items → IsLogRun s.peer last.peer.entries
   pub written : Ends before now (peer_answer s.dropped s.polls ended last) status
 
 -- Memory was wanting, and no call was made and nothing written.

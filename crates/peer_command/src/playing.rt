@@ -9,8 +9,8 @@ ghost use Rattle.peer_command.specs.Plays.{PlaysOut, PlaysPeer};
 
 use crate::ends::end;
 use loop_rules::laws::{
-    faults_are_last, given_is_due, histories_grow_by_items, kept_logs_are_honest,
-    reveals_given_are_fair,
+    faults_are_last, given_is_due, histories_grow_by_items, kept_logs_are_honest, logs_are_runs,
+    polls_are_licensed, reveals_given_are_fair,
 };
 use peer_core::Peer;
 use pilots::Pilot;
@@ -72,6 +72,8 @@ pub fn play_peer<S: Station, P: Pilot, R: Rng, O: Sink>(
     given_is_due();
     reveals_given_are_fair();
     kept_logs_are_honest();
+    logs_are_runs();
+    polls_are_licensed();
     let Ok(mut played) = Loop::new(alloc, peer, roster) else {
         return Status::NoMemory;
     };

@@ -28,12 +28,30 @@ use Rattle.ready_loop.specs.declared.beginning.Begun.TheVariants as B
 use Rattle.ready_loop.specs.States.{LoopState, setting_of, kept_of, writer_of, base_of, view_of}
 use Rattle.ready_loop.specs.Steps.{did_by, in_phase, written_for, next_bytes, kept_next, synced_all}
 use Rattle.ready_loop.specs.Beginning.{new_loop, IsNew, Begins}
+use Rattle.ready_loop.specs.Going.{poll_count, polls_of}
 use Rattle.ready_loop.specs.Overs.{logged_on, listens_on, IsTakingOver, TakesOver, SyncsOver}
 use Rattle.ready_loop.proofs.Tests.{both_of}
 use Rattle.ready_loop.proofs.Sorting.{more_kept}
 use Rattle.ready_loop.proofs.Entries.{entry_same, kept_tells, fault_tells}
 use Rattle.ready_loop.proofs.Idle.{still_view, all_kept}
 use Rattle.ready_loop.proofs.Kept.{base_next}
+use Rattle.ready_loop.proofs.Going.{polls_more}
+
+-- one more item that is no poll
+same_polls : (before items after : List Item) (item : Item) → polls_of items ≡ polls_of before → after ≡ items ++ item ∷ [] → poll_count item ≡ 0 → polls_of after ≡ polls_of before
+same_polls before items after item w on none = (let all = ap (λ (xs : List Item). polls_of xs) on in let more = polls_more items item in omega (arith, w, all, more, none))
+
+log_polls : (done : Bool) (name : List ℕ) → poll_count (log_item (did_by done) name) ≡ 0
+log_polls true name = refl
+log_polls false name = refl
+
+sync_polls : (done : Bool) → poll_count (sync_item (did_by done)) ≡ 0
+sync_polls true = refl
+sync_polls false = refl
+
+listen_polls : (done : Bool) (addr : Addr) → poll_count (listen_item (did_by done) addr) ≡ 0
+listen_polls true addr = refl
+listen_polls false addr = refl
 
 told_start : (s : Setting) → IsTold [] (start s)
 told_start s = record { allowed = refl; shown = refl; stand = tt; differ = tt }
@@ -99,13 +117,14 @@ over_shows l e none first lt g =
 pub record Taking (before items : List Item) (l m : LoopState) : Type 0 where
   pub more : List Item
   pub grown : items ≡ before ++ more
+  pub polls : polls_of items ≡ polls_of before
   pub taking : IsTakingOver items m
   pub peer : m.peer ≡ l.peer
   pub setting : setting_of m ≡ setting_of l
   pub synced : m.synced ≡ l.synced
 
 pub taking_first : (items : List Item) (l : LoopState) → IsTakingOver items l → Taking items items l l
-taking_first items l w = record { more = []; grown = sym (append-nil items); taking = w; peer = refl; setting = refl; synced = refl }
+taking_first items l w = record { more = []; grown = sym (append-nil items); polls = refl; taking = w; peer = refl; setting = refl; synced = refl }
 
 -- an entry is there to be kept
 pub entry_there : (es : List Entry) (k : ℕ) → k < length es → (e : Entry) × (slice_get es k ≡ Some e)
@@ -134,6 +153,7 @@ taking_on before items after l m n w lt fits on same =
     subst (λ (x : LoopState). Taking before after l x) (sym same) (record {
       more = w.more ++ Kept (next_bytes m) ∷ [];
       grown = on ∙ ap (λ (xs : List Item). xs ++ Kept (next_bytes m) ∷ []) w.grown ∙ append_assoc before w.more (Kept (next_bytes m) ∷ []);
+      polls = same_polls before items after (Kept (next_bytes m)) w.polls on refl;
       taking = record {
         told = subst (λ (xs : List Item). IsTold xs (view_of (record m { kept = m.kept + 1 }))) (sym on) (over_told true items m e.0 w.taking lt e.1 (fits e.0 e.1));
         logged = w.taking.logged;
@@ -154,6 +174,7 @@ taking_faults before items after l m n w lt fits on same =
     subst (λ (x : LoopState). TakesOver false before after l x) (sym same) (record {
       more = w.more ++ Failed (KeepCall (next_bytes m)) ∷ [];
       grown = on ∙ ap (λ (xs : List Item). xs ++ Failed (KeepCall (next_bytes m)) ∷ []) w.grown ∙ append_assoc before w.more (Failed (KeepCall (next_bytes m)) ∷ []);
+      polls = same_polls before items after (Failed (KeepCall (next_bytes m))) w.polls on refl;
       told = subst (λ (xs : List Item). IsTold xs (view_of (in_phase KeepFault m))) (sym on) (over_told false items m e.0 w.taking lt e.1 (fits e.0 e.1));
       peer = w.peer;
       setting = w.setting;
@@ -188,7 +209,7 @@ pub taking_whole : (p : Phase) → p ≡ Logged → p ≡ KeepFault → ⊥
 taking_whole p e f = (let q : Logged ≡ KeepFault = sym e ∙ f in cc)
 
 pub taking_ends : (before items : List Item) (l m : LoopState) → Taking before items l m → m.kept ≡ length m.peer.entries → TakesOver true before items l m
-taking_ends before items l m w all = record { more = w.more; grown = w.grown; told = w.taking.told; peer = w.peer; setting = w.setting; synced = w.synced; stands = (w.taking, all) }
+taking_ends before items l m w all = record { more = w.more; grown = w.grown; polls = w.polls; told = w.taking.told; peer = w.peer; setting = w.setting; synced = w.synced; stands = (w.taking, all) }
 
 pub taking_all : (before items : List Item) (l m : LoopState) → Taking before items l m → m.over ≤ m.kept → TakesOver true before items l m
 taking_all before items l m w le = taking_ends before items l m w (let all = w.taking.over in let few = w.taking.few in let e : m.kept ≡ length m.peer.entries = omega (arith, all, few, le) in e)
@@ -200,6 +221,7 @@ pub record IsOverKept (name : List ℕ) (items : List Item) (l m : LoopState) : 
   pub taking : IsTakingOver items m
   pub kept : m.kept ≡ length m.peer.entries
   pub named : BeginsLog name items
+  pub polls : polls_of items ≡ 0
   pub peer : m.peer ≡ l.peer
   pub setting : setting_of m ≡ setting_of l
 
@@ -230,13 +252,14 @@ pub syncs_over : (done : Bool) (items after : List Item) (m n : LoopState) → I
 syncs_over done items after m n w kept lt on same = record {
   more = sync_item (did_by done) ∷ [];
   grown = on;
+  polls = same_polls items items after (sync_item (did_by done)) refl on (sync_polls done);
   told = subst (λ (x : LoopState). IsTold after (view_of x)) (sym same) (subst (λ (xs : List Item). IsTold xs (view_of (synced_all done m))) (sym on) (sync_over_told done items m w kept lt));
   same = same;
 }
 
 -- nothing is to be synced
 pub syncs_over_none : (items : List Item) (i m : LoopState) → i ≡ m → IsTakingOver items m → i.synced ≡ i.kept → SyncsOver true items items m m
-syncs_over_none items i m is w same = let e = subst (λ (x : LoopState). x.synced ≡ x.kept) is same in record { more = []; grown = sym (append-nil items); told = w.told; same = ap (λ (n : ℕ). record m { synced = n }) e }
+syncs_over_none items i m is w same = let e = subst (λ (x : LoopState). x.synced ≡ x.kept) is same in record { more = []; grown = sym (append-nil items); polls = refl; told = w.told; same = ap (λ (n : ℕ). record m { synced = n }) e }
 
 same_addr : (a : Addr) → addr_eq a a ≡ true
 same_addr a = both_of _ _ ((bytes_eq-Decides a.ip a.ip).1 refl) (eq-eqb a.port a.port refl)
@@ -265,12 +288,17 @@ listens done name items after l m n w synced on same = (
 
 -- ---- a whole beginning
 
+-- no poll stands in the first item
+log_none : (r : Bool) (name : List ℕ) (items after : List Item) → items ≡ [] → after ≡ items ++ log_item (did_by r) name ∷ [] → polls_of after ≡ 0
+log_none r name items after none on = same_polls [] items after (log_item (did_by r) name) (ap (λ (xs : List Item). polls_of xs) none) on (log_polls r name)
+
 pub begins_unlogged : (r : Bool) (name : List ℕ) (items after : List Item) (l m : LoopState) → IsNew l → items ≡ [] → after ≡ items ++ log_item (did_by r) name ∷ [] → m ≡ logged_on r l → r ≡ false → Begins name B.KeepFault l m after
 begins_unlogged r name items after l m new none on same no_log =
     let begun : m ≡ logged_on false l = same ∙ ap (λ (b : Bool). logged_on b l) no_log in
     record {
       told = log_told r items after name l m new none on same;
       named = subst (BeginsLog name) (append-nil after) (log_named r items after [] name none on);
+      polls = log_none r name items after none on;
       peer = ap (λ (x : LoopState). x.peer) begun;
       setting = ap setting_of begun;
       stands = ap (λ (x : LoopState). x.phase) begun;
@@ -283,6 +311,7 @@ takes_first r name items after l m new none on same logged =
 -- behind the log and the entries taken over
 pub record IsLogged (name : List ℕ) (items after : List Item) (l m n : LoopState) : Type 0 where
   pub named : BeginsLog name after
+  pub polls : polls_of after ≡ 0
   pub peer : n.peer ≡ l.peer
   pub setting : setting_of n ≡ setting_of l
 
@@ -291,6 +320,7 @@ logged_so r s name items mid after l m n none on same logged t =
     let begun : m ≡ logged_on true l = same ∙ ap (λ (b : Bool). logged_on b l) logged in
     record {
       named = subst (BeginsLog name) (sym t.grown) (log_named r items mid t.more name none on);
+      polls = t.polls ∙ log_none r name items mid none on;
       peer = t.peer ∙ ap (λ (x : LoopState). x.peer) begun;
       setting = t.setting ∙ ap setting_of begun;
     }
@@ -298,12 +328,12 @@ logged_so r s name items mid after l m n none on same logged t =
 pub begins_unkept : (s : Bool) (name : List ℕ) (mid after : List Item) (l m n : LoopState) → IsLogged name mid after l m n → TakesOver s mid after m n → s ≡ false → Begins name B.KeepFault l n after
 begins_unkept s name mid after l m n w t no_keep =
     let u = subst (λ (b : Bool). TakesOver b mid after m n) no_keep t in
-    record { told = u.told; named = w.named; peer = w.peer; setting = w.setting; stands = u.stands }
+    record { told = u.told; named = w.named; polls = w.polls; peer = w.peer; setting = w.setting; stands = u.stands }
 
 pub over_kept : (s : Bool) (name : List ℕ) (mid after : List Item) (l m n : LoopState) → IsLogged name mid after l m n → TakesOver s mid after m n → s ≡ true → IsOverKept name after l n
 over_kept s name mid after l m n w t all =
     let u = subst (λ (b : Bool). TakesOver b mid after m n) all t in
-    record { taking = u.stands.0; kept = u.stands.1; named = w.named; peer = w.peer; setting = w.setting }
+    record { taking = u.stands.0; kept = u.stands.1; named = w.named; polls = w.polls; peer = w.peer; setting = w.setting }
 
 pub begins_unsynced : (r : Bool) (name : List ℕ) (items after : List Item) (l m n : LoopState) → IsOverKept name items l m → SyncsOver r items after m n → r ≡ false → Begins name B.KeepFault l n after
 begins_unsynced r name items after l m n w s no_sync =
@@ -311,6 +341,7 @@ begins_unsynced r name items after l m n w s no_sync =
     record {
       told = s.told;
       named = subst (BeginsLog name) (sym s.grown) (named_on name items s.more w.named);
+      polls = s.polls ∙ w.polls;
       peer = ap (λ (x : LoopState). x.peer) same ∙ w.peer;
       setting = ap setting_of same ∙ w.setting;
       stands = ap (λ (x : LoopState). x.phase) same;
@@ -330,11 +361,16 @@ over_synced r name items after l m n w s all =
         };
         kept = ap (λ (x : LoopState). x.kept) same ∙ w.kept ∙ sym (ap (λ (x : LoopState). length x.peer.entries) same);
         named = subst (BeginsLog name) (sym s.grown) (named_on name items s.more w.named);
+        polls = s.polls ∙ w.polls;
         peer = ap (λ (x : LoopState). x.peer) same ∙ w.peer;
         setting = ap setting_of same ∙ w.setting;
       },
       ap (λ (x : LoopState). x.synced) same ∙ sym (ap (λ (x : LoopState). x.kept) same),
     )
+
+-- nor in the beginning's last one
+listened_none : (r : Bool) (name : List ℕ) (items after : List Item) (l m : LoopState) → IsOverKept name items l m → after ≡ items ++ listen_item (did_by r) (told_addr m.roster.me) ∷ [] → polls_of after ≡ 0
+listened_none r name items after l m w on = same_polls items items after (listen_item (did_by r) (told_addr m.roster.me)) refl on (listen_polls r (told_addr m.roster.me)) ∙ w.polls
 
 pub begins_ready : (name : List ℕ) (r : Bool) (items after : List Item) (l m n : LoopState) → IsOverKept name items l m × (m.synced ≡ m.kept) → after ≡ items ++ listen_item (did_by r) (told_addr m.roster.me) ∷ [] → n ≡ listens_on r m → r ≡ true → Begins name B.Ready l n after
 begins_ready name r items after l m n both on state done =
@@ -345,6 +381,7 @@ begins_ready name r items after l m n both on state done =
     record {
       told = t.0;
       named = t.1;
+      polls = listened_none r name items after l m w on;
       peer = ap (λ (x : LoopState). x.peer) same ∙ w.peer;
       setting = ap setting_of same ∙ w.setting;
       stands = (
@@ -367,6 +404,7 @@ begins_poll_fault name r items after l m n both on state deaf =
     record {
       told = t.0;
       named = t.1;
+      polls = listened_none r name items after l m w on;
       peer = ap (λ (x : LoopState). x.peer) same ∙ w.peer;
       setting = ap setting_of same ∙ w.setting;
       stands = record {

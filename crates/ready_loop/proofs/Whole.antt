@@ -1,5 +1,5 @@
 -- Whole: a run from its beginning to its end makes a whole history.
-use Rattle.std.proofs.Common.{inl, inr, ◌≡◌, ℕ, ◌+◌, Bool, true, refl, sym, ap, subst, ◌∙◌, List, [], ◌++◌, drop, take-append-drop, arith, length}
+use Rattle.std.proofs.Common.{inl, inr, ◌≡◌, ℕ, ◌+◌, Bool, true, refl, sym, ap, subst, ◌∙◌, ◌≤◌, List, [], ◌++◌, drop, take-append-drop, arith, length}
 use Rattle.std.specs.Prelude.{Option, ◌⊎◌}
 use Rattle.std.proofs.Math.Seq.{take-length}
 use Rattle.definitions.specs.declared.logs.Entry.{Entry}
@@ -21,7 +21,7 @@ use Rattle.ready_loop.specs.declared.polling.Ended.{Ended}
 use Rattle.ready_loop.specs.declared.polling.Ended.TheVariants as E
 use Rattle.ready_loop.specs.States.{LoopState, setting_of, kept_of, base_of, rest_of, view_of}
 use Rattle.ready_loop.specs.Choices.{ChoosesBy}
-use Rattle.ready_loop.specs.Going.{IsDeaf}
+use Rattle.ready_loop.specs.Going.{IsDeaf, polls_of}
 use Rattle.ready_loop.specs.Beginning.{given_by, IsNew, StandsBegun}
 use Rattle.ready_loop.specs.Settling.{IsWhole, ChoosesIn, StandsSettled}
 use Rattle.ready_loop.specs.Polling.{GoesBy, round_of, StandsEnded}
@@ -115,7 +115,7 @@ told_whole s name end items n told same named stops = record {
     go (inr w) = inr (subst (λ (v : View). EndsWhole end v (kept_of n)) (sym shown) (ends_whole end n w))
 
 -- what a new loop goes by is what it was given
-new_setting : (l : LoopState) → IsNew l → setting_of l ≡ given_by l.peer l.roster
+pub new_setting : (l : LoopState) → IsNew l → setting_of l ≡ given_by l.peer l.roster
 new_setting l new = ap setting_of new ∙ ap (λ (es : List Entry). record (given_by l.peer l.roster) { over = es }) (take-length l.peer.entries)
 
 pub beginnings_are_histories : BeginningsAreHistories
@@ -123,6 +123,10 @@ beginnings_are_histories name begun l m items new w = told_whole (given_by l.pee
 
 pub runs_are_whole : RunsAreWhole
 runs_are_whole name by to polls ended l m n start items new b w = record {
+  setting = w.goes.setting ∙ b.setting ∙ new_setting l new;
+  told = w.goes.told;
+  few = subst (λ (k : ℕ). k ≤ polls) (sym made) w.few;
+  stands = subst (λ (k : ℕ). StandsEnded by.plan polls k ended n) (sym made) w.stands;
   history = told_whole (given_by l.peer l.roster) name (end_of ended) items n w.goes.told (w.goes.setting ∙ b.setting ∙ new_setting l new)
       (subst (BeginsLog name) (sym w.goes.grown) (named_on name start w.goes.more b.named)) (ended_stops by.plan polls w.made ended n w.stands);
   kept = ended_kept by.plan polls w.made ended n w.stands;
@@ -130,6 +134,9 @@ runs_are_whole name by to polls ended l m n start items new b w = record {
   refuses = w.refuses;
   choices = subst (λ (p : PeerState). ChoosesBy p.game p.me by to w.refused p.entries n.peer.entries) b.peer w.choices;
 }
+  where
+    made : polls_of items ≡ w.made
+    made = (let first = b.polls in let all = w.goes.polls in omega (arith, first, all))
 
 -- ---- rounds and runs
 

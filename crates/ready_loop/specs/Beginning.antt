@@ -11,7 +11,7 @@ use Rattle.loop_rules.specs.Told.{IsTold}
 use Rattle.ready_loop.specs.declared.beginning.Begun.{Begun}
 use Rattle.ready_loop.specs.declared.beginning.Begun.TheVariants as B
 use Rattle.ready_loop.specs.States.{LoopState, setting_of, view_of}
-use Rattle.ready_loop.specs.Going.{IsIdle, IsDeaf}
+use Rattle.ready_loop.specs.Going.{IsIdle, IsDeaf, polls_of}
 
 -- a loop of the peer with these neighbours goes on from the peer's entries
 abbrev pub given_by : PeerState → Neighbours → Setting
@@ -40,10 +40,11 @@ StandsBegun B.Ready l = IsIdle l × (l.synced ≡ l.kept)
 StandsBegun B.KeepFault l = l.phase ≡ KeepFault
 StandsBegun B.PollFault l = IsDeaf l
 
--- The history is one by the rules, of a log of that name, and shows what the loop knows; and the peer is the same.
+-- The history is one by the rules, of a log of that name, with no poll in it, and shows what the loop knows; and the peer is the same.
 pub record Begins (name : List ℕ) (begun : Begun) (l m : LoopState) (items : List Item) : Type 0 where
   pub told : IsTold items (view_of m)
   pub named : BeginsLog name items
+  pub polls : polls_of items ≡ 0
   pub peer : m.peer ≡ l.peer
   pub setting : setting_of m ≡ setting_of l
   pub stands : StandsBegun begun m

@@ -1,7 +1,8 @@
 -- Laws: what holds of a whole run, from its beginning to its end.
-use Rattle.std.specs.Prelude.{◌≡◌, ℕ, ◌+◌, Bool, false, List}
+use Rattle.std.specs.Prelude.{◌≡◌, ◌≤◌, ℕ, ◌+◌, Bool, false, List}
 use Rattle.socket_station.specs.Items.{Item}
 use Rattle.loop_rules.specs.Histories.{RunEnd, Handled, AtOwnMove, IsHistoryOf}
+use Rattle.loop_rules.specs.Told.{IsTold}
 use Rattle.ready_loop.specs.declared.beginning.Begun.{Begun}
 use Rattle.ready_loop.specs.declared.beginning.Begun.TheVariants as B
 use Rattle.ready_loop.specs.declared.settling.Settled.{Settled}
@@ -9,11 +10,12 @@ use Rattle.ready_loop.specs.declared.polling.Round.{Round}
 use Rattle.ready_loop.specs.declared.polling.Round.TheVariants as R
 use Rattle.ready_loop.specs.declared.polling.Ended.{Ended}
 use Rattle.ready_loop.specs.declared.polling.Ended.TheVariants as E
-use Rattle.ready_loop.specs.States.{LoopState, kept_of}
+use Rattle.ready_loop.specs.States.{LoopState, kept_of, setting_of, view_of}
 use Rattle.ready_loop.specs.Choices.{Chooser, ChoosesBy}
 use Rattle.ready_loop.specs.Beginning.{given_by, IsNew, Begins}
+use Rattle.ready_loop.specs.Going.{polls_of}
 use Rattle.ready_loop.specs.Settling.{Settles}
-use Rattle.ready_loop.specs.Polling.{is_round_on, ended_of, ended_at, Rounds, RefusesEnded, Ends}
+use Rattle.ready_loop.specs.Polling.{is_round_on, ended_of, ended_at, Rounds, StandsEnded, RefusesEnded, Ends}
 
 -- however a beginning ends, its history is a whole one, of what the loop was given and of the log kept
 abbrev pub BeginningsAreHistories : Type 0
@@ -29,10 +31,15 @@ end_of E.KeepFault = Handled
 end_of (E.OwnMove turn fault) = AtOwnMove
 end_of E.GaveUp = Handled
 
--- From the new loop `l` to `n`: the history is a whole one, of what the loop was given and of the log kept; that log is the peer's, where no call
--- of the log failed, and else its front; and its choices are those taken over and further ones by the chooser.
-pub record IsRun (name : List ℕ) (by to : Chooser) (ended : Ended) (l n : LoopState) (items : List Item) : Type 0 where
+-- From the new loop `l` to `n`, with so many polls granted: the history is a whole one, of what the loop was given and of the log kept, and shows what
+-- the loop knows at its end; it has no more polls than were granted, and the run ended so for its reason, by the polls in it; that log is the peer's,
+-- where no call of the log failed, and else its front; and its choices are those taken over and further ones by the chooser.
+pub record IsRun (name : List ℕ) (by to : Chooser) (polls : ℕ) (ended : Ended) (l n : LoopState) (items : List Item) : Type 0 where
   pub history : IsHistoryOf (given_by l.peer l.roster) name (end_of ended) items (kept_of n)
+  pub setting : setting_of n ≡ given_by l.peer l.roster
+  pub told : IsTold items (view_of n)
+  pub few : polls_of items ≤ polls
+  pub stands : StandsEnded by.plan polls (polls_of items) ended n
   pub kept : (ended ≡ E.KeepFault → ⊥) → kept_of n ≡ n.peer.entries
   pub refused : Bool
   pub refuses : RefusesEnded ended refused
@@ -41,7 +48,7 @@ pub record IsRun (name : List ℕ) (by to : Chooser) (ended : Ended) (l n : Loop
 -- a new loop that is begun and then plays to an end makes a whole run
 abbrev pub RunsAreWhole : Type 0
 RunsAreWhole = (name : List ℕ) (by to : Chooser) (polls : ℕ) (ended : Ended) (l m n : LoopState) (start items : List Item) → IsNew l → Begins name B.Ready l m start → Ends by to polls ended start items m n →
-    IsRun name by to ended l n items
+    IsRun name by to polls ended l n items
 
 -- a settling is the end of a run with no further poll, and so is a round that ends it
 abbrev pub SettlingsEndRuns : Type 0

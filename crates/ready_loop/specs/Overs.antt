@@ -5,6 +5,7 @@ use Rattle.loop_rules.specs.declared.phases.Phase.TheVariants.{Logged, Running, 
 use Rattle.loop_rules.specs.Told.{IsTold}
 use Rattle.ready_loop.specs.States.{LoopState, setting_of, view_of}
 use Rattle.ready_loop.specs.Steps.{in_phase, synced_all}
+use Rattle.ready_loop.specs.Going.{polls_of}
 
 -- the log was begun, or that failed
 abbrev pub logged_on : (done : Bool) → LoopState → LoopState
@@ -33,6 +34,7 @@ StandsOver false items m = m.phase ≡ KeepFault
 pub record TakesOver (done : Bool) (before after : List Item) (l m : LoopState) : Type 0 where
   pub more : List Item
   pub grown : after ≡ before ++ more
+  pub polls : polls_of after ≡ polls_of before
   pub told : IsTold after (view_of m)
   pub peer : m.peer ≡ l.peer
   pub setting : setting_of m ≡ setting_of l
@@ -43,5 +45,6 @@ pub record TakesOver (done : Bool) (before after : List Item) (l m : LoopState) 
 pub record SyncsOver (done : Bool) (before after : List Item) (l m : LoopState) : Type 0 where
   pub more : List Item
   pub grown : after ≡ before ++ more
+  pub polls : polls_of after ≡ polls_of before
   pub told : IsTold after (view_of m)
   pub same : m ≡ synced_all done l

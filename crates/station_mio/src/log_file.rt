@@ -1,5 +1,8 @@
 //! The log of a station as a file of the machine.
 
+ghost use Rattle.std.specs.Prelude.{OnOk};
+ghost use Rattle.std.specs.Io.KnownBytes.{Appends};
+
 use std::fs::OpenFile;
 use std::io::{self, ErrorKind, Write};
 use std::rt::Files;
@@ -40,7 +43,9 @@ pub(crate) fn create<R: Files>(files: &R, path: &[u8]) -> io::Result<LogFile<R::
 }
 
 /// Appends all these bytes. Behind an error some of them may stand in the file.
-pub(crate) fn append<F: Write>(log: &mut LogFile<F>, bytes: &[u8]) -> io::Result<()> {
+pub(crate) fn append<F: Write>(log: &mut LogFile<F>, bytes: &[u8]) -> io::Result<()>
+    ensures { OnOk result (Appends (F.contents log.old.file) (F.contents log.new.file) bytes.now) }
+{
     log.file.write_all(bytes)
 }
 

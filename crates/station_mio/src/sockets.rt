@@ -1,6 +1,11 @@
 //! The sockets of a station: one that listens, and those that were accepted or dialled.
 
-ghost use Rattle.std.specs.Prelude.{◌≡◌, ◌<◌, ◌+◌, ◌-◌, ◌^◌, ℕ, length, IfOk, IfSome, IfNone, IsTrue};
+ghost use Rattle.std.specs.Prelude.{◌≡◌, ◌<◌, ◌==◌, ◌+◌, ◌-◌, ◌^◌, ◌++◌, ◌∷◌, [], ℕ, length, IfOk, IfSome, IfNone, IsTrue};
+ghost use Rattle.std.specs.List.{position};
+ghost use Rattle.std.specs.Net.Addr.{ipv4_octets};
+ghost use Rattle.std.specs.Net.Socket.{socket_ip, socket_port};
+ghost use Rattle.std.specs.declared.net.ip_addr.IpAddr.TheVariants as Ip;
+ghost use Rattle.std.specs.declared.net.ipv4_addr.Ipv4Addr.{Ipv4Addr as V4Addr};
 ghost use Rattle.socket_station.specs.Withins.{TakesWithin, GivesWithin};
 ghost use Rattle.station_mio.specs.Numbers.{OpensBetween, DialsBetween};
 
@@ -57,7 +62,10 @@ pub(crate) struct Sockets<R> {
 }
 
 /// The machine's form of an address.
-fn socket_addr(addr: Addr) -> SocketAddr {
+fn socket_addr(addr: Addr) -> SocketAddr
+    ensures ip { (ip : V4Addr) × (socket_ip result ≡ Ip.V4 ip) × (ipv4_octets ip ≡ addr.ip) }
+    ensures port { socket_port result ≡ addr.port }
+{
     let [a, b, c, d] = addr.ip;
     SocketAddr::from((Ipv4Addr::new(a, b, c, d), addr.port))
 }
@@ -286,6 +294,7 @@ impl<R: Net + Clock + Drop> Sockets<R> {
         requires { self.old.next < 2 ^ 32 - 1 }
         ensures some { IfSome result (λ s. (s ≡ self.old.next) × (self.new.next ≡ s + 1)) }
         ensures none { IfNone result (self.new.next ≡ self.old.next) }
+        ensures row { IfSome result (λ s. self.new.rows.items ≡ self.old.rows.items ++ (record { number = s; wire = wire }) ∷ []) }
     {
         let number = self.next;
         let row = Row { number, wire };
@@ -491,7 +500,8 @@ impl<R: Net + Clock + Drop> Sockets<R> {
 
     /// Closes a socket.
     pub(crate) fn shut(&mut self, socket: SocketId)
-        ensures { self.new.next ≡ self.old.next }
+        ensures next { self.new.next ≡ self.old.next }
+        ensures one { IfSome (position (λ row. row.number == socket) self.old.rows.items) (λ i. length self.new.rows.items + 1 ≡ length self.old.rows.items) }
     {
         remove(&mut self.rows, socket);
     }

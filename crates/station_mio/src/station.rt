@@ -1,6 +1,6 @@
 //! The machine's sockets and a log file as a station.
 
-ghost use Rattle.std.specs.Prelude.{◌≡◌, [], IfOk};
+ghost use Rattle.std.specs.Prelude.{◌≡◌, [], IfOk, OnOk, OnErr};
 ghost use Rattle.station_mio.specs.Numbers.{AreUnused};
 
 use crate::log_file::{self, LogFile};
@@ -25,7 +25,10 @@ pub struct MioStation<R: Files> {
 }
 
 /// What is answered to a call of the machine.
-fn did(made: io::Result<()>) -> Did {
+fn did(made: io::Result<()>) -> Did
+    ensures done { OnOk made (result ≡ Did.Done) }
+    ensures failed { OnErr made (result ≡ Did.Failed) }
+{
     match made {
         Ok(()) => Did::Done,
         Err(_) => Did::Failed,

@@ -256,38 +256,56 @@ fn ends_behind_what_it_gave(rt: HostRuntime) -> Result<(), Fail> {
     Ok(())
 }
 
-#[test]
-fn keeps_a_log_in_a_new_file(rt: HostRuntime) -> Result<(), Fail> {
+/// Whether nothing is kept before there is a log, and none is begun where there can be none.
+fn keeps_nothing<S: Station>(station: &mut S) -> bool {
+    station.keep(b"a") == Did::Failed
+        && station.sync() == Did::Failed
+        && station.log_to(b"/tmp/not there/a.log") == Did::Failed
+        && station.log_to(b"/tmp/\xff") == Did::Failed
+        && station.log_to(b"") == Did::Failed
+}
+
+/// Whether a log of five bytes is begun, kept in two pieces, and synced behind each.
+fn keeps_five<S: Station>(station: &mut S, path: &str) -> bool {
+    station.log_to(path.as_bytes()) == Did::Done
+        && station.keep(b"ab") == Did::Done
+        && station.sync() == Did::Done
+        && station.keep(b"cde") == Did::Done
+        && station.sync() == Did::Done
+}
+
+/// Whether the file has these five bytes.
+fn has_five(rt: &HostRuntime, path: &str) -> Result<bool, Fail> {
+    Ok(fs::read(rt, path)?.as_slice() == b"abcde".as_slice())
+}
+
+/// Whether no log is begun in a file that is there.
+fn begins_none(rt: &HostRuntime, path: &str) -> Result<bool, Fail> {
+    let mut station = MioStation::new(rt, rt.alloc())?;
+    Ok(station.log_to(path.as_bytes()) == Did::Failed)
+}
+
+/// The path of a file that isn't there.
+fn free_path(rt: &HostRuntime) -> Result<String, Fail> {
     let id = process::id(rt.process());
     let path = format!(in rt.alloc(); "/tmp/station_mio_{id}.log")?;
-    if fs::exists(&rt, path.as_str())? {
-        fs::remove_file(&rt, path.as_str())?;
+    if fs::exists(rt, path.as_str())? {
+        fs::remove_file(rt, path.as_str())?;
     }
-    let mut station = MioStation::new(&rt, rt.alloc())?;
-    // before there is a log, and where there can be none
-    assert_eq!(rt; station.keep(b"a"), Did::Failed);
-    assert_eq!(rt; station.sync(), Did::Failed);
-    assert_eq!(rt; station.log_to(b"/tmp/not there/a.log"), Did::Failed);
-    assert_eq!(rt; station.log_to(b"/tmp/\xff"), Did::Failed);
-    assert_eq!(rt; station.log_to(b""), Did::Failed);
+    Ok(path)
+}
 
-    assert_eq!(rt; station.log_to(path.as_bytes()), Did::Done);
-    assert_eq!(rt; station.keep(b"ab"), Did::Done);
-    assert_eq!(rt; station.sync(), Did::Done);
-    assert_eq!(rt; station.keep(b"cde"), Did::Done);
-    assert_eq!(rt; station.sync(), Did::Done);
-    assert_eq!(rt;
-        fs::read(&rt, path.as_str())?.as_slice(),
-        b"abcde".as_slice()
-    );
+/// Whether that path's log is kept, and stays as it is.
+fn keeps_a_log(rt: &HostRuntime, path: &str) -> Result<bool, Fail> {
+    let mut station = MioStation::new(rt, rt.alloc())?;
+    let kept = keeps_nothing(&mut station) && keeps_five(&mut station, path);
+    Ok(kept && has_five(rt, path)? && begins_none(rt, path)? && has_five(rt, path)?)
+}
 
-    // a log that is there stays as it is
-    let mut later = MioStation::new(&rt, rt.alloc())?;
-    assert_eq!(rt; later.log_to(path.as_bytes()), Did::Failed);
-    assert_eq!(rt;
-        fs::read(&rt, path.as_str())?.as_slice(),
-        b"abcde".as_slice()
-    );
+#[test]
+fn keeps_a_log_in_a_new_file(rt: HostRuntime) -> Result<(), Fail> {
+    let path = free_path(&rt)?;
+    assert!(rt; keeps_a_log(&rt, path.as_str())?);
     fs::remove_file(&rt, path.as_str())?;
     Ok(())
 }

@@ -1,0 +1,319 @@
+//! Frames of a player who breaks the protocol, or sends them in another order than they were made.
+
+use crate::floods::{bring, hear};
+use acceptance_loops::audits::{replayed, report_of};
+use acceptance_loops::greets::{commit, hello, put, reveal, stays};
+use acceptance_loops::grounds::{NEAR, session_of};
+use acceptance_loops::heard::Call;
+use acceptance_loops::nets::Net;
+use acceptance_loops::setups::{STAY_0, alone, script_of};
+use acceptance_loops::sides::{NARROW, Player};
+use definitions::{Cell, Entry, Finding, Kind, Move, Opening, Spot, Turn, TurnFrame};
+use grid_world::Session;
+use peer_core::Peer;
+use ready_loop::Ended;
+use std::alloc::Global;
+use std::test::Fail;
+use wire_frames::Frame;
+
+/// Adds all of these frames.
+fn put_all(out: &mut Vec<u8>, frames: &[Frame]) -> Result<(), Fail> {
+    for frame in frames {
+        put(out, frame)?;
+    }
+    Ok(())
+}
+
+/// A greeting of player 1 comes, and behind it these frames in one piece, and all is handled.
+fn hear_all(
+    alloc: Global,
+    session: &Session,
+    side: &mut Player,
+    frames: &[Frame],
+) -> Result<(), Fail> {
+    let mut pilot = script_of(alloc, STAY_0, session)?;
+    let mut out = Vec::new(alloc);
+    put_all(&mut out, frames)?;
+    side.round(&mut pilot);
+    bring(alloc, side, 0, &hello(session, 1, 0, 0))?;
+    hear(side, &mut pilot);
+    side.bring(alloc, 0, &out, 4096)?;
+    hear(side, &mut pilot);
+    Ok(())
+}
+
+/// Player 0 alone, that hears these frames of player 1.
+fn hearing(alloc: Global, session: &Session, frames: &[Frame]) -> Result<Net, Fail> {
+    let mut net = alone(alloc, session, 0, NARROW)?;
+    match net.sides.get_mut(0) {
+        None => return Err("no side".into()),
+        Some(side) => hear_all(alloc, session, side, frames)?,
+    }
+    Ok(net)
+}
+
+/// The move of player 1 to a cell of the row in turn 0.
+fn goes_to(x: u16) -> Opening {
+    Opening {
+        mv: Move {
+            to: Cell { x, y: 0 },
+            strike: None,
+        },
+        ..stays(1, 0, 4)
+    }
+}
+
+/// A finding about turn 0 of player 1 in the one log.
+fn found(kind: Kind, first: u32, second: u32) -> Finding {
+    Finding {
+        player: 1,
+        turn: 0,
+        kind,
+        first: Spot {
+            log: 0,
+            entry: first,
+        },
+        second: Spot {
+            log: 0,
+            entry: second,
+        },
+    }
+}
+
+/// Frames that together show a breach, the finding, and how many entries and own frames the log has with it.
+#[derive(Clone, Copy, Debug, PartialEq, Eq)]
+struct Breach {
+    first: Frame,
+    second: Frame,
+    finding: Finding,
+    entries: usize,
+    made: u32,
+}
+
+/// Player 0 has a choice and a commitment, and behind a commitment of player 1 it reveals.
+fn breaches(session: &Session) -> [Breach; 3] {
+    let stay = goes_to(4);
+    let step = goes_to(5);
+    let leap = goes_to(6);
+    [
+        Breach {
+            first: Frame::Turn(commit(session, &stay)),
+            second: Frame::Turn(commit(session, &step)),
+            finding: found(Kind::TwoCommits, 2, 4),
+            entries: 5,
+            made: 2,
+        },
+        Breach {
+            first: Frame::Turn(commit(session, &stay)),
+            second: Frame::Turn(reveal(&step)),
+            finding: found(Kind::BadOpening, 2, 4),
+            entries: 5,
+            made: 2,
+        },
+        // two steps are too far, and the reveal came first
+        Breach {
+            first: Frame::Turn(reveal(&leap)),
+            second: Frame::Turn(commit(session, &leap)),
+            finding: found(Kind::Illegal, 2, 3),
+            entries: 4,
+            made: 1,
+        },
+    ]
+}
+
+/// Player 0 that hears the frames of a breach, and behind them a third one, which is not handled any more.
+fn breached(alloc: Global, session: &Session, breach: &Breach) -> Result<Net, Fail> {
+    let behind = Frame::Turn(commit(session, &stays(1, 1, 4)));
+    let frames = [breach.first, breach.second, behind];
+    hearing(alloc, session, &frames)
+}
+
+/// Whether the log with the finding is kept and synced by the last call, and behind it no reveal is given.
+fn has_stopped(alloc: Global, side: &Player, breach: &Breach) -> Result<bool, Fail> {
+    let station = side.station();
+    let peer = side.peer();
+    Ok(
+        peer.entries().len() == breach.entries
+            && peer.made_count() == breach.made
+            && side.heard().call(station.calls()) == Some(Call::Sync)
+            && side.given(alloc, 0, 0)?.len() == 56 + 40
+            && station.is_open(0),
+    )
+}
+
+/// Whether whoever has what a crash leaves of the log, which is all that was kept, finds the same.
+fn log_shows(
+    alloc: Global,
+    session: &Session,
+    side: &Player,
+    finding: Finding,
+) -> Result<bool, Fail> {
+    let image = side.image(alloc, b"")?;
+    let kept = replayed(alloc, session, 0, &image)?;
+    let report = report_of(alloc, session, &[&image])?;
+    Ok(
+        side.station().kept() == image.as_slice()
+            && kept.finding() == Some(finding)
+            && report.findings() == [finding].as_slice(),
+    )
+}
+
+/// Whether the breach ends the run, with a log that shows it.
+fn is_caught(alloc: Global, session: &Session, breach: &Breach) -> Result<bool, Fail> {
+    let net = breached(alloc, session, breach)?;
+    let side = net.side(0)?;
+    let finding = breach.finding;
+    Ok(
+        side.ended() == Some(Ended::Caught(finding))
+            && has_stopped(alloc, side, breach)?
+            && log_shows(alloc, session, side, finding)?,
+    )
+}
+
+#[test]
+fn a_breach_ends_the_run(rt: HostRuntime) -> Result<(), Fail> {
+    let alloc = rt.alloc();
+    let session = session_of(alloc, NEAR)?;
+    for breach in breaches(&session) {
+        let kind = breach.finding.kind;
+        assert!(rt; is_caught(alloc, &session, &breach)?, "{kind:?}");
+    }
+    Ok(())
+}
+
+/// The commitment to turn 1, the reveal of turn 0 and the commitment to it, and that once more: it is the same, and is not logged.
+fn disorder(session: &Session) -> [TurnFrame; 4] {
+    let first = commit(session, &stays(1, 0, 4));
+    [
+        commit(session, &stays(1, 1, 4)),
+        reveal(&stays(1, 0, 4)),
+        first,
+        first,
+    ]
+}
+
+/// Player 0 that hears these frames of player 1.
+fn disordered(alloc: Global, session: &Session, frames: &[TurnFrame; 4]) -> Result<Net, Fail> {
+    let frames = [
+        Frame::Turn(frames[0]),
+        Frame::Turn(frames[1]),
+        Frame::Turn(frames[2]),
+        Frame::Turn(frames[3]),
+    ];
+    hearing(alloc, session, &frames)
+}
+
+/// Whether the log got the first three frames in the order in which they came, behind an own choice and commitment.
+fn got_in_order(peer: &Peer, frames: &[TurnFrame; 4]) -> bool {
+    let entries = peer.entries();
+    entries.get(2).copied() == Some(Entry::Got(1, frames[0]))
+        && entries.get(3).copied() == Some(Entry::Got(1, frames[1]))
+        && entries.get(4).copied() == Some(Entry::Got(1, frames[2]))
+}
+
+/// Whether there are two choices, two commitments and two reveals of its own, and three frames that came.
+fn has_played_two(peer: &Peer) -> bool {
+    if peer.session().players() != 2 {
+        return false;
+    }
+    let view = peer.player(1);
+    peer.entries().len() == 9
+        && peer.made_count() == 4
+        && peer.turn() == 2
+        && view.next == 3
+        && view.track.at == Cell { x: 4, y: 0 }
+}
+
+/// Whether frames that come in another order than they were made count, and the run goes on.
+fn count_in_disorder(alloc: Global, session: &Session) -> Result<bool, Fail> {
+    let frames = disorder(session);
+    let net = disordered(alloc, session, &frames)?;
+    let side = net.side(0)?;
+    // two own turns are given
+    Ok(
+        side.ended().is_none()
+            && has_played_two(side.peer())
+            && got_in_order(side.peer(), &frames)
+            && side.given(alloc, 0, 0)?.len() == 56 + 2 * 85,
+    )
+}
+
+#[test]
+fn frames_count_in_any_order(rt: HostRuntime) -> Result<(), Fail> {
+    let alloc = rt.alloc();
+    let session = session_of(alloc, NEAR)?;
+    assert!(rt; count_in_disorder(alloc, &session)?);
+    Ok(())
+}
+
+/// Player 0 that hears one frame of player 1, the commitment or the reveal of this turn.
+fn hearing_one(alloc: Global, session: &Session, turn: Turn, is_reveal: bool) -> Result<Net, Fail> {
+    let opening = stays(1, turn, 4);
+    let frame = if is_reveal {
+        reveal(&opening)
+    } else {
+        commit(session, &opening)
+    };
+    hearing(alloc, session, &[Frame::Turn(frame)])
+}
+
+/// Whether place 0 is asked for behind a greeting and a commitment, or nothing stands there.
+fn asks(alloc: Global, side: &Player, is_asked: bool) -> Result<bool, Fail> {
+    let mut want = Vec::new(alloc);
+    if is_asked {
+        put(&mut want, &Frame::Want { place: 0 })?;
+    }
+    let given = side.given(alloc, 0, 96)?;
+    Ok(given.as_slice() == want.as_slice())
+}
+
+/// A frame of this turn, whether place 0 is asked for because of it, and how many entries the log has then.
+struct Far {
+    turn: Turn,
+    is_reveal: bool,
+    is_asked: bool,
+    entries: usize,
+}
+
+/// Places 8 and 9 and then 10: the first is at most 8 past the next place, and the others are not.
+const FAR: [Far; 3] = [
+    Far {
+        turn: 4,
+        is_reveal: false,
+        is_asked: false,
+        entries: 3,
+    },
+    Far {
+        turn: 4,
+        is_reveal: true,
+        is_asked: true,
+        entries: 2,
+    },
+    Far {
+        turn: 5,
+        is_reveal: false,
+        is_asked: true,
+        entries: 2,
+    },
+];
+
+fn is_asked_for(alloc: Global, session: &Session, far: &Far) -> Result<bool, Fail> {
+    let net = hearing_one(alloc, session, far.turn, far.is_reveal)?;
+    let side = net.side(0)?;
+    Ok(
+        side.ended().is_none()
+            && side.peer().entries().len() == far.entries
+            && asks(alloc, side, far.is_asked)?
+            && side.station().is_open(0),
+    )
+}
+
+#[test]
+fn a_far_frame_is_asked_for(rt: HostRuntime) -> Result<(), Fail> {
+    let alloc = rt.alloc();
+    let session = session_of(alloc, NEAR)?;
+    for far in &FAR {
+        assert!(rt; is_asked_for(alloc, &session, far)?);
+    }
+    Ok(())
+}

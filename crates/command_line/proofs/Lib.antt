@@ -1,0 +1,5 @@
+pub mod Building
+pub mod Walks
+pub mod Leaves
+pub mod Sets
+pub mod Finding

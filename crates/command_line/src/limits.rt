@@ -1,0 +1,4 @@
+//! The limit of the words.
+
+/// The most logs that `audit` takes, behind its session.
+pub const MOST_AUDITED: usize = 16;

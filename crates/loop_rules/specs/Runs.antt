@@ -1,0 +1,30 @@
+-- Runs: the log kept, as the protocol's run over its own choices and the frames that came.
+use Rattle.std.specs.Prelude.{◌≡◌, ◌≤◌, ℕ, List, [], ◌∷◌, ◌++◌, length}
+use Rattle.definitions.specs.declared.logs.Entry.{Entry}
+use Rattle.definitions.specs.declared.logs.Entry.TheVariants.{Chose, Made, Got}
+use Rattle.definitions.specs.Honest.{IsHonest}
+use Rattle.definitions.specs.Advance.{advance}
+use Rattle.definitions.specs.Steps.{LogStep, Chooses, Comes, log_run}
+use Rattle.socket_station.specs.Items.{Item}
+use Rattle.loop_rules.specs.Settings.{Setting}
+use Rattle.loop_rules.specs.After.{view_of}
+use Rattle.loop_rules.specs.Histories.{IsHistory}
+
+-- the steps that entries tell: the choices, and the frames that came; own frames are no steps, since the protocol makes them by itself
+abbrev pub steps_told : List Entry → List LogStep
+steps_told [] = []
+steps_told (Chose t m n ∷ es) = Chooses m n ∷ steps_told es
+steps_told (Made f ∷ es) = steps_told es
+steps_told (Got q f ∷ es) = Comes q f ∷ steps_told es
+
+-- The log begins with the entries taken over. With the own frames that may be made by now, it is what the protocol's run comes to that begins with
+-- those entries, advanced, and takes as its steps the choices and the frames that came behind them, in their order.
+pub record GoesAsRun (s : Setting) (log : List Entry) : Type 0 where
+  pub rest : List Entry
+  pub over : log ≡ s.over ++ rest
+  pub run : advance s.game s.me log ≡ log_run s.game s.me (advance s.game s.me s.over) (steps_told rest)
+
+-- the log kept is the protocol's run, once the entries taken over are kept
+abbrev pub LogsAreRuns : Type 0
+LogsAreRuns = (s : Setting) (items : List Item) → 1 ≤ s.game.ahead → IsHonest s.game s.me s.over → IsHistory s items →
+    length s.over ≤ length (view_of s items).kept → GoesAsRun s (view_of s items).kept
