@@ -147,15 +147,25 @@ fn hear_bytes(
     Ok(())
 }
 
-/// Player 1 alone, to whom this is brought.
-fn brought_to_one(alloc: Global, session: &Session, what: Bringing) -> Result<Net, Fail> {
+/// This is brought to the side.
+fn hear_bringing(
+    alloc: Global,
+    session: &Session,
+    side: &mut Player,
+    what: Bringing,
+) -> Result<(), Fail> {
     let mut pilot = script_of(alloc, STAY_4, session)?;
     let mut out = Vec::new(alloc);
     put_bringing(&mut out, session, what)?;
+    hear_bytes(alloc, side, &mut pilot, &out)
+}
+
+/// Player 1 alone, to whom this is brought.
+fn brought_to_one(alloc: Global, session: &Session, what: Bringing) -> Result<Net, Fail> {
     let mut net = alone(alloc, session, 1, NARROW)?;
     match net.sides.get_mut(0) {
         None => return Err("no side".into()),
-        Some(side) => hear_bytes(alloc, side, &mut pilot, &out)?,
+        Some(side) => hear_bringing(alloc, session, side, what)?,
     }
     Ok(net)
 }
@@ -231,15 +241,17 @@ fn a_socket_that_only_seems_ready_stays_open(rt: HostRuntime) -> Result<(), Fail
     Ok(())
 }
 
-/// A greeting comes on the socket, and is handled.
+/// A greeting of the other player comes on the socket, and is handled.
 fn hear_greeting(
     alloc: Global,
+    session: &Session,
     side: &mut Player,
     pilot: &mut ScriptPilot,
     socket: SocketId,
-    greeting: &Frame,
 ) -> Result<(), Fail> {
-    bring(alloc, side, socket, greeting)?;
+    let me = side.peer().me();
+    let other = if me == 0 { 1 } else { 0 };
+    bring(alloc, side, socket, &hello(session, other, me, 0))?;
     hear(side, pilot);
     Ok(())
 }
@@ -247,14 +259,14 @@ fn hear_greeting(
 /// Whether the socket that is named later stays, though it was opened first.
 fn newer_stays(
     alloc: Global,
+    session: &Session,
     side: &mut Player,
     pilot: &mut ScriptPilot,
-    greeting: &Frame,
 ) -> Result<bool, Fail> {
     accept(side, pilot, 2)?;
-    hear_greeting(alloc, side, pilot, 1, greeting)?;
+    hear_greeting(alloc, session, side, pilot, 1)?;
     let was_open = side.station().is_open(1);
-    hear_greeting(alloc, side, pilot, 0, greeting)?;
+    hear_greeting(alloc, session, side, pilot, 0)?;
     let spent = Spent {
         read: 112,
         wants: 0,
@@ -271,10 +283,9 @@ fn newer_stays(
 fn newer_of_two_stays(alloc: Global, session: &Session) -> Result<bool, Fail> {
     let mut pilot = script_of(alloc, STAY_4, session)?;
     let mut net = alone(alloc, session, 1, NARROW)?;
-    let greeting = hello(session, 0, 1, 0);
     match net.sides.get_mut(0) {
         None => Err("no side".into()),
-        Some(side) => newer_stays(alloc, side, &mut pilot, &greeting),
+        Some(side) => newer_stays(alloc, session, side, &mut pilot),
     }
 }
 
@@ -289,18 +300,18 @@ fn the_newer_socket_of_a_player_stays(rt: HostRuntime) -> Result<(), Fail> {
 /// Whether the first of the two sockets that player 1 is named by gives way to the second one: socket 0 was dialled, and socket 1 is accepted.
 fn gives_way(
     alloc: Global,
+    session: &Session,
     side: &mut Player,
     pilot: &mut ScriptPilot,
-    greeting: &Frame,
     first: SocketId,
 ) -> Result<bool, Fail> {
     let second = if first == 0 { 1 } else { 0 };
     let was_dialled = side.station().dialled(1) == Some(0);
     let is_accepted = side.accept() == Some(1);
     side.round(pilot);
-    hear_greeting(alloc, side, pilot, first, greeting)?;
+    hear_greeting(alloc, session, side, pilot, first)?;
     let were_open = side.station().is_open(0) && side.station().is_open(1);
-    hear_greeting(alloc, side, pilot, second, greeting)?;
+    hear_greeting(alloc, session, side, pilot, second)?;
     let station = side.station();
     Ok(
         was_dialled
@@ -316,10 +327,9 @@ fn gives_way(
 fn first_gives_way(alloc: Global, session: &Session, first: SocketId) -> Result<bool, Fail> {
     let mut pilot = script_of(alloc, STAY_0, session)?;
     let mut net = dialling(alloc, session, &mut pilot)?;
-    let greeting = hello(session, 1, 0, 0);
     match net.sides.get_mut(0) {
         None => Err("no side".into()),
-        Some(side) => gives_way(alloc, side, &mut pilot, &greeting, first),
+        Some(side) => gives_way(alloc, session, side, &mut pilot, first),
     }
 }
 

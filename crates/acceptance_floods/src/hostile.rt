@@ -16,34 +16,28 @@ use std::alloc::Global;
 use std::test::Fail;
 use wire_frames::Frame;
 
-/// Adds all of these frames.
-fn put_all(out: &mut Vec<u8>, frames: &[Frame]) -> Result<(), Fail> {
-    for frame in frames {
-        put(out, frame)?;
-    }
-    Ok(())
+fn put_turn(out: &mut Vec<u8>, frame: &TurnFrame) -> Result<(), Fail> {
+    put(out, &Frame::Turn(*frame))
 }
 
-/// A greeting of player 1 comes, and behind it these frames in one piece, and all is handled.
+/// A greeting of player 1 comes, and behind it these frames' bytes in one piece, and all is handled.
 fn hear_all(
     alloc: Global,
     session: &Session,
     side: &mut Player,
-    frames: &[Frame],
+    frames: &[u8],
 ) -> Result<(), Fail> {
     let mut pilot = script_of(alloc, STAY_0, session)?;
-    let mut out = Vec::new(alloc);
-    put_all(&mut out, frames)?;
     side.round(&mut pilot);
     bring(alloc, side, 0, &hello(session, 1, 0, 0))?;
     hear(side, &mut pilot);
-    side.bring(alloc, 0, &out, 4096)?;
+    side.bring(alloc, 0, frames, 4096)?;
     hear(side, &mut pilot);
     Ok(())
 }
 
-/// Player 0 alone, that hears these frames of player 1.
-fn hearing(alloc: Global, session: &Session, frames: &[Frame]) -> Result<Net, Fail> {
+/// Player 0 alone, that hears the frames with these bytes of player 1.
+fn hearing(alloc: Global, session: &Session, frames: &[u8]) -> Result<Net, Fail> {
     let mut net = alone(alloc, session, 0, NARROW)?;
     match net.sides.get_mut(0) {
         None => return Err("no side".into()),
@@ -80,52 +74,26 @@ fn found(kind: Kind, first: u32, second: u32) -> Finding {
     }
 }
 
-/// Frames that together show a breach, the finding, and how many entries and own frames the log has with it.
-#[derive(Clone, Copy, Debug, PartialEq, Eq)]
+/// What frames show that together are a breach, and how many entries and own frames the log has with it.
+#[derive(Drop)]
 struct Breach {
-    first: Frame,
-    second: Frame,
     finding: Finding,
     entries: usize,
     made: u32,
 }
 
-/// Player 0 has a choice and a commitment, and behind a commitment of player 1 it reveals.
-fn breaches(session: &Session) -> [Breach; 3] {
-    let stay = goes_to(4);
-    let step = goes_to(5);
-    let leap = goes_to(6);
-    [
-        Breach {
-            first: Frame::Turn(commit(session, &stay)),
-            second: Frame::Turn(commit(session, &step)),
-            finding: found(Kind::TwoCommits, 2, 4),
-            entries: 5,
-            made: 2,
-        },
-        Breach {
-            first: Frame::Turn(commit(session, &stay)),
-            second: Frame::Turn(reveal(&step)),
-            finding: found(Kind::BadOpening, 2, 4),
-            entries: 5,
-            made: 2,
-        },
-        // two steps are too far, and the reveal came first
-        Breach {
-            first: Frame::Turn(reveal(&leap)),
-            second: Frame::Turn(commit(session, &leap)),
-            finding: found(Kind::Illegal, 2, 3),
-            entries: 4,
-            made: 1,
-        },
-    ]
-}
-
 /// Player 0 that hears the frames of a breach, and behind them a third one, which is not handled any more.
-fn breached(alloc: Global, session: &Session, breach: &Breach) -> Result<Net, Fail> {
-    let behind = Frame::Turn(commit(session, &stays(1, 1, 4)));
-    let frames = [breach.first, breach.second, behind];
-    hearing(alloc, session, &frames)
+fn breached(
+    alloc: Global,
+    session: &Session,
+    first: &TurnFrame,
+    second: &TurnFrame,
+) -> Result<Net, Fail> {
+    let mut out = Vec::new(alloc);
+    put_turn(&mut out, first)?;
+    put_turn(&mut out, second)?;
+    put_turn(&mut out, &commit(session, &stays(1, 1, 4)))?;
+    hearing(alloc, session, &out)
 }
 
 /// Whether the log with the finding is kept and synced by the last call, and behind it no reveal is given.
@@ -141,74 +109,161 @@ fn has_stopped(alloc: Global, side: &Player, breach: &Breach) -> Result<bool, Fa
     )
 }
 
+/// Whether this is the peer's finding.
+fn is_found(peer: &Peer, finding: &Finding) -> bool {
+    match peer.finding() {
+        None => false,
+        Some(found) => found == *finding,
+    }
+}
+
+/// Whether who goes on from the log finds this.
+fn peer_finds(
+    alloc: Global,
+    session: &Session,
+    log: &[u8],
+    finding: &Finding,
+) -> Result<bool, Fail> {
+    let kept = replayed(alloc, session, 0, log)?;
+    Ok(is_found(&kept, finding))
+}
+
+/// Whether this is the only one.
+fn is_only(findings: &[Finding], finding: &Finding) -> bool {
+    match findings {
+        [found] => *found == *finding,
+        _ => false,
+    }
+}
+
+/// Whether an audit of the log finds this and nothing else.
+fn audit_finds(
+    alloc: Global,
+    session: &Session,
+    log: &[u8],
+    finding: &Finding,
+) -> Result<bool, Fail> {
+    let report = report_of(alloc, session, &[log])?;
+    Ok(is_only(report.findings(), finding))
+}
+
 /// Whether whoever has what a crash leaves of the log, which is all that was kept, finds the same.
 fn log_shows(
     alloc: Global,
     session: &Session,
     side: &Player,
-    finding: Finding,
+    finding: &Finding,
 ) -> Result<bool, Fail> {
     let image = side.image(alloc, b"")?;
-    let kept = replayed(alloc, session, 0, &image)?;
-    let report = report_of(alloc, session, &[&image])?;
+    if side.station().kept() != image.as_slice() {
+        return Ok(false);
+    }
     Ok(
-        side.station().kept() == image.as_slice()
-            && kept.finding() == Some(finding)
-            && report.findings() == [finding].as_slice(),
+        peer_finds(alloc, session, &image, finding)?
+            && audit_finds(alloc, session, &image, finding)?,
     )
 }
 
-/// Whether the breach ends the run, with a log that shows it.
-fn is_caught(alloc: Global, session: &Session, breach: &Breach) -> Result<bool, Fail> {
-    let net = breached(alloc, session, breach)?;
+/// Whether the run ended by this finding.
+fn ended_by(side: &Player, finding: &Finding) -> bool {
+    match side.ended() {
+        Some(Ended::Caught(found)) => found == *finding,
+        _ => false,
+    }
+}
+
+/// Whether a breach by these frames ends the run, with a log that shows it.
+fn is_caught(
+    alloc: Global,
+    session: &Session,
+    first: &TurnFrame,
+    second: &TurnFrame,
+    breach: &Breach,
+) -> Result<bool, Fail> {
+    let net = breached(alloc, session, first, second)?;
     let side = net.side(0)?;
-    let finding = breach.finding;
     Ok(
-        side.ended() == Some(Ended::Caught(finding))
+        ended_by(side, &breach.finding)
             && has_stopped(alloc, side, breach)?
-            && log_shows(alloc, session, side, finding)?,
+            && log_shows(alloc, session, side, &breach.finding)?,
     )
+}
+
+// Player 0 has a choice and a commitment, and behind a commitment of player 1 it reveals.
+
+fn two_commitments_are_caught(alloc: Global, session: &Session) -> Result<bool, Fail> {
+    let first = commit(session, &goes_to(4));
+    let second = commit(session, &goes_to(5));
+    let breach = Breach {
+        finding: found(Kind::TwoCommits, 2, 4),
+        entries: 5,
+        made: 2,
+    };
+    is_caught(alloc, session, &first, &second, &breach)
+}
+
+fn another_opening_is_caught(alloc: Global, session: &Session) -> Result<bool, Fail> {
+    let first = commit(session, &goes_to(4));
+    let second = reveal(&goes_to(5));
+    let breach = Breach {
+        finding: found(Kind::BadOpening, 2, 4),
+        entries: 5,
+        made: 2,
+    };
+    is_caught(alloc, session, &first, &second, &breach)
+}
+
+/// Two steps are too far, and the reveal comes first.
+fn a_leap_is_caught(alloc: Global, session: &Session) -> Result<bool, Fail> {
+    let first = reveal(&goes_to(6));
+    let second = commit(session, &goes_to(6));
+    let breach = Breach {
+        finding: found(Kind::Illegal, 2, 3),
+        entries: 4,
+        made: 1,
+    };
+    is_caught(alloc, session, &first, &second, &breach)
 }
 
 #[test]
 fn a_breach_ends_the_run(rt: HostRuntime) -> Result<(), Fail> {
     let alloc = rt.alloc();
     let session = session_of(alloc, NEAR)?;
-    for breach in breaches(&session) {
-        let kind = breach.finding.kind;
-        assert!(rt; is_caught(alloc, &session, &breach)?, "{kind:?}");
-    }
+    assert!(rt; two_commitments_are_caught(alloc, &session)?);
+    assert!(rt; another_opening_is_caught(alloc, &session)?);
+    assert!(rt; a_leap_is_caught(alloc, &session)?);
     Ok(())
 }
 
-/// The commitment to turn 1, the reveal of turn 0 and the commitment to it, and that once more: it is the same, and is not logged.
-fn disorder(session: &Session) -> [TurnFrame; 4] {
-    let first = commit(session, &stays(1, 0, 4));
-    [
-        commit(session, &stays(1, 1, 4)),
-        reveal(&stays(1, 0, 4)),
-        first,
-        first,
-    ]
+/// The commitment of player 1, which stays, to this turn.
+fn stay_of(session: &Session, turn: Turn) -> TurnFrame {
+    commit(session, &stays(1, turn, 4))
 }
 
-/// Player 0 that hears these frames of player 1.
-fn disordered(alloc: Global, session: &Session, frames: &[TurnFrame; 4]) -> Result<Net, Fail> {
-    let frames = [
-        Frame::Turn(frames[0]),
-        Frame::Turn(frames[1]),
-        Frame::Turn(frames[2]),
-        Frame::Turn(frames[3]),
-    ];
-    hearing(alloc, session, &frames)
+/// Player 0 that hears the commitment to turn 1, the reveal of turn 0 and the commitment to it, and that once more: it is the same, and is
+/// not logged.
+fn disordered(alloc: Global, session: &Session) -> Result<Net, Fail> {
+    let mut out = Vec::new(alloc);
+    put_turn(&mut out, &stay_of(session, 1))?;
+    put_turn(&mut out, &reveal(&stays(1, 0, 4)))?;
+    put_turn(&mut out, &stay_of(session, 0))?;
+    put_turn(&mut out, &stay_of(session, 0))?;
+    hearing(alloc, session, &out)
+}
+
+/// Whether the peer got that frame of player 1 as this entry.
+fn got(peer: &Peer, number: usize, frame: &TurnFrame) -> bool {
+    match peer.entries().get(number) {
+        Some(Entry::Got(from, got)) => *from == 1 && *got == *frame,
+        _ => false,
+    }
 }
 
 /// Whether the log got the first three frames in the order in which they came, behind an own choice and commitment.
-fn got_in_order(peer: &Peer, frames: &[TurnFrame; 4]) -> bool {
-    let entries = peer.entries();
-    entries.get(2).copied() == Some(Entry::Got(1, frames[0]))
-        && entries.get(3).copied() == Some(Entry::Got(1, frames[1]))
-        && entries.get(4).copied() == Some(Entry::Got(1, frames[2]))
+fn got_in_order(peer: &Peer, session: &Session) -> bool {
+    got(peer, 2, &stay_of(session, 1))
+        && got(peer, 3, &reveal(&stays(1, 0, 4)))
+        && got(peer, 4, &stay_of(session, 0))
 }
 
 /// Whether there are two choices, two commitments and two reveals of its own, and three frames that came.
@@ -226,14 +281,13 @@ fn has_played_two(peer: &Peer) -> bool {
 
 /// Whether frames that come in another order than they were made count, and the run goes on.
 fn count_in_disorder(alloc: Global, session: &Session) -> Result<bool, Fail> {
-    let frames = disorder(session);
-    let net = disordered(alloc, session, &frames)?;
+    let net = disordered(alloc, session)?;
     let side = net.side(0)?;
     // two own turns are given
     Ok(
         side.ended().is_none()
             && has_played_two(side.peer())
-            && got_in_order(side.peer(), &frames)
+            && got_in_order(side.peer(), session)
             && side.given(alloc, 0, 0)?.len() == 56 + 2 * 85,
     )
 }
@@ -254,7 +308,9 @@ fn hearing_one(alloc: Global, session: &Session, turn: Turn, is_reveal: bool) ->
     } else {
         commit(session, &opening)
     };
-    hearing(alloc, session, &[Frame::Turn(frame)])
+    let mut out = Vec::new(alloc);
+    put_turn(&mut out, &frame)?;
+    hearing(alloc, session, &out)
 }
 
 /// Whether place 0 is asked for behind a greeting and a commitment, or nothing stands there.

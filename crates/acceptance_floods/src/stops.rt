@@ -119,15 +119,35 @@ fn is_well(alloc: Global, session: &Session, net: &Net) -> Result<bool, Fail> {
     )
 }
 
-/// Whether both players go on from what is left: player 0 has each own frame of which a byte was given, and the match ends well.
-fn goes_on(alloc: Global, session: &Session, net: &Net, tail: Tail) -> Result<bool, Fail> {
+/// Adds a player that goes on from this log.
+fn add_going_on(
+    alloc: Global,
+    session: &Session,
+    net: &mut Net,
+    me: PlayerId,
+    log: &[u8],
+) -> Result<(), Fail> {
+    let side = going_on(alloc, session, me, log)?;
+    net.add(side)
+}
+
+/// Both players, that go on from what is left.
+fn again_of(alloc: Global, session: &Session, net: &Net, tail: Tail) -> Result<Net, Fail> {
     let image = image_of(alloc, net.side(0)?, tail)?;
     let mut again = Net::new(alloc, 4096);
-    again.add(going_on(alloc, session, 0, &image)?)?;
-    again.add(going_on(alloc, session, 1, net.side(1)?.station().kept())?)?;
-    let has_all = has_given(alloc, net.side(0)?, 0, again.side(0)?.peer())?;
+    add_going_on(alloc, session, &mut again, 0, &image)?;
+    add_going_on(alloc, session, &mut again, 1, net.side(1)?.station().kept())?;
+    Ok(again)
+}
+
+/// Whether both players go on from what is left: player 0 has each own frame of which a byte was given, and the match ends well.
+fn goes_on(alloc: Global, session: &Session, net: &Net, tail: Tail) -> Result<bool, Fail> {
+    let mut again = again_of(alloc, session, net, tail)?;
+    if !has_given(alloc, net.side(0)?, 0, again.side(0)?.peer())? {
+        return Ok(false);
+    }
     play_on(alloc, session, &mut again)?;
-    Ok(has_all && is_well(alloc, session, &again)?)
+    is_well(alloc, session, &again)
 }
 
 /// Whether both players go on from each tail that a stop in front of the call of that number can leave.
@@ -190,32 +210,36 @@ fn a_player_goes_on_from_each_late_stop_in_parts(rt: HostRuntime) -> Result<(), 
     Ok(())
 }
 
+/// Adds the entry's bytes.
+fn put_entry(writer: &mut LogWriter, entry: &Entry, out: &mut Vec<u8>) -> Result<(), Fail> {
+    let mut bytes = [0; 96];
+    let count = writer.put(entry, &mut bytes);
+    out.extend_from_slice(&bytes[..count.min(96)])?;
+    Ok(())
+}
+
 /// The log of player 0 who chose to stay and committed to it, and then the bytes of a part of an entry.
 fn old_log(alloc: Global, session: &Session) -> Result<Vec<u8>, Fail> {
     let opening = stays(0, 0, 0);
+    let chosen = Entry::Chose {
+        turn: 0,
+        mv: opening.mv,
+        nonce: opening.nonce,
+    };
+    let made = Entry::Made(commit(session, &opening));
     let mut writer = LogWriter::new(session, 0);
     let mut out = Vec::new(alloc);
-    for entry in [
-        Entry::Chose {
-            turn: 0,
-            mv: opening.mv,
-            nonce: opening.nonce,
-        },
-        Entry::Made(commit(session, &opening)),
-    ] {
-        let mut bytes = [0; 96];
-        let count = writer.put(&entry, &mut bytes);
-        out.extend_from_slice(&bytes[..count.min(96)])?;
-    }
+    put_entry(&mut writer, &chosen, &mut out)?;
+    put_entry(&mut writer, &made, &mut out)?;
     out.extend_from_slice(&[0, 0x2d, 2])?;
     Ok(out)
 }
 
-/// The nonce of the side's reveal of this turn.
-fn nonce_of(side: &Player, turn: u32) -> Option<Nonce> {
+/// Whether this is the nonce of the side's reveal of this turn.
+fn has_nonce(side: &Player, turn: u32, nonce: &Nonce) -> bool {
     match side.peer().made(turn.saturating_mul(2).saturating_add(1)) {
-        Some(TurnFrame::Reveal { nonce, .. }) => Some(nonce),
-        _ => None,
+        Some(TurnFrame::Reveal { nonce: own, .. }) => own.bytes == nonce.bytes,
+        _ => false,
     }
 }
 
@@ -226,17 +250,26 @@ fn drawn<R: Rng>(chance: &mut R) -> Nonce {
     Nonce { bytes }
 }
 
-/// Whether the log is refused to player 1, and player 0 is to drop what stands from byte 152 on.
-fn is_dropped_from(alloc: Global, session: &Session, old: &[u8]) -> Result<bool, Fail> {
+/// Whether the log is refused to player 1.
+fn is_refused(alloc: Global, session: &Session, old: &[u8]) -> bool {
     if session.players() < 2 {
-        return Ok(false);
+        return false;
     }
-    let refused = resume_from(alloc, session, 1, old).err();
-    let dropped = resume_from(alloc, session, 0, old)
-        .map_err(|_| "old")?
-        .dropped;
-    let why = LogWhy::NotReplayed;
-    Ok(refused == Some(OldFault::Bad { at: 1, why }) && dropped == Some(152))
+    match resume_from(alloc, session, 1, old) {
+        Err(OldFault::Bad { at, why }) => at == 1 && why == LogWhy::NotReplayed,
+        _ => false,
+    }
+}
+
+/// Whether player 0 is to drop what stands from byte 152 of the log on.
+fn is_dropped_from(alloc: Global, session: &Session, old: &[u8]) -> bool {
+    if session.players() < 1 {
+        return false;
+    }
+    match resume_from(alloc, session, 0, old) {
+        Err(_) => false,
+        Ok(resumed) => resumed.dropped == Some(152),
+    }
 }
 
 /// Player 0 alone, that goes on from the log.
@@ -273,12 +306,12 @@ fn has_played_five(peer: &Peer) -> bool {
 
 /// Whether turn 0 has the log's nonce, and the others have those that the generator gives.
 fn has_drawn(side: &Player) -> bool {
-    if nonce_of(side, 0) != Some(Nonce { bytes: [0; 32] }) {
+    if !has_nonce(side, 0, &Nonce { bytes: [0; 32] }) {
         return false;
     }
     let mut chance = generator_of(500);
     for turn in 1..5 {
-        if nonce_of(side, turn) != Some(drawn(&mut chance)) {
+        if !has_nonce(side, turn, &drawn(&mut chance)) {
             return false;
         }
     }
@@ -314,7 +347,8 @@ fn an_old_log_is_gone_on_from(rt: HostRuntime) -> Result<(), Fail> {
     let session = session_of(alloc, FAR)?;
     let old = old_log(alloc, &session)?;
     assert_eq!(rt; old.len(), 155);
-    assert!(rt; is_dropped_from(alloc, &session, &old)?);
+    assert!(rt; is_refused(alloc, &session, &old));
+    assert!(rt; is_dropped_from(alloc, &session, &old));
     assert!(rt; is_gone_on_from(alloc, &session, &old)?);
     Ok(())
 }

@@ -7,6 +7,10 @@
 #[cfg(test)]
 mod audits;
 #[cfg(test)]
+mod many;
+#[cfg(test)]
 mod refused;
 #[cfg(test)]
 mod runs;
+#[cfg(test)]
+mod written;

@@ -110,6 +110,20 @@ fn words_of(alloc: Global, words: &[&[u8]]) -> Result<Vec<Vec<u8>>, AllocError> 
     Ok(all)
 }
 
+/// Runs the program on these words and this shelf, and gives its status and what it wrote.
+fn run_over(
+    alloc: Global,
+    words: &[&[u8]],
+    shelf: &mut MemoryShelf,
+    fails: &Fails,
+) -> Result<(Status, Vec<u8>), AllocError> {
+    let words = words_of(alloc, words)?;
+    let mut input = MemorySource::new(Vec::new(alloc), Vec::from_slice(alloc, fails.source)?);
+    let mut out = MemorySink::new(alloc, 65_536, Vec::from_slice(alloc, fails.sink)?)?;
+    let status = run_in_memory(alloc, words.as_slice(), &mut input, &mut out, shelf);
+    Ok((status, Vec::from_slice(alloc, out.bytes())?))
+}
+
 /// Runs the program on these words and files, and gives its status and what it wrote.
 pub fn run_words(
     alloc: Global,
@@ -117,12 +131,8 @@ pub fn run_words(
     files: &Files,
     fails: &Fails,
 ) -> Result<(Status, Vec<u8>), AllocError> {
-    let words = words_of(alloc, words)?;
     let mut shelf = shelf_of(alloc, files, fails.shelf)?;
-    let mut input = MemorySource::new(Vec::new(alloc), Vec::from_slice(alloc, fails.source)?);
-    let mut out = MemorySink::new(alloc, 65_536, Vec::from_slice(alloc, fails.sink)?)?;
-    let status = run_in_memory(alloc, words.as_slice(), &mut input, &mut out, &mut shelf);
-    Ok((status, Vec::from_slice(alloc, out.bytes())?))
+    run_over(alloc, words, &mut shelf, fails)
 }
 
 /// Runs `audit` on the session and its logs.
@@ -130,4 +140,25 @@ pub fn run_audit(alloc: Global, files: &Files) -> Result<(Status, Vec<u8>), Allo
     let words: [&[u8]; 5] = [b"audit", b"s", b"0", b"1", b"2"];
     let count = files.logs.len().min(3) + 2;
     run_words(alloc, &words[..count], files, &NONE)
+}
+
+/// Runs `audit` on a session of this text and three logs of these bytes.
+pub fn run_three(
+    alloc: Global,
+    session: Vec<u8>,
+    first: Vec<u8>,
+    second: Vec<u8>,
+    third: Vec<u8>,
+) -> Result<(Status, Vec<u8>), AllocError> {
+    let session = file_of(alloc, b"s", session)?;
+    let first = file_of(alloc, b"0", first)?;
+    let second = file_of(alloc, b"1", second)?;
+    let third = file_of(alloc, b"2", third)?;
+    let mut shelf = shelf_of_four(alloc, session, first, second, third, &[])?;
+    run_over(
+        alloc,
+        &[b"audit", b"s", b"0", b"1", b"2"],
+        &mut shelf,
+        &NONE,
+    )
 }

@@ -7,10 +7,18 @@ use auditor::{Auditor, MOST_LOGS, Report};
 use definitions::limits::LONGEST_LOG;
 use definitions::{Entry, PlayerId};
 use grid_world::Session;
-use old_log::resume_from;
+use old_log::{Resumed, resume_from};
 use peer_core::Peer;
 use std::alloc::Global;
 use std::test::Fail;
+
+/// The peer of a log of which nothing was dropped.
+fn whole(resumed: Resumed) -> Result<Peer, Fail> {
+    match resumed.dropped {
+        Some(_) => Err("a log that isn't whole".into()),
+        None => Ok(resumed.peer),
+    }
+}
 
 /// The peer that goes on from this log of its player, which has to be whole.
 pub fn replayed(alloc: Global, session: &Session, me: PlayerId, log: &[u8]) -> Result<Peer, Fail> {
@@ -19,12 +27,7 @@ pub fn replayed(alloc: Global, session: &Session, me: PlayerId, log: &[u8]) -> R
     }
     match resume_from(alloc, session, me, log) {
         Err(_) => Err("no log".into()),
-        Ok(resumed) => {
-            if resumed.dropped.is_some() {
-                return Err("a log that isn't whole".into());
-            }
-            Ok(resumed.peer)
-        }
+        Ok(resumed) => whole(resumed),
     }
 }
 

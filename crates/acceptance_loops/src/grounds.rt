@@ -29,11 +29,18 @@ pub fn session_of(alloc: Global, text: &[u8]) -> Result<Session, Fail> {
     Ok(read_session(alloc, text).map_err(|_| "session")?)
 }
 
+/// The last digit of a number.
+fn digit(number: u8) -> u8 {
+    b'0'.saturating_add(number % 10)
+}
+
 /// The digits of the pass that one player shows to another.
 fn put_pass(out: &mut Vec<u8>, from: PlayerId, to: PlayerId) -> Result<(), Fail> {
+    let first = digit(from);
+    let second = digit(to);
     for _ in 0..16 {
-        out.push(b'0'.saturating_add(from % 10))?;
-        out.push(b'0'.saturating_add(to % 10))?;
+        out.push(first)?;
+        out.push(second)?;
     }
     Ok(())
 }

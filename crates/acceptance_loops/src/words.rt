@@ -11,10 +11,12 @@ use ready_loop::Ended;
 use std::alloc::Global;
 use std::test::Fail;
 
-/// Player 0 behind its first round. Its pilot goes two cells in turn 3, where one can be gone.
+/// Moves of which that of turn 3 goes two cells, where one can be gone.
+const FAR_IN_TURN_3: &[u8] = b"0 0\n0 0\n0 0\n2 0\n0 0\n0 0\n0 0\n0 0\n";
+
+/// Player 0 behind its first round, with a pilot of these moves.
 fn wordy(alloc: Global, session: &Session) -> Result<Net, Fail> {
-    let moves = b"0 0\n0 0\n0 0\n2 0\n0 0\n0 0\n0 0\n0 0\n".as_slice();
-    let mut pilot = script_of(alloc, moves, session)?;
+    let mut pilot = script_of(alloc, FAR_IN_TURN_3, session)?;
     let mut net = alone(alloc, session, 0, NARROW)?;
     net.round(0, &mut pilot);
     Ok(net)

@@ -34,16 +34,26 @@ fn take_log(auditor: &mut Auditor, log: u32, entries: &[Entry]) -> Result<(), Tr
     Ok(())
 }
 
+/// The log is the player's.
+fn own(auditor: &mut Auditor, log: u32, player: PlayerId) {
+    if log < MOST_LOGS {
+        auditor.owner(log, player);
+    }
+}
+
+/// Hands a player's log to the auditor.
+fn take_of(auditor: &mut Auditor, player: PlayerId, entries: &[Entry]) -> Result<(), Trouble> {
+    let log = u32::from(player);
+    own(auditor, log, player);
+    take_log(auditor, log, entries)
+}
+
 /// What all honest logs show together.
 pub fn audit(alloc: Global, table: &Table) -> Result<Report, Trouble> {
     let mut auditor = Auditor::new(alloc, table.session())?;
     for player in 0..table.session().players() {
         if let Some(entries) = log_in(table, player) {
-            let log = u32::from(player);
-            if log < MOST_LOGS {
-                auditor.owner(log, player);
-            }
-            take_log(&mut auditor, log, entries)?;
+            take_of(&mut auditor, player, entries)?;
         }
     }
     Ok(auditor.report(alloc)?)
@@ -57,6 +67,16 @@ fn shows_two(finding: &Finding, player: PlayerId, turn: Turn) -> bool {
             finding.kind,
             Kind::TwoCommits | Kind::BadOpening | Kind::Collision
         )
+}
+
+/// Whether the report has such a finding.
+fn convicts(report: &Report, player: PlayerId, turn: Turn) -> bool {
+    for finding in report.findings() {
+        if shows_two(finding, player, turn) {
+            return true;
+        }
+    }
+    false
 }
 
 /// The moves by which honest logs resolve a player's turn: the last of them, and whether two of them differ.
@@ -125,12 +145,27 @@ fn agree_on(
         log_in(table, player).is_none(),
         "a log accepts a move that its honest player didn't choose",
     )?;
-    let shown = report
-        .findings()
-        .iter()
-        .any(|finding| shows_two(finding, player, turn));
+    let shown = convicts(report, player, turn);
     hold(shown, "two logs have two moves and don't convict")?;
     Ok(false)
+}
+
+/// On how many of these turns of the player the logs agree.
+fn count_agreed(
+    table: &Table,
+    report: &Report,
+    player: PlayerId,
+    turns: &[Told],
+) -> Result<u32, Trouble> {
+    let mut agreed = 0u32;
+    let mut turn = 0u32;
+    for told in turns {
+        if agree_on(table, report, player, turn, told)? {
+            agreed = agreed.saturating_add(1);
+        }
+        turn = turn.saturating_add(1);
+    }
+    Ok(agreed)
 }
 
 /// On how many of the player's turns the logs agree.
@@ -141,15 +176,8 @@ fn agreed_of(
     report: &Report,
     player: PlayerId,
 ) -> Result<u32, Trouble> {
-    let mut agreed = 0u32;
-    let mut turn = 0u32;
-    for told in &told_of(alloc, ground, table, player)? {
-        if agree_on(table, report, player, turn, told)? {
-            agreed = agreed.saturating_add(1);
-        }
-        turn = turn.saturating_add(1);
-    }
-    Ok(agreed)
+    let told = told_of(alloc, ground, table, player)?;
+    count_agreed(table, report, player, told.as_slice())
 }
 
 /// Whether the report names no honest player, and each hostile one that told two logs two moves, and agrees on the turns on which the

@@ -144,6 +144,24 @@ pub fn check_stand(ground: &Ground, table: &Table) -> Result<(), Trouble> {
     )
 }
 
+/// How many of the player's entries are left out.
+fn first_of(checked: &[usize], player: PlayerId) -> usize {
+    match checked.get(usize::from(player)) {
+        None => 0,
+        Some(first) => *first,
+    }
+}
+
+/// What has to hold of what the table tells of all honest players.
+fn check_players(ground: &Ground, table: &Table, checked: &[usize]) -> Result<(), Trouble> {
+    for player in 0..ground.players {
+        if let Some(log) = log_in(table, player) {
+            check_player(ground, table, player, log, first_of(checked, player))?;
+        }
+    }
+    Ok(())
+}
+
 /// What has to hold of every table. Of each log the first entries are left out that were checked before, by player.
 pub fn check_table(
     alloc: Global,
@@ -151,12 +169,7 @@ pub fn check_table(
     table: &Table,
     checked: &[usize],
 ) -> Result<(), Trouble> {
-    for player in 0..ground.players {
-        if let Some(log) = log_in(table, player) {
-            let first = checked.get(usize::from(player)).copied().unwrap_or(0);
-            check_player(ground, table, player, log, first)?;
-        }
-    }
+    check_players(ground, table, checked)?;
     check_stand(ground, table)?;
     let report = audit(alloc, table)?;
     names_the_right(alloc, ground, table, &report)

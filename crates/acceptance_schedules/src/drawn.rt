@@ -11,6 +11,7 @@ use crate::worlds::{Trouble, hold};
 use definitions::PlayerId;
 use schedule::{Stand, Step, Table, has_players};
 use std::alloc::Global;
+use std::process::Abort;
 use std::test::Fail;
 
 /// How many matches are drawn, one for each seed.
@@ -142,6 +143,28 @@ impl Ends {
     }
 }
 
+/// A match of which nothing is played yet.
+fn unplayed(alloc: Global, game: &Match) -> Result<Played, Fail> {
+    let table = Table::new(alloc, &game.world.session, game.world.hostile)?;
+    Ok(Played {
+        table,
+        trail: Vec::new(alloc),
+        count: 0,
+        checked: Vec::new(alloc),
+    })
+}
+
+/// Plays the match of the seed, and says how it stands at its end.
+fn end_of(rt: &impl Abort, alloc: Global, seed: u64) -> Result<Stand, Fail> {
+    let mut dice = Dice::new(seed);
+    let game = match_of(alloc, &mut dice, seed)?;
+    let mut played = unplayed(alloc, &game)?;
+    let came = played.play(alloc, &game, &mut dice);
+    let text = told(alloc, &game.world, played.trail.as_slice(), &came)?;
+    assert!(rt; came.is_ok(), "seed {seed}: {text}{}", game.text);
+    Ok(played.table.stand())
+}
+
 #[test]
 fn drawn_schedules_keep_to_the_rules(rt: HostRuntime) -> Result<(), Fail> {
     let alloc = rt.alloc();
@@ -151,18 +174,7 @@ fn drawn_schedules_keep_to_the_rules(rt: HostRuntime) -> Result<(), Fail> {
         held: 0,
     };
     for seed in 0..SEEDS {
-        let mut dice = Dice::new(seed);
-        let game = match_of(alloc, &mut dice, seed)?;
-        let mut played = Played {
-            table: Table::new(alloc, &game.world.session, game.world.hostile)?,
-            trail: Vec::new(alloc),
-            count: 0,
-            checked: Vec::new(alloc),
-        };
-        let came = played.play(alloc, &game, &mut dice);
-        let text = told(alloc, &game.world, played.trail.as_slice(), &came)?;
-        assert!(rt; came.is_ok(), "seed {seed}: {text}{}", game.text);
-        ends.add(played.table.stand());
+        ends.add(end_of(&rt, alloc, seed)?);
     }
     // each kind of end comes
     assert!(rt; ends.finished > 0 && ends.caught > 0 && ends.held > 0);

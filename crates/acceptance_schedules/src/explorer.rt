@@ -97,6 +97,12 @@ fn key_of(table: &Table) -> Digest {
     }
 }
 
+/// Adds a step.
+fn put_step(steps: &mut Vec<Step>, step: &Step) -> Result<(), Trouble> {
+    steps.push(*step)?;
+    Ok(())
+}
+
 impl Graph {
     /// The steps that lead to the state of this number.
     pub fn steps_to(&self, alloc: Global, state: usize) -> Result<Vec<Step>, Trouble> {
@@ -141,10 +147,10 @@ impl Graph {
     }
 
     /// Keeps the table's state, if it is new.
-    fn keep(&mut self, table: &Table, came: Came) -> Result<(), Trouble> {
+    fn keep(&mut self, table: &Table, came: &Came) -> Result<(), Trouble> {
         let key = key_of(table);
         if self.seen.get(&key).is_none() {
-            self.seen.insert(key, came)?;
+            self.seen.insert(key, *came)?;
             self.counts.states = self.seen.len();
         }
         Ok(())
@@ -167,11 +173,19 @@ impl Graph {
                     outcome,
                 })?;
             } else {
-                self.trail.push(*step)?;
+                put_step(&mut self.trail, step)?;
                 take_so(table, step, &outcome)?;
             }
         }
         Ok(branches)
+    }
+
+    /// Takes a step that changes a log at this table, behind so many steps.
+    fn follow(&mut self, depth: usize, table: &mut Table, branch: &Branch) -> Result<(), Trouble> {
+        self.trail.truncate(depth);
+        put_step(&mut self.trail, &branch.step)?;
+        self.counts.changes = self.counts.changes.saturating_add(1);
+        take_so(table, &branch.step, &branch.outcome)
     }
 
     /// Takes a step that changes a log, at a table of its own. Behind a stop it now and then goes on to an end: the state may be
@@ -182,13 +196,10 @@ impl Graph {
         world: &World,
         path: &[Step],
         branch: &Branch,
-        came: Came,
+        came: &Came,
     ) -> Result<(), Trouble> {
-        self.trail.truncate(path.len());
-        self.trail.push(branch.step)?;
         let mut table = table_behind(alloc, world, path)?;
-        self.counts.changes = self.counts.changes.saturating_add(1);
-        take_so(&mut table, &branch.step, &branch.outcome)?;
+        self.follow(path.len(), &mut table, branch)?;
         self.keep(&table, came)?;
         if is_stop(&branch.step) && came.from % BETWEEN_STOPS == 0 {
             go_on(alloc, world, &mut table, &mut self.trail)?;
@@ -236,7 +247,7 @@ impl Graph {
                 step: Some(branch.step),
                 depth: depth.saturating_add(1),
             };
-            self.branch(alloc, world, path.as_slice(), branch, came)?;
+            self.branch(alloc, world, path.as_slice(), branch, &came)?;
         }
         Ok(())
     }
@@ -248,7 +259,7 @@ impl Graph {
             step: None,
             depth: 0,
         };
-        self.keep(&table_behind(alloc, world, &[])?, first)?;
+        self.keep(&table_behind(alloc, world, &[])?, &first)?;
         for state in 0..MOST_STATES {
             if state >= self.seen.len() {
                 break;

@@ -5,7 +5,7 @@ use crate::known::{is_caught, known_of, made_at, own_of, own_track};
 use crate::replies::{Reply, reply_in};
 use crate::turns::{make_all, may_choose};
 use definitions::limits::WINDOW;
-use definitions::{Entry, Move, Nonce, PlayerId, TurnFrame};
+use definitions::{Entry, Move, Nonce, PlayerId, Turn, TurnFrame};
 use schedule::{Step, StepAnswer, Table};
 use std::alloc::{AllocError, Global};
 
@@ -36,23 +36,31 @@ fn copy_of(alloc: Global, log: &[Entry]) -> Result<Vec<Entry>, AllocError> {
     Ok(copy)
 }
 
+fn chose(turn: Turn, mv: &Move, nonce: &Nonce) -> Entry {
+    Entry::Chose {
+        turn,
+        mv: *mv,
+        nonce: *nonce,
+    }
+}
+
 /// The owner chooses.
 fn choose(
     ground: &Ground,
     me: PlayerId,
     log: &mut Vec<Entry>,
-    mv: Move,
-    nonce: Nonce,
+    mv: &Move,
+    nonce: &Nonce,
 ) -> Result<Reply, AllocError> {
     if !may_choose(ground, me, log.as_slice()) {
         return Ok(Reply::NotNow);
     }
     let turn = own_of(log.as_slice()).chosen;
     let track = own_track(ground, me, log.as_slice(), turn);
-    if !ground.is_legal(me, &track, &mv) {
+    if !ground.is_legal(me, &track, mv) {
         return Ok(Reply::Illegal);
     }
-    log.push(Entry::Chose { turn, mv, nonce })?;
+    log.push(chose(turn, mv, nonce))?;
     make_all(ground, me, log)?;
     Ok(Reply::Chosen(turn))
 }
@@ -179,7 +187,7 @@ fn act_at(
     act: &Act,
 ) -> Result<Reply, AllocError> {
     match act {
-        Act::Choose(mv, nonce) => choose(ground, me, log, *mv, *nonce),
+        Act::Choose(mv, nonce) => choose(ground, me, log, mv, nonce),
         Act::Hear(from, frame) => hear(ground, me, log, *from, frame),
         Act::Stop(keep) => stop(ground, me, log, *keep),
         Act::Nothing(reply) => Ok(*reply),

@@ -2,7 +2,7 @@
 
 use crate::explorer::Graph;
 use crate::possible::table_behind;
-use crate::runs::{NONE, run_schedule};
+use crate::runs::{NONE, Ran, run_schedule};
 use crate::scenes::{HOSTILE, PAIRS, TRIOS, Walk};
 use crate::scripts::{script_of, stand_line};
 use crate::worlds::{Scene, Trouble, World, world_of};
@@ -17,6 +17,18 @@ const MOST_STEPS: u32 = 5;
 /// Each so many states one script is run.
 const BETWEEN: usize = 17;
 
+/// Whether the run tells that the match stands so.
+fn tells(alloc: Global, ran: &Ran, stand: Stand) -> Result<bool, Trouble> {
+    let mut last = stand_line(alloc, stand)?;
+    last.push_str("end\n")?;
+    let due = if matches!(stand, Stand::Caught(_)) {
+        6
+    } else {
+        0
+    };
+    Ok(ran.status.code() == due && ran.text.as_slice().ends_with(last.as_str().as_bytes()))
+}
+
 /// Whether the command tells of these steps what the table does: how the match stands, and by its status whether a log has a
 /// finding.
 fn is_told_so(
@@ -29,16 +41,8 @@ fn is_told_so(
     let steps = graph.steps_to(alloc, state)?;
     let table = table_behind(alloc, world, steps.as_slice())?;
     let script = script_of(alloc, world, steps.as_slice())?;
-    let (status, text) = run_schedule(alloc, scene.session, script.as_str().as_bytes(), &NONE)?;
-    let stand = table.stand();
-    let mut last = stand_line(alloc, stand)?;
-    last.push_str("end\n")?;
-    let due = if matches!(stand, Stand::Caught(_)) {
-        6
-    } else {
-        0
-    };
-    Ok(status.code() == due && text.as_slice().ends_with(last.as_str().as_bytes()))
+    let ran = run_schedule(alloc, scene.session, script.as_str().as_bytes(), &NONE)?;
+    tells(alloc, &ran, table.stand())
 }
 
 /// Runs scripts of states of each of these scenes.

@@ -183,14 +183,14 @@ static SCHEDULES: [Scheduled; 17] = [
 #[test]
 fn matches_are_stepped(rt: HostRuntime) -> Result<(), Fail> {
     for scheduled in &SCHEDULES {
-        let (status, text) = run_schedule(
+        let ran = run_schedule(
             rt.alloc(),
             scheduled.session,
             scheduled.script,
             &scheduled.fails,
         )?;
-        assert_eq!(rt; status.code(), scheduled.status, "{}", scheduled.name);
-        assert!(rt; text.as_slice() == scheduled.text, "{}", scheduled.name);
+        assert!(rt; ran.status.code() == scheduled.status, "{}", scheduled.name);
+        assert!(rt; ran.text.as_slice() == scheduled.text, "{}", scheduled.name);
     }
     Ok(())
 }

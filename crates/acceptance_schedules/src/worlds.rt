@@ -156,15 +156,21 @@ fn offer_of(ground: &Ground, tale: &Tale, what: What) -> Step {
     }
 }
 
+/// The steps that bring the frames of the tales.
+fn offers_of(alloc: Global, ground: &Ground, tales: &[Tale]) -> Result<Vec<Step>, Trouble> {
+    let mut offers = Vec::new(alloc);
+    for tale in tales {
+        offers.push(offer_of(ground, tale, What::Commit))?;
+        offers.push(offer_of(ground, tale, What::Reveal))?;
+    }
+    Ok(offers)
+}
+
 /// Sets a scene up.
 pub fn world_of(alloc: Global, scene: &Scene) -> Result<World, Trouble> {
     let session = read_session(alloc, scene.session)?;
     let ground = Ground::new(alloc, &session)?;
-    let mut offers = Vec::new(alloc);
-    for tale in scene.tales {
-        offers.push(offer_of(&ground, tale, What::Commit))?;
-        offers.push(offer_of(&ground, tale, What::Reveal))?;
-    }
+    let offers = offers_of(alloc, &ground, scene.tales)?;
     Ok(World {
         session,
         ground,

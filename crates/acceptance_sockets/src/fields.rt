@@ -1,5 +1,6 @@
 //! A match on disk: a folder with a session, and the rosters and moves of its programs, at addresses of this machine that are free.
 
+use std::env::temp_dir;
 use std::net::{Ipv4Addr, SocketAddr, TcpListener};
 use std::test::Fail;
 use std::{fs, process};
@@ -26,7 +27,8 @@ fn free_ports(rt: &HostRuntime) -> Result<[u16; 4], Fail> {
 /// A new folder of that name, with this session.
 pub(crate) fn field_of(rt: &HostRuntime, name: &str, session: &str) -> Result<Field, Fail> {
     let id = process::id(rt.process());
-    let folder = format!(in rt.alloc(); "/tmp/lethwyrn_{name}_{id}")?;
+    let place = temp_dir(rt)?;
+    let folder = format!(in rt.alloc(); "{}/lethwyrn_{name}_{id}", place.as_str())?;
     if fs::exists(rt, folder.as_str())? {
         fs::remove_dir_all(rt, folder.as_str())?;
     }

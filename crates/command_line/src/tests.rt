@@ -1,6 +1,6 @@
 //! Command lines by hand: each command with the fewest and the most words, and what is no command line.
 
-use crate::{Name, read_texts, split};
+use crate::{Name, split_words};
 use std::alloc::{AllocError, Global};
 use std::test::Fail;
 
@@ -27,17 +27,14 @@ fn says(
     name: Name,
     behind: &[&[u8]],
 ) -> Result<bool, AllocError> {
-    let Some(texts) = read_texts(alloc, words)? else {
-        return Ok(false);
-    };
-    let Some(line) = split(alloc, texts.as_slice())? else {
+    let Some(line) = split_words(alloc, words)? else {
         return Ok(false);
     };
     if line.name != name || line.words.len() != behind.len() {
         return Ok(false);
     }
     for (word, wanted) in line.words.iter().zip(behind) {
-        if word.as_bytes() != *wanted {
+        if word.as_slice() != *wanted {
             return Ok(false);
         }
     }
@@ -46,11 +43,7 @@ fn says(
 
 /// Whether the words are no command line.
 fn is_refused(alloc: Global, words: &[Vec<u8>]) -> Result<bool, AllocError> {
-    let Some(texts) = read_texts(alloc, words)? else {
-        return Ok(true);
-    };
-    let line = split(alloc, texts.as_slice())?;
-    Ok(line.is_none())
+    Ok(split_words(alloc, words)?.is_none())
 }
 
 #[test]

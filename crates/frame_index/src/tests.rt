@@ -23,7 +23,7 @@ const PLAYER: PlayerId = 2;
 
 /// A frame in a log: the log's number, the entry's, what it is, its turn, the column that the player goes to, and the byte of
 /// which the nonce has 32.
-type Shown = (u32, u32, What, Turn, u16, u8);
+struct Shown(u32, u32, What, Turn, u16, u8);
 
 /// The frames that logs got, in the order in which they are taken, and what they show.
 struct Row {
@@ -37,22 +37,22 @@ static ROWS: [Row; 10] = [
     Row {
         session: CORRIDOR,
         shown: &[
-            (0, 0, What::Commit, 0, 11, 0),
-            (0, 1, What::Reveal, 0, 11, 0),
-            (0, 2, What::Commit, 1, 11, 1),
-            (0, 3, What::Reveal, 1, 11, 1),
-            (0, 4, What::Commit, 2, 11, 2),
-            (0, 5, What::Reveal, 2, 11, 2),
-            (0, 6, What::Commit, 3, 11, 3),
-            (0, 7, What::Reveal, 3, 11, 3),
-            (1, 0, What::Commit, 0, 11, 0),
-            (1, 1, What::Reveal, 0, 11, 0),
-            (1, 2, What::Commit, 1, 11, 1),
-            (1, 3, What::Reveal, 1, 11, 1),
-            (1, 4, What::Commit, 2, 11, 2),
-            (1, 5, What::Reveal, 2, 11, 2),
-            (1, 6, What::Commit, 3, 10, 9),
-            (1, 7, What::Reveal, 3, 10, 9),
+            Shown(0, 0, What::Commit, 0, 11, 0),
+            Shown(0, 1, What::Reveal, 0, 11, 0),
+            Shown(0, 2, What::Commit, 1, 11, 1),
+            Shown(0, 3, What::Reveal, 1, 11, 1),
+            Shown(0, 4, What::Commit, 2, 11, 2),
+            Shown(0, 5, What::Reveal, 2, 11, 2),
+            Shown(0, 6, What::Commit, 3, 11, 3),
+            Shown(0, 7, What::Reveal, 3, 11, 3),
+            Shown(1, 0, What::Commit, 0, 11, 0),
+            Shown(1, 1, What::Reveal, 0, 11, 0),
+            Shown(1, 2, What::Commit, 1, 11, 1),
+            Shown(1, 3, What::Reveal, 1, 11, 1),
+            Shown(1, 4, What::Commit, 2, 11, 2),
+            Shown(1, 5, What::Reveal, 2, 11, 2),
+            Shown(1, 6, What::Commit, 3, 10, 9),
+            Shown(1, 7, What::Reveal, 3, 10, 9),
         ],
         findings: &[
             Finding {
@@ -75,22 +75,22 @@ static ROWS: [Row; 10] = [
     Row {
         session: CORRIDOR,
         shown: &[
-            (1, 0, What::Commit, 0, 11, 0),
-            (1, 1, What::Reveal, 0, 11, 0),
-            (1, 2, What::Commit, 1, 11, 1),
-            (1, 3, What::Reveal, 1, 11, 1),
-            (1, 4, What::Commit, 2, 11, 2),
-            (1, 5, What::Reveal, 2, 11, 2),
-            (1, 6, What::Commit, 3, 10, 9),
-            (1, 7, What::Reveal, 3, 10, 9),
-            (0, 0, What::Commit, 0, 11, 0),
-            (0, 1, What::Reveal, 0, 11, 0),
-            (0, 2, What::Commit, 1, 11, 1),
-            (0, 3, What::Reveal, 1, 11, 1),
-            (0, 4, What::Commit, 2, 11, 2),
-            (0, 5, What::Reveal, 2, 11, 2),
-            (0, 6, What::Commit, 3, 11, 3),
-            (0, 7, What::Reveal, 3, 11, 3),
+            Shown(1, 0, What::Commit, 0, 11, 0),
+            Shown(1, 1, What::Reveal, 0, 11, 0),
+            Shown(1, 2, What::Commit, 1, 11, 1),
+            Shown(1, 3, What::Reveal, 1, 11, 1),
+            Shown(1, 4, What::Commit, 2, 11, 2),
+            Shown(1, 5, What::Reveal, 2, 11, 2),
+            Shown(1, 6, What::Commit, 3, 10, 9),
+            Shown(1, 7, What::Reveal, 3, 10, 9),
+            Shown(0, 0, What::Commit, 0, 11, 0),
+            Shown(0, 1, What::Reveal, 0, 11, 0),
+            Shown(0, 2, What::Commit, 1, 11, 1),
+            Shown(0, 3, What::Reveal, 1, 11, 1),
+            Shown(0, 4, What::Commit, 2, 11, 2),
+            Shown(0, 5, What::Reveal, 2, 11, 2),
+            Shown(0, 6, What::Commit, 3, 11, 3),
+            Shown(0, 7, What::Reveal, 3, 11, 3),
         ],
         findings: &[
             Finding {
@@ -113,28 +113,28 @@ static ROWS: [Row; 10] = [
     Row {
         session: CORRIDOR,
         shown: &[
-            (0, 0, What::Commit, 0, 11, 0),
-            (0, 1, What::Reveal, 0, 11, 0),
-            (0, 2, What::Commit, 1, 11, 1),
-            (0, 3, What::Reveal, 1, 11, 1),
-            (0, 4, What::Commit, 2, 11, 2),
-            (0, 5, What::Reveal, 2, 11, 2),
-            (0, 6, What::Commit, 3, 11, 3),
-            (0, 7, What::Reveal, 3, 11, 3),
+            Shown(0, 0, What::Commit, 0, 11, 0),
+            Shown(0, 1, What::Reveal, 0, 11, 0),
+            Shown(0, 2, What::Commit, 1, 11, 1),
+            Shown(0, 3, What::Reveal, 1, 11, 1),
+            Shown(0, 4, What::Commit, 2, 11, 2),
+            Shown(0, 5, What::Reveal, 2, 11, 2),
+            Shown(0, 6, What::Commit, 3, 11, 3),
+            Shown(0, 7, What::Reveal, 3, 11, 3),
         ],
         findings: &[],
     },
     Row {
         session: CORRIDOR,
         shown: &[
-            (0, 0, What::Commit, 0, 11, 0),
-            (0, 1, What::Reveal, 0, 11, 0),
-            (0, 2, What::Commit, 1, 11, 1),
-            (0, 3, What::Reveal, 1, 11, 1),
-            (0, 4, What::Commit, 2, 11, 2),
-            (0, 5, What::Reveal, 2, 11, 2),
-            (0, 6, What::Commit, 3, 10, 9),
-            (0, 7, What::Reveal, 3, 10, 9),
+            Shown(0, 0, What::Commit, 0, 11, 0),
+            Shown(0, 1, What::Reveal, 0, 11, 0),
+            Shown(0, 2, What::Commit, 1, 11, 1),
+            Shown(0, 3, What::Reveal, 1, 11, 1),
+            Shown(0, 4, What::Commit, 2, 11, 2),
+            Shown(0, 5, What::Reveal, 2, 11, 2),
+            Shown(0, 6, What::Commit, 3, 10, 9),
+            Shown(0, 7, What::Reveal, 3, 10, 9),
         ],
         findings: &[],
     },
@@ -142,22 +142,22 @@ static ROWS: [Row; 10] = [
     Row {
         session: CORRIDOR,
         shown: &[
-            (0, 0, What::Commit, 0, 11, 0),
-            (0, 1, What::Reveal, 0, 11, 0),
-            (0, 2, What::Commit, 1, 11, 1),
-            (0, 3, What::Reveal, 1, 11, 1),
-            (0, 4, What::Commit, 2, 5, 2),
-            (0, 5, What::Reveal, 2, 5, 2),
-            (0, 6, What::Commit, 3, 0, 3),
-            (0, 7, What::Reveal, 3, 0, 3),
-            (1, 0, What::Commit, 0, 11, 0),
-            (1, 1, What::Reveal, 0, 11, 0),
-            (1, 2, What::Commit, 1, 11, 1),
-            (1, 3, What::Reveal, 1, 11, 1),
-            (1, 4, What::Commit, 2, 5, 2),
-            (1, 5, What::Reveal, 2, 5, 2),
-            (1, 6, What::Commit, 3, 0, 3),
-            (1, 7, What::Reveal, 3, 0, 3),
+            Shown(0, 0, What::Commit, 0, 11, 0),
+            Shown(0, 1, What::Reveal, 0, 11, 0),
+            Shown(0, 2, What::Commit, 1, 11, 1),
+            Shown(0, 3, What::Reveal, 1, 11, 1),
+            Shown(0, 4, What::Commit, 2, 5, 2),
+            Shown(0, 5, What::Reveal, 2, 5, 2),
+            Shown(0, 6, What::Commit, 3, 0, 3),
+            Shown(0, 7, What::Reveal, 3, 0, 3),
+            Shown(1, 0, What::Commit, 0, 11, 0),
+            Shown(1, 1, What::Reveal, 0, 11, 0),
+            Shown(1, 2, What::Commit, 1, 11, 1),
+            Shown(1, 3, What::Reveal, 1, 11, 1),
+            Shown(1, 4, What::Commit, 2, 5, 2),
+            Shown(1, 5, What::Reveal, 2, 5, 2),
+            Shown(1, 6, What::Commit, 3, 0, 3),
+            Shown(1, 7, What::Reveal, 3, 0, 3),
         ],
         findings: &[Finding {
             player: 2,
@@ -171,9 +171,9 @@ static ROWS: [Row; 10] = [
     Row {
         session: CORRIDOR,
         shown: &[
-            (0, 0, What::Reveal, 0, 5, 0),
-            (1, 0, What::Commit, 0, 5, 0),
-            (1, 1, What::Reveal, 0, 5, 0),
+            Shown(0, 0, What::Reveal, 0, 5, 0),
+            Shown(1, 0, What::Commit, 0, 5, 0),
+            Shown(1, 1, What::Reveal, 0, 5, 0),
         ],
         findings: &[Finding {
             player: 2,
@@ -186,7 +186,10 @@ static ROWS: [Row; 10] = [
     // the reveal may come before its commitment
     Row {
         session: CORRIDOR,
-        shown: &[(0, 3, What::Reveal, 0, 5, 0), (0, 4, What::Commit, 0, 5, 0)],
+        shown: &[
+            Shown(0, 3, What::Reveal, 0, 5, 0),
+            Shown(0, 4, What::Commit, 0, 5, 0),
+        ],
         findings: &[Finding {
             player: 2,
             turn: 0,
@@ -199,10 +202,10 @@ static ROWS: [Row; 10] = [
     Row {
         session: TWO_AHEAD,
         shown: &[
-            (0, 0, What::Commit, 0, 11, 0),
-            (0, 1, What::Commit, 1, 5, 1),
-            (0, 2, What::Reveal, 0, 11, 0),
-            (0, 3, What::Reveal, 1, 5, 1),
+            Shown(0, 0, What::Commit, 0, 11, 0),
+            Shown(0, 1, What::Commit, 1, 5, 1),
+            Shown(0, 2, What::Reveal, 0, 11, 0),
+            Shown(0, 3, What::Reveal, 1, 5, 1),
         ],
         findings: &[Finding {
             player: 2,
@@ -216,11 +219,11 @@ static ROWS: [Row; 10] = [
     Row {
         session: CORRIDOR,
         shown: &[
-            (0, 0, What::Commit, 0, 11, 0),
-            (0, 1, What::Commit, 0, 11, 0),
-            (0, 2, What::Reveal, 0, 11, 0),
-            (0, 3, What::Reveal, 0, 11, 0),
-            (1, 0, What::Commit, 0, 11, 0),
+            Shown(0, 0, What::Commit, 0, 11, 0),
+            Shown(0, 1, What::Commit, 0, 11, 0),
+            Shown(0, 2, What::Reveal, 0, 11, 0),
+            Shown(0, 3, What::Reveal, 0, 11, 0),
+            Shown(1, 0, What::Commit, 0, 11, 0),
         ],
         findings: &[],
     },
@@ -228,9 +231,9 @@ static ROWS: [Row; 10] = [
     Row {
         session: CORRIDOR,
         shown: &[
-            (0, 0, What::Commit, 0, 11, 0),
-            (0, 1, What::Reveal, 0, 11, 0),
-            (0, 2, What::Reveal, 0, 10, 0),
+            Shown(0, 0, What::Commit, 0, 11, 0),
+            Shown(0, 1, What::Reveal, 0, 11, 0),
+            Shown(0, 2, What::Reveal, 0, 10, 0),
         ],
         findings: &[Finding {
             player: 2,
@@ -241,6 +244,23 @@ static ROWS: [Row; 10] = [
         }],
     },
 ];
+
+fn session_of(alloc: Global, text: &[u8]) -> Result<Session, Fail> {
+    match read_session(alloc, text) {
+        Err(_) => Err("refused".into()),
+        Ok(session) => Ok(session),
+    }
+}
+
+/// The findings of an index.
+fn all_findings(
+    alloc: Global,
+    session: &Session,
+    index: &FrameIndex,
+) -> Result<Vec<Finding>, Fail> {
+    let mut walker = Walker::new(alloc, session.grid())?;
+    Ok(findings(alloc, session, &mut walker, index)?)
+}
 
 /// The opening of a player who goes to the column, with a nonce of 32 such bytes.
 fn opening(turn: Turn, x: u16, byte: u8) -> Opening {
@@ -276,37 +296,47 @@ fn frame_of(session: &Session, what: What, opening: &Opening) -> TurnFrame {
 fn take(
     index: &mut FrameIndex,
     session: &Session,
-    frame: TurnFrame,
+    frame: &TurnFrame,
     spot: Spot,
 ) -> Result<(), AllocError> {
-    if spot.log < MOST_LOGS && (spot.entry as usize) < LONGEST_LOG {
-        index.take(session, &frame, spot)?;
+    if spot.log >= MOST_LOGS || spot.entry as usize >= LONGEST_LOG {
+        return Ok(());
     }
-    Ok(())
+    index.take(session, frame, spot)
+}
+
+/// Takes a frame of a row.
+fn take_shown(index: &mut FrameIndex, session: &Session, shown: &Shown) -> Result<(), AllocError> {
+    let own = opening(shown.3, shown.4, shown.5);
+    let frame = frame_of(session, shown.2, &own);
+    let spot = Spot {
+        log: shown.0,
+        entry: shown.1,
+    };
+    take(index, session, &frame, spot)
 }
 
 /// Takes the frames of a row.
 fn take_all(index: &mut FrameIndex, session: &Session, shown: &[Shown]) -> Result<(), AllocError> {
-    for (log, entry, what, turn, x, byte) in shown {
-        let frame = frame_of(session, *what, &opening(*turn, *x, *byte));
-        let spot = Spot {
-            log: *log,
-            entry: *entry,
-        };
-        take(index, session, frame, spot)?;
+    for one in shown {
+        take_shown(index, session, one)?;
     }
     Ok(())
+}
+
+/// What a row's frames show.
+fn found_in(alloc: Global, row: &Row) -> Result<Vec<Finding>, Fail> {
+    let session = session_of(alloc, row.session)?;
+    let mut index = FrameIndex::new(alloc);
+    take_all(&mut index, &session, row.shown)?;
+    all_findings(alloc, &session, &index)
 }
 
 #[test]
 fn logs_show_what_they_hold_together(rt: HostRuntime) -> Result<(), Fail> {
     let alloc = rt.alloc();
     for (number, row) in ROWS.iter().enumerate() {
-        let session = read_session(alloc, row.session).map_err(|_| "refused")?;
-        let mut walker = Walker::new(alloc, session.grid())?;
-        let mut index = FrameIndex::new(alloc);
-        take_all(&mut index, &session, row.shown)?;
-        let found = findings(alloc, &session, &mut walker, &index)?;
+        let found = found_in(alloc, row)?;
         assert!(rt; found.as_slice() == row.findings, "{number}");
     }
     Ok(())
@@ -324,20 +354,26 @@ fn numbered(number: u32) -> Nonce {
     Nonce { bytes }
 }
 
+/// A reveal of the first turn, with the nonce of that number.
+fn reveal_of(session: &Session, number: u32) -> TurnFrame {
+    let mut own = opening(0, 11, 0);
+    own.nonce = numbered(number);
+    frame_of(session, What::Reveal, &own)
+}
+
+/// Takes a reveal of the turn, with the nonce of that number.
+fn take_reveal(index: &mut FrameIndex, session: &Session, number: u32) -> Result<(), AllocError> {
+    let frame = reveal_of(session, number);
+    let entry = number.saturating_add(1);
+    take(index, session, &frame, Spot { log: 0, entry })
+}
+
 /// Takes a commitment and many different reveals of its turn, of which the first opens it.
 fn take_many(index: &mut FrameIndex, session: &Session) -> Result<(), AllocError> {
-    let own = opening(0, 11, 0);
-    let commit = frame_of(session, What::Commit, &own);
-    take(index, session, commit, Spot { log: 0, entry: 0 })?;
+    let commit = frame_of(session, What::Commit, &opening(0, 11, 0));
+    take(index, session, &commit, Spot { log: 0, entry: 0 })?;
     for number in 0..MANY {
-        let mut other = own;
-        other.nonce = numbered(number);
-        let reveal = frame_of(session, What::Reveal, &other);
-        let spot = Spot {
-            log: 0,
-            entry: number + 1,
-        };
-        take(index, session, reveal, spot)?;
+        take_reveal(index, session, number)?;
     }
     Ok(())
 }
@@ -345,11 +381,10 @@ fn take_many(index: &mut FrameIndex, session: &Session) -> Result<(), AllocError
 #[test]
 fn many_reveals_of_one_turn_are_not_compared_one_by_one(rt: HostRuntime) -> Result<(), Fail> {
     let alloc = rt.alloc();
-    let session = read_session(alloc, CORRIDOR).map_err(|_| "refused")?;
-    let mut walker = Walker::new(alloc, session.grid())?;
+    let session = session_of(alloc, CORRIDOR)?;
     let mut index = FrameIndex::new(alloc);
     take_many(&mut index, &session)?;
-    let found = findings(alloc, &session, &mut walker, &index)?;
+    let found = all_findings(alloc, &session, &index)?;
     let expected = Finding {
         player: PLAYER,
         turn: 0,
@@ -361,23 +396,26 @@ fn many_reveals_of_one_turn_are_not_compared_one_by_one(rt: HostRuntime) -> Resu
     Ok(())
 }
 
+/// The reveal of that number. Its digest is of that number too, but for the one of number 70, which has that of number 5.
+fn seen_of(session: &Session, number: u32) -> Seen {
+    let nonce = numbered(if number == 70 { 5 } else { number });
+    let bytes = nonce.bytes;
+    Seen {
+        spot: Spot {
+            log: 0,
+            entry: number,
+        },
+        frame: reveal_of(session, number),
+        digest: Digest { bytes },
+    }
+}
+
 /// A hundred different reveals of a turn, each with a digest of its own, but for the one of number 70, which has that of number 5.
 /// These are not the digests of their openings: no two openings with one are known.
 fn colliding(alloc: Global, session: &Session) -> Result<Vec<Seen>, AllocError> {
     let mut seen = Vec::new(alloc);
     for number in 0..100 {
-        let mut own = opening(0, 11, 0);
-        own.nonce = numbered(number);
-        seen.push(Seen {
-            spot: Spot {
-                log: 0,
-                entry: number,
-            },
-            frame: frame_of(session, What::Reveal, &own),
-            digest: Digest {
-                bytes: numbered(if number == 70 { 5 } else { number }).bytes,
-            },
-        })?;
+        seen.push(seen_of(session, number))?;
     }
     Ok(seen)
 }
@@ -385,7 +423,7 @@ fn colliding(alloc: Global, session: &Session) -> Result<Vec<Seen>, AllocError> 
 #[test]
 fn a_collision_is_found_among_many(rt: HostRuntime) -> Result<(), Fail> {
     let alloc = rt.alloc();
-    let session = read_session(alloc, CORRIDOR).map_err(|_| "refused")?;
+    let session = session_of(alloc, CORRIDOR)?;
     let seen = colliding(alloc, &session)?;
     let first = Spot { log: 0, entry: 0 };
     let second = Spot { log: 0, entry: 1 };

@@ -85,19 +85,19 @@ no_sync v e h = elim (or_cases _ _ (and_parts _ _ h).0) [
 
 no_dial : (v : View) (addr : Addr) (o : Option Seat) → is_still v.phase ≡ true → may_dial_at v addr o ≡ true → ⊥
 no_dial v addr None e h = cc
-no_dial v addr (Some c) e h = not_running v.phase e (and_parts _ _ (and_parts _ _ h).0).0
+no_dial v addr (Some c) e h = not_running v.phase e (and_parts _ _ (and_parts _ _ (and_parts _ _ h).0).0).0
 
 no_read : (v : View) (o : Option Line) → is_still v.phase ≡ true → may_read_line v o ≡ true → ⊥
 no_read v None e h = cc
-no_read v (Some l) e h = not_running v.phase e (and_parts _ _ h).0
+no_read v (Some l) e h = not_running v.phase e (and_parts _ _ (and_parts _ _ h).0).0
 
 no_write : (v : View) (o : Option Line) → is_still v.phase ≡ true → may_write_line v o ≡ true → ⊥
 no_write v None e h = cc
-no_write v (Some l) e h = not_running v.phase e (and_parts _ _ (and_parts _ _ (and_parts _ _ (and_parts _ _ h).0).0).0).0
+no_write v (Some l) e h = not_running v.phase e (and_parts _ _ (and_parts _ _ (and_parts _ _ (and_parts _ _ (and_parts _ _ h).0).0).0).0).0
 
 no_shut : (v : View) (o : Option Line) → is_still v.phase ≡ true → may_shut_line v o ≡ true → ⊥
 no_shut v None e h = cc
-no_shut v (Some l) e h = not_running v.phase e (and_parts _ _ h).0
+no_shut v (Some l) e h = not_running v.phase e (and_parts _ _ (and_parts _ _ h).0).0
 
 no_poll : (v : View) → is_still v.phase ≡ true → is_licensed v ≡ true → ⊥
 no_poll v e h = not_running v.phase e (and_parts _ _ (and_parts _ _ (and_parts _ _ (and_parts _ _ (and_parts _ _ (and_parts _ _ h).0).0).0).0).0).0
@@ -144,7 +144,8 @@ ended_behind v (WriteCall s) e = absurd (cc)
 ended_behind v (KeepCall bytes) e = refl
 ended_behind v SyncCall e = refl
 
-none_behind : (v : View) (items : List Item) → is_ended v.phase ≡ true → are_allowed v items ≡ true → items ≡ []
+-- behind a fault nothing comes
+pub none_behind : (v : View) (items : List Item) → is_ended v.phase ≡ true → are_allowed v items ≡ true → items ≡ []
 none_behind v [] e h = refl
 none_behind v (item ∷ items) e h = absurd (no_item v item e (and_parts _ _ h).0)
 

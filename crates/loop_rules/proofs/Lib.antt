@@ -1,9 +1,9 @@
-mod Tests
 pub mod Prefixes
-mod Ends
+pub mod Ends
+mod Findings
 pub mod Given
 pub mod Kept
-mod Fair
+pub mod Fair
 mod Runs
 mod Computed
 mod Received

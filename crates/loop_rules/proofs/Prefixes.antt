@@ -1,36 +1,36 @@
 -- Prefixes: a history is taken apart at an item.
 use Rattle.std.proofs.Common.{◌≡◌, true, refl, List, [], ◌∷◌, ◌++◌}
+use Rattle.std.proofs.lemmas.Bool.{and_from, and_parts}
 use Rattle.socket_station.specs.Items.{Item, PollCall, Polled, Failed}
 use Rattle.loop_rules.specs.Views.{View, start}
-use Rattle.loop_rules.specs.After.{after, view_after, view_of}
+use Rattle.loop_rules.specs.After.{after, view_after}
 use Rattle.loop_rules.specs.Rules.{is_allowed}
 use Rattle.loop_rules.specs.Histories.{are_allowed}
 use Rattle.loop_rules.specs.Laws.{PrefixesAreHistories, ItemsAreAllowed, AllowedItemsAreAdded, PollsAreLicensed, FailedPollsAreLicensed}
-use Rattle.loop_rules.proofs.Tests.{first_of, second_of, both_of}
 
 pub before : (v : View) (items more : List Item) → are_allowed v (items ++ more) ≡ true → are_allowed v items ≡ true
 before v [] more h = refl
 before v (item ∷ items) more h =
-    both_of (is_allowed v item) (are_allowed (after v item) items) (first_of (is_allowed v item) (are_allowed (after v item) (items ++ more)) h)
-    (before (after v item) items more (second_of (is_allowed v item) (are_allowed (after v item) (items ++ more)) h))
+    and_from (is_allowed v item) (are_allowed (after v item) items) ((and_parts _ _ h).0)
+    (before (after v item) items more ((and_parts _ _ h).1))
 
 -- what follows is allowed behind the view
 pub behind : (v : View) (items more : List Item) → are_allowed v (items ++ more) ≡ true → are_allowed (view_after v items) more ≡ true
 behind v [] more h = h
-behind v (item ∷ items) more h = behind (after v item) items more (second_of (is_allowed v item) (are_allowed (after v item) (items ++ more)) h)
+behind v (item ∷ items) more h = behind (after v item) items more ((and_parts _ _ h).1)
 
 pub added : (v : View) (items : List Item) (item : Item) → are_allowed v items ≡ true → is_allowed (view_after v items) item ≡ true → are_allowed v (items ++ item ∷ []) ≡ true
-added v [] item h k = both_of (is_allowed v item) true k refl
+added v [] item h k = and_from (is_allowed v item) true k refl
 added v (first ∷ items) item h k =
-    both_of (is_allowed v first) (are_allowed (after v first) (items ++ item ∷ [])) (first_of (is_allowed v first) (are_allowed (after v first) items) h)
-    (added (after v first) items item (second_of (is_allowed v first) (are_allowed (after v first) items) h) k)
+    and_from (is_allowed v first) (are_allowed (after v first) (items ++ item ∷ [])) ((and_parts _ _ h).0)
+    (added (after v first) items item ((and_parts _ _ h).1) k)
 
 pub prefixes : PrefixesAreHistories
 prefixes s items more h = before (start s) items more h
 
 pub items_are_allowed : ItemsAreAllowed
 items_are_allowed s items more item h =
-    first_of (is_allowed (view_of s items) item) (are_allowed (after (view_of s items) item) more) (behind (start s) items (item ∷ more) h)
+    (and_parts _ _ (behind (start s) items (item ∷ more) h)).0
 
 pub allowed_are_added : AllowedItemsAreAdded
 allowed_are_added s items item h k = added (start s) items item h k

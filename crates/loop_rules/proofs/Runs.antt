@@ -1,6 +1,6 @@
 -- Runs: the log kept is the protocol's own run.
-use Rattle.std.proofs.Common.{◌≡◌, ℕ, ◌≤◌, Bool, true, false, refl, sym, ap, subst, ◌∙◌, List, [], ◌∷◌, ◌++◌, append_assoc, append-nil, arith, length, length-append}
-use Rattle.std.specs.Prelude.{Option, Some, None, ◌&&◌, ◌==◌, ◌||◌, is_none, if◌then◌else◌}
+use Rattle.std.proofs.Common.{◌≡◌, ℕ, ◌≤◌, Bool, true, refl, sym, ap, subst, ◌∙◌, List, [], ◌∷◌, ◌++◌, append_assoc, append-nil, arith, length, length-append}
+use Rattle.std.specs.Prelude.{Option, Some, None, ◌&&◌, is_none, if◌then◌else◌}
 use Rattle.std.proofs.lemmas.Bool.{and_from, and_parts, eqb-true, false≢true}
 use Rattle.definitions.specs.declared.world.Move.{Move}
 use Rattle.definitions.specs.declared.openings.Nonce.{Nonce}
@@ -8,11 +8,10 @@ use Rattle.definitions.specs.declared.frames.TurnFrame.{TurnFrame}
 use Rattle.definitions.specs.declared.logs.Entry.{Entry}
 use Rattle.definitions.specs.declared.logs.Entry.TheVariants.{Chose, Made, Got}
 use Rattle.definitions.specs.World.{Game}
-use Rattle.definitions.specs.Moves.{is_legal}
 use Rattle.definitions.specs.Logs.{chosen}
 use Rattle.definitions.specs.Findings.{is_clean}
 use Rattle.definitions.specs.Answers.{is_new, is_of_another}
-use Rattle.definitions.specs.Honest.{IsHonest, allowed, allows, allows_choice, chosen_track}
+use Rattle.definitions.specs.Honest.{IsHonest, allowed, allows, allows_choice}
 use Rattle.definitions.specs.Needs.{may_choose}
 use Rattle.definitions.specs.Advance.{advance, next_made}
 use Rattle.definitions.specs.Steps.{LogStep, Chooses, Comes, after_choice, after_got, is_taken_in, log_after, log_run}

@@ -61,7 +61,8 @@ lucky_from id (b ∷ handed) (owner ∷ image) =
     if b == owner then lucky_behind (length image) (first_chain id owner) handed image
     else has_whole image && is_chained (first_chain id owner) image
 
--- The image has a lucky tail: bytes that were never handed to `keep` and that read as an entry all the same. Who makes such bytes by
--- chance has found what SHA-256 is believed to hide, so a crash is taken to leave none.
+-- The image has a lucky tail: bytes that were never handed to `keep` and that read as an entry all the same. A crash is taken to leave none:
+-- who makes such bytes by chance has found what SHA-256 is believed to hide, and a log is begun as a new file, in which nothing stands of an
+-- older one that began alike.
 abbrev pub has_lucky_tail : Setting → (handed image : List ℕ) → Bool
 has_lucky_tail s handed image = lucky_from s.game.id handed image

@@ -1,5 +1,5 @@
 -- Laws: what holds of every history.
-use Rattle.std.specs.Prelude.{◌≡◌, ◌⊎◌, ◌<◌, ◌≤◌, ℕ, Bool, true, ◌||◌, List, [], ◌∷◌, ◌++◌, Some, is_some, IsTrue, slice_get}
+use Rattle.std.specs.Prelude.{◌≡◌, ◌⊎◌, ◌<◌, ◌≤◌, ℕ, Bool, true, false, ◌||◌, List, [], ◌∷◌, ◌++◌, Some, is_some, IsTrue, slice_get}
 use Rattle.definitions.specs.declared.frames.TurnFrame.{TurnFrame}
 use Rattle.definitions.specs.declared.frames.TurnFrame.TheVariants as F
 use Rattle.definitions.specs.declared.world.Move.{Move}
@@ -11,17 +11,19 @@ use Rattle.definitions.specs.World.{players_of}
 use Rattle.definitions.specs.Held.{held}
 use Rattle.definitions.specs.Meets.{meets}
 use Rattle.definitions.specs.Honest.{IsHonest}
+use Rattle.definitions.specs.Findings.{is_clean}
 use Rattle.definition_laws.specs.Members.{Has}
 use Rattle.wire_frames.specs.declared.frames.Frame.{Frame}
 use Rattle.wire_frames.specs.declared.frames.Frame.TheVariants.{Hello, Turn, Want}
 use Rattle.wire_frames.specs.Spelling.{spelling}
 use Rattle.wire_frames.specs.Streams.{given_of}
 use Rattle.socket_station.specs.declared.answers.Ready.{Ready}
-use Rattle.socket_station.specs.Items.{Item, Call, PollCall, Polled, Took, Gave, Failed}
+use Rattle.socket_station.specs.Items.{Item, Call, PollCall, SyncCall, Polled, Took, Gave, Synced, Failed}
 use Rattle.socket_station.specs.Faults.{is_poll_call, is_keep_call}
 use Rattle.socket_station.specs.Moved.{kept_in}
 use Rattle.socket_station.specs.Standings.{OpensNew}
 use Rattle.session_log.specs.Spelling.{log_bytes}
+use Rattle.loop_rules.specs.declared.phases.Phase.TheVariants.{Running}
 use Rattle.loop_rules.specs.Settings.{Setting}
 use Rattle.socket_lines.specs.declared.line.Line.{Line}
 use Rattle.loop_rules.specs.Tables.{line_of}
@@ -90,6 +92,17 @@ KeptBytesAreTheLog = (s : Setting) (items : List Item) → IsHistory s items →
 -- the first item begins a log, or is the failure of that
 abbrev pub LogsAreBegunFirst : Type 0
 LogsAreBegunFirst = (s : Setting) (item : Item) (more : List Item) → IsHistory s (item ∷ more) → IsTrue (is_some (log_name item))
+
+-- a sync, done or failed
+abbrev pub IsSync : Item → Type 0
+IsSync Synced = Unit {0}
+IsSync (Failed SyncCall) = Unit {0}
+IsSync _ = ⊥
+
+-- while the loop listens, nothing stands behind a log with a finding but a sync of it
+abbrev pub FindingsAreLast : Type 0
+FindingsAreLast = (s : Setting) (items more : List Item) (item : Item) → (view_of s items).phase ≡ Running → is_clean (view_of s items).setting.game (view_of s items).kept ≡ false →
+    IsHistory s (items ++ item ∷ more) → IsSync item
 
 -- the log kept is one that an honest peer may have, where the entries taken over are
 abbrev pub KeptIsHonest : Type 0

@@ -3,6 +3,7 @@ use Rattle.std.specs.Prelude.{ℕ, Bool, true, false, not, ◌&&◌, ◌||◌, �
 use Rattle.std.specs.Str.{bytes_eq}
 use Rattle.definitions.specs.declared.frames.TurnFrame.{TurnFrame}
 use Rattle.definitions.specs.Lists.{is_empty}
+use Rattle.definitions.specs.Findings.{is_clean}
 use Rattle.socket_station.specs.declared.answers.Addr.{Addr}
 use Rattle.socket_station.specs.Items.{Item, Call, ListenCall, LogCall, DialCall, PollCall, ReadCall, WriteCall, KeepCall, SyncCall, Listening, LogBegun, Dialled, Polled, Took, Gave, ReadNotYet, WriteNotYet, Ended, Failed, Shut, Kept, Synced}
 use Rattle.socket_lines.specs.declared.line.Line.{Line}
@@ -49,6 +50,10 @@ may_listen v addr =
 abbrev pub may_sync : View → Bool
 may_sync v = (is_running v.phase || (is_logged v.phase && is_over_kept v)) && nat_lt v.synced (length v.kept)
 
+-- the loop listens, and its log has no finding: behind one no socket is dialled, read, written or shut
+abbrev pub is_serving : View → Bool
+is_serving v = is_running v.phase && is_clean v.setting.game v.kept
+
 -- ---- dialling: a player above the own one, which has no open socket, was not dialled since the last poll, and is not spent
 
 abbrev pub wants_dial : (me : ℕ) → Table → Seat → Bool
@@ -56,7 +61,7 @@ wants_dial me t c = nat_lt me c.link.player && not (is_served t c.link.player) &
 
 abbrev pub may_dial_at : View → Addr → Option Seat → Bool
 may_dial_at v addr None = false
-may_dial_at v addr (Some c) = is_running v.phase && wants_dial v.setting.me v.table c && addr_eq addr (told_addr c.link.addr)
+may_dial_at v addr (Some c) = is_serving v && wants_dial v.setting.me v.table c && addr_eq addr (told_addr c.link.addr)
 
 abbrev pub may_dial : View → (q : ℕ) → Addr → Bool
 may_dial v q addr = may_dial_at v addr (seat_of v.table q)
@@ -68,7 +73,7 @@ wants_read t l = l.is_open && not (asks_shut t l) && not l.is_quiet
 
 abbrev pub may_read_line : View → Option Line → Bool
 may_read_line v None = false
-may_read_line v (Some l) = is_running v.phase && wants_read v.table l
+may_read_line v (Some l) = is_serving v && wants_read v.table l
 
 abbrev pub may_read : View → (s : ℕ) → Bool
 may_read v s = may_read_line v (line_of v.table s)
@@ -94,7 +99,7 @@ due_of v l = due_at (speaker_of v.setting) (own_at (safe_frames v) l) (desk_of v
 abbrev pub may_write_line : View → Option Line → Bool
 may_write_line v None = false
 may_write_line v (Some l) =
-    is_running v.phase && l.is_open && not (asks_shut v.table l) && not l.is_blocked && not (is_empty (due_of v l))
+    is_serving v && l.is_open && not (asks_shut v.table l) && not l.is_blocked && not (is_empty (due_of v l))
 
 abbrev pub may_write : View → (s : ℕ) → Bool
 may_write v s = may_write_line v (line_of v.table s)
@@ -114,7 +119,7 @@ may_give v s bytes = may_write v s && are_due v bytes (line_of v.table s)
 
 abbrev pub may_shut_line : View → Option Line → Bool
 may_shut_line v None = false
-may_shut_line v (Some l) = is_running v.phase && asks_shut v.table l
+may_shut_line v (Some l) = is_serving v && asks_shut v.table l
 
 abbrev pub may_shut : View → (s : ℕ) → Bool
 may_shut v s = may_shut_line v (line_of v.table s)

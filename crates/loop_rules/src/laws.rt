@@ -1,6 +1,6 @@
 //! Laws of histories: functions that do nothing, whose clauses are proved.
 
-ghost use Rattle.loop_rules.specs.Laws.{PrefixesAreHistories, ItemsAreAllowed, AllowedItemsAreAdded, PollsAreLicensed, FailedPollsAreLicensed, LogsAreBegunFirst, FaultsAreLast, ToldGoesOn, GivenIsDue, KeptBytesAreTheLog, KeptIsHonest, RevealsKeptStandBehind, ReceiptsStandBehind, RevealsGivenAreFair};
+ghost use Rattle.loop_rules.specs.Laws.{PrefixesAreHistories, ItemsAreAllowed, AllowedItemsAreAdded, PollsAreLicensed, FailedPollsAreLicensed, LogsAreBegunFirst, FaultsAreLast, FindingsAreLast, ToldGoesOn, GivenIsDue, KeptBytesAreTheLog, KeptIsHonest, RevealsKeptStandBehind, ReceiptsStandBehind, RevealsGivenAreFair};
 ghost use Rattle.loop_rules.specs.Runs.{LogsAreRuns};
 
 /// What was told up to some moment is a history: each of its items may come behind those before it, and such an item makes one more.
@@ -30,6 +30,12 @@ pub fn logs_are_begun_first()
 /// Behind a failed `listen`, `poll`, `log_to`, `keep` or `sync` nothing stands.
 pub fn faults_are_last()
     ensures { FaultsAreLast }
+{}
+
+/// While the loop listens, nothing stands behind a log with a finding but a sync of it: no socket is dialled, read, written or shut, no entry
+/// kept, and nothing polled.
+pub fn findings_are_last()
+    ensures { FindingsAreLast }
 {}
 
 /// Bytes are given on a socket that was opened, and they are the first ones of those that go out next there: what is left of the frame that was

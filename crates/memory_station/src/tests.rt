@@ -533,18 +533,23 @@ static IMAGES: [(u32, &[u8], &[u8]); 9] = [
     (5, b"\xff", b"abcd\xff"),
 ];
 
-/// Whether a crash behind so many items and with that tail leaves this.
+/// What a crash behind so many items and with that tail leaves.
+fn left(alloc: Global, station: &MemoryStation, items: u32, tail: &[u8]) -> Result<Vec<u8>, Fail> {
+    if items > station.items() {
+        return Err("so many items are not told".into());
+    }
+    Ok(station.image(alloc, items, tail)?)
+}
+
+/// Whether such a crash leaves this.
 fn leaves(
     alloc: Global,
     station: &MemoryStation,
     items: u32,
     tail: &[u8],
     want: &[u8],
-) -> Result<bool, AllocError> {
-    if items > station.items() {
-        return Ok(false);
-    }
-    let image = station.image(alloc, items, tail)?;
+) -> Result<bool, Fail> {
+    let image = left(alloc, station, items, tail)?;
     Ok(image.as_slice() == want)
 }
 

@@ -28,4 +28,4 @@ mod upgrading;
 mod words;
 
 pub use memory::run_in_memory;
-pub use program::run;
+pub use program::{run, run_plainly};

@@ -125,3 +125,30 @@ pub(crate) fn peer_for<I: Source, O: Sink, H: Shelf, S: Station, R: Rng>(
     let status = play_by(alloc, words, input, out, shelf, station, chance);
     refuse(status, out)
 }
+
+/// Plays as the words ask for, which were read without clap. The input is left alone.
+pub(crate) fn peer_plainly<I: Source, O: Sink, H: Shelf, S: Station, R: Rng>(
+    alloc: Global,
+    words: PeerWords<'_>,
+    input: &mut I,
+    out: &mut O,
+    shelf: &mut H,
+    station: &mut S,
+    chance: &mut R,
+) -> Status
+    requires first { S.history station.old ≡ [] }
+    ensures { RunsPeer
+        (record {
+          peering = peering_said words.entry;
+          before = record { input = I.state input.old; output = O.state out.old; shelf = H.state shelf.old };
+          after = record { input = I.state input.new; output = O.state out.new; shelf = H.state shelf.new };
+          items = S.history station.old;
+          items' = S.history station.new;
+          chance = R.stream chance.old;
+          later = R.stream chance.new;
+        })
+        (input.new ≡ input.old) result }
+{
+    let status = play_for(alloc, words, input, out, shelf, station, chance);
+    refuse(status, out)
+}

@@ -71,7 +71,7 @@ fn read_words(words: &[Vec<u8>]) -> Option<Command<'_>>
 
 /// The command that the program's words are.
 #[tactic(auto, unfolding(crate::specs::Words::command_of))]
-fn read_command(words: &[Vec<u8>]) -> Option<Command<'_>>
+pub(crate) fn read_command(words: &[Vec<u8>]) -> Option<Command<'_>>
     ensures { option_map W.command_said result ≡ W.command_of (map (λ w. w.items) words.now) }
 {
     if are_words(words) {
@@ -104,7 +104,7 @@ fn read_peer_behind(words: &[Vec<u8>]) -> Option<PeerWords<'_>>
 
 /// What a run over sockets is to do, by the program's words, if they ask for one.
 #[tactic(auto, unfolding(crate::specs::Peers::peering_of))]
-fn read_peering(words: &[Vec<u8>]) -> Option<PeerWords<'_>>
+pub(crate) fn read_peering(words: &[Vec<u8>]) -> Option<PeerWords<'_>>
     ensures { option_map peering_said result ≡ P.peering_of (map (λ w. w.items) words.now) }
 {
     if are_words(words) {

@@ -1,7 +1,7 @@
 -- Began: the log is begun, the entries of an older one are kept, and the loop listens.
 use Rattle.std.proofs.Common.{◌≡◌, ℕ, zero, suc, ◌+◌, ◌-◌, ◌<◌, ◌≤◌, Bool, true, false, refl, sym, ap, subst, ◌∙◌, List, [], ◌∷◌, ◌++◌, append_assoc, append-nil, arith, length}
 use Rattle.std.specs.Prelude.{Option, Some, ◌&&◌, ◌||◌, ◌==◌, nat_lt, take, slice_get}
-use Rattle.std.proofs.lemmas.Bool.{eq-eqb, lt-ltb}
+use Rattle.std.proofs.lemmas.Bool.{eq-eqb, lt-ltb, and_from}
 use Rattle.std.proofs.lemmas.List.{length-take-le}
 use Rattle.std.proofs.lemmas.Slice.Eq.{bytes_eq-Decides}
 use Rattle.std.proofs.Math.Seq.{take-length}
@@ -30,7 +30,6 @@ use Rattle.ready_loop.specs.Steps.{did_by, in_phase, written_for, next_bytes, ke
 use Rattle.ready_loop.specs.Beginning.{new_loop, IsNew, Begins}
 use Rattle.ready_loop.specs.Going.{poll_count, polls_of}
 use Rattle.ready_loop.specs.Overs.{logged_on, listens_on, IsTakingOver, TakesOver, SyncsOver}
-use Rattle.ready_loop.proofs.Tests.{both_of}
 use Rattle.ready_loop.proofs.Sorting.{more_kept}
 use Rattle.ready_loop.proofs.Entries.{entry_same, kept_tells, fault_tells}
 use Rattle.ready_loop.proofs.Idle.{still_view, all_kept}
@@ -239,7 +238,7 @@ sync_over_told done items m w kept lt = go done
     base = subst (IsTold items) (still_view m w.waiting w.handled) w.told
 
     may : is_allowed (base_of m) Synced ≡ true
-    may = both_of _ _ (ap (λ (p : Phase). is_running p || (is_logged p && (length (kept_of m) == length (take m.over m.peer.entries)))) w.logged ∙ over_is_kept m w.over kept)
+    may = and_from _ _ (ap (λ (p : Phase). is_running p || (is_logged p && (length (kept_of m) == length (take m.over m.peer.entries)))) w.logged ∙ over_is_kept m w.over kept)
         (ap (λ (n : ℕ). nat_lt m.synced n) (ap (λ (es : List Entry). length es) (all_kept m kept) ∙ sym kept) ∙ lt-ltb m.synced m.kept lt)
 
     go : (b : Bool) → IsTold (items ++ sync_item (did_by b) ∷ []) (view_of (synced_all b m))
@@ -262,11 +261,11 @@ pub syncs_over_none : (items : List Item) (i m : LoopState) → i ≡ m → IsTa
 syncs_over_none items i m is w same = let e = subst (λ (x : LoopState). x.synced ≡ x.kept) is same in record { more = []; grown = sym (append-nil items); polls = refl; told = w.told; same = ap (λ (n : ℕ). record m { synced = n }) e }
 
 same_addr : (a : Addr) → addr_eq a a ≡ true
-same_addr a = both_of _ _ ((bytes_eq-Decides a.ip a.ip).1 refl) (eq-eqb a.port a.port refl)
+same_addr a = and_from _ _ ((bytes_eq-Decides a.ip a.ip).1 refl) (eq-eqb a.port a.port refl)
 
 listen_may : (m : LoopState) → m.phase ≡ Logged → m.over ≡ length m.peer.entries → m.kept ≡ length m.peer.entries → m.synced ≡ m.kept → is_allowed (base_of m) (Listening (told_addr m.roster.me)) ≡ true
 listen_may m logged over kept synced =
-    both_of _ _ (both_of _ _ (both_of _ _ (ap is_logged logged) (over_is_kept m over kept))
+    and_from _ _ (and_from _ _ (and_from _ _ (ap is_logged logged) (over_is_kept m over kept))
     (eq-eqb _ _ (synced ∙ kept ∙ sym (ap (λ (es : List Entry). length es) (all_kept m kept))))) (same_addr (told_addr m.roster.me))
 
 pub listens : (done : Bool) (name : List ℕ) (items after : List Item) (l m n : LoopState) → IsOverKept name items l m → m.synced ≡ m.kept → after ≡ items ++ listen_item (did_by done) (told_addr m.roster.me) ∷ [] → n ≡ listens_on done m →

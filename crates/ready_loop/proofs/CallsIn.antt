@@ -1,6 +1,6 @@
 -- CallsIn: what the calls that keep, handle and read ask of a loop that is seen as its parts, and what is so behind them.
-use Rattle.std.proofs.Common.{◌≡◌, ℕ, zero, suc, ◌+◌, ◌-◌, ◌*◌, ◌^◌, ◌<◌, ◌≤◌, Bool, true, false, refl, sym, ap, subst, ◌∙◌, List, [], ◌∷◌, ◌++◌, arith, length, get_or}
-use Rattle.std.specs.Prelude.{Some, None, not, ◌&&◌, ◌==◌, nat_lt, take, slice_get}
+use Rattle.std.proofs.Common.{◌≡◌, ℕ, ◌+◌, ◌-◌, ◌*◌, ◌^◌, ◌<◌, ◌≤◌, Bool, true, false, refl, sym, ap, subst, ◌∙◌, List, [], ◌∷◌, ◌++◌, arith, length, get_or}
+use Rattle.std.specs.Prelude.{Some, not, ◌&&◌, ◌==◌, nat_lt, take, slice_get}
 use Rattle.std.proofs.lemmas.Bool.{and_parts, ltb-true, false≢true}
 use Rattle.std.proofs.lemmas.List.{length-append, length-take-le, take-append-le}
 use Rattle.std.proofs.lemmas.Option.{slice_get-get_or}
@@ -48,6 +48,7 @@ use Rattle.ready_loop.proofs.ReadOnce.{ReadsAt, read_goes, reads_once}
 use Rattle.socket_table.specs.Finding.{IsAt}
 use Rattle.ready_loop.proofs.Heard.{next_few, pass_hears}
 use Rattle.ready_loop.proofs.Fits.{fit_grown, fit_table}
+use Rattle.socket_table.proofs.Changed.{each_at}
 
 pub no_fault : (p : Phase) → p ≡ Running → p ≡ KeepFault → ⊥
 no_fault p e f = (let q : Running ≡ KeepFault = sym e ∙ f in cc)
@@ -156,15 +157,10 @@ got_entry l w =
     let long : length (kept_of l) ≡ l.kept = length-take-le l.kept l.peer.entries (let k = w.kept in omega (arith, k)) in
     ap (λ (es : List Entry). slice_get es l.kept) w.entries ∙ ap (slice_get (kept_of l ++ e ∷ [])) (sym long) ∙ there_last (kept_of l) e
 
-each_place : (P : Arrival → Type 0) (xs : List Arrival) (k : ℕ) (x : Arrival) → EachIs P xs → slice_get xs k ≡ Some x → P x
-each_place P [] k x e g = absurd (let q : None ≡ Some x = g in cc)
-each_place P (y ∷ ys) zero x e g = subst P (let q : y ≡ x = cc in q) e.0
-each_place P (y ∷ ys) (suc k) x e g = each_place P ys k x e.1 g
-
 got_keeps : (items : List Item) (l : LoopState) (w : IsGot l) → IsTold items (view_of l) → FitsNext l → MayKeep items l (Got w.arrival.player w.arrival.frame)
 got_keeps items l w told fits =
     got_may items l w (got_lt l w) told (got_entry l w) (let k = w.kept in omega (arith, k)) (fits (Got w.arrival.player w.arrival.frame) (got_entry l w))
-    (each_drop (IsOfOther l.peer.game l.peer.me) l.handled l.table.waiting w.others) (each_place (IsOfOther l.peer.game l.peer.me) l.table.waiting l.handled w.arrival w.others w.first)
+    (each_drop (IsOfOther l.peer.game l.peer.me) l.handled l.table.waiting w.others) (each_at (IsOfOther l.peer.game l.peer.me) l.table.waiting l.handled w.arrival w.others w.first)
 
 pub got_more : (l : LoopState) → IsGot l → l.kept < length l.peer.entries
 got_more l w = (let k = w.kept in omega (arith, k))
@@ -269,7 +265,7 @@ heard_passed items i l m n a answer p w h f hearing next un state passed =
     let is : m ≡ l = state ∙ ap (λ (x : PeerState). record i { peer = x }) (h.log ∙ ap (λ (es : List Entry). record i.peer { entries = es }) (got_unlogged i.peer.game i.peer.me i.peer.entries a.player a.frame answer h.answered un)) ∙ h.same in
     let first = subst (λ (x : LoopState). slice_get x.table.waiting x.handled ≡ Some a) h.same h.first in
     let others = subst (λ (x : LoopState). EachIs (IsOfOther x.peer.game x.peer.me) x.table.waiting) h.same h.others in
-    pass_hears items l n a answer hearing parts.0 first parts.1 (each_place (IsOfOther l.peer.game l.peer.me) l.table.waiting l.handled a others first)
+    pass_hears items l n a answer hearing parts.0 first parts.1 (each_at (IsOfOther l.peer.game l.peer.me) l.table.waiting l.handled a others first)
     (subst (λ (x : LoopState). answer ≡ got_answer x.peer.game x.peer.me x.peer.entries a.player a.frame) h.same h.answered) un (passed ∙ ap (passed_as answer a.player) is)
 
 pub got_few : (r : Bool) (l m i : LoopState) → r ≡ true → m ≡ kept_next r l → i ≡ m → l.handled + 1 < 2 ^ 64 → i.handled + 1 < 2 ^ 64
@@ -349,7 +345,7 @@ outs_false r k s items after l m is h = subst (λ (b : Bool). ReadsOut b k s ite
 pub waiting_player : (i l : LoopState) (a : Arrival) (p : PeerState) (w : Writing) → i ≡ l → IsFit i w → slice_get l.table.waiting l.handled ≡ Some a → p ≡ record i.peer { entries = with_got i.peer.game i.peer.me i.peer.entries a.player a.frame } → a.player < players_of p.game
 waiting_player i l a p w same f first log =
     let h = subst (λ (x : LoopState). slice_get x.table.waiting x.handled ≡ Some a) (sym same) first in
-    let other = each_place (IsOfOther i.peer.game i.peer.me) i.table.waiting i.handled a f.waiting h in
+    let other = each_at (IsOfOther i.peer.game i.peer.me) i.table.waiting i.handled a f.waiting h in
     let both = and_parts (nat_lt a.player (players_of i.peer.game) && not (a.player == i.peer.me)) (player_of a.frame == a.player) other in
     let lt = ltb-true a.player (players_of i.peer.game) (and_parts (nat_lt a.player (players_of i.peer.game)) (not (a.player == i.peer.me)) both.0).0 in
     subst (λ (g : Game). a.player < players_of g) (sym (ap (λ (q : PeerState). q.game) log)) lt

@@ -21,7 +21,7 @@ use Rattle.definitions.specs.World.{Game}
 use Rattle.definitions.specs.Logs.{chosen}
 use Rattle.definitions.specs.Honest.{IsHonest, allowed, chosen_track}
 use Rattle.definitions.specs.Advance.{advance, advance_by, next_made, with_made}
-use Rattle.std.proofs.lemmas.Bool.{false≢true}
+use Rattle.std.proofs.lemmas.Bool.{false≢true, and_from}
 use Rattle.definitions.specs.declared.findings.Finding.{Finding}
 use Rattle.definitions.specs.Findings.{is_clean}
 use Rattle.definition_laws.proofs.Silent.{findings_chose, clean_advance}
@@ -52,7 +52,6 @@ use Rattle.ready_loop.specs.Settling.{IsPlaying, PutsChoice, illegal_of, Chooses
 use Rattle.ready_loop.specs.Choices.{Chooser}
 use Rattle.ready_loop.proofs.Going.{goes_still, grows, grows_then, grows_goes}
 use Rattle.ready_loop.proofs.Choices.{IsDrawn, chose_one, chose_refused, chooses_none, chooses_then, chooses_goes}
-use Rattle.ready_loop.proofs.Tests.{both_of}
 use Rattle.ready_loop.proofs.Idle.{all_kept}
 use Rattle.ready_loop.proofs.Kept.{MayKeep, own_goes, each_drop}
 
@@ -101,7 +100,7 @@ chosen_may l t mv n w honest kept over =
     ap (λ (p : Phase). may_keep_in p (view_of l) (Chose t mv n)) (k.phase ∙ w.idle.running)
     ∙ ap (λ (s : Setting). allowed s.game s.me (view_of l).kept (Chose t mv n) && is_none (next_made s.game s.me (view_of l).kept)) k.setting
     ∙ ap (λ (h : List Entry). allowed l.peer.game l.peer.me h (Chose t mv n) && is_none (next_made l.peer.game l.peer.me h)) (k.kept ∙ all_kept l w.idle.kept)
-    ∙ both_of _ _ (honest_last l.peer.game l.peer.me l.peer.entries (Chose t mv n) honest).1 (ap (λ (o : Option TurnFrame). is_none o) w.made)
+    ∙ and_from _ _ (honest_last l.peer.game l.peer.me l.peer.entries (Chose t mv n) honest).1 (ap (λ (o : Option TurnFrame). is_none o) w.made)
   where
     k : Keeps (base_of l) (view_of l)
     k = keeps_sorted (rest_of l) (base_of l)

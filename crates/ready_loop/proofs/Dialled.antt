@@ -2,8 +2,9 @@
 use Rattle.std.proofs.Common.{◌≡◌, ℕ, zero, suc, ◌+◌, ◌<◌, ◌≤◌, Bool, true, false, refl, sym, ap, subst, ◌∙◌, List, [], ◌∷◌, ◌++◌, arith, length}
 use Rattle.std.specs.Prelude.{Some, None, not, ◌&&◌, ◌||◌, ◌==◌, nat_lt, cond, slice_get, if◌then◌else◌}
 use Rattle.std.specs.List.{count_by}
-use Rattle.std.proofs.lemmas.Bool.{eq-eqb, eqb-true, eqb-false}
+use Rattle.std.proofs.lemmas.Bool.{eq-eqb, eqb-true, eqb-false, and_from}
 use Rattle.std.proofs.lemmas.Slice.Eq.{bytes_eq-Decides}
+use Rattle.definitions.specs.Findings.{is_clean}
 use Rattle.definitions.specs.declared.logs.Entry.{Entry}
 use Rattle.definitions.specs.Held.{next_place}
 use Rattle.socket_station.specs.declared.answers.Addr.{Addr}
@@ -16,7 +17,7 @@ use Rattle.socket_lines.specs.declared.seat.Seat.{Seat}
 use Rattle.socket_lines.specs.Seats.{dials, is_spent}
 use Rattle.loop_rules.specs.Settings.{told_addr, addr_eq}
 use Rattle.loop_rules.specs.Tables.{Table, at_seat, in_seats, seat_of, is_served}
-use Rattle.loop_rules.specs.Licence.{is_running, is_reached}
+use Rattle.loop_rules.specs.Licence.{is_reached}
 use Rattle.loop_rules.specs.Rules.{is_allowed, may_dial_at, wants_dial}
 use Rattle.loop_rules.specs.After as A
 use Rattle.loop_rules.specs.Told.{DiffersBy, IsNotIn, IsTold}
@@ -27,8 +28,7 @@ use Rattle.ready_loop.specs.States.{LoopState, base_of, view_of}
 use Rattle.ready_loop.specs.Steps.{with_table}
 use Rattle.ready_loop.specs.Going.{IsIdle, poll_count, undialled}
 use Rattle.ready_loop.specs.Serving.{IsServing, IsNextDial, Dials}
-use Rattle.ready_loop.proofs.Tests.{both_of}
-use Rattle.ready_loop.proofs.Idle.{idle_view, all_kept}
+use Rattle.ready_loop.proofs.Idle.{idle_view, all_kept, serves_on}
 use Rattle.ready_loop.proofs.Places.{at_length, all_places}
 use Rattle.ready_loop.proofs.Served.{call_goes}
 
@@ -74,15 +74,15 @@ dialled_table l c (D.Socket s) = A.dialled_on s c.link.player (next_place l.peer
 dialled_table l c D.Failed = at_seat c.link.player dials l.table
 
 same_addr : (a : Addr) → addr_eq a a ≡ true
-same_addr a = both_of _ _ ((bytes_eq-Decides a.ip a.ip).1 refl) (eq-eqb a.port a.port refl)
+same_addr a = and_from _ _ ((bytes_eq-Decides a.ip a.ip).1 refl) (eq-eqb a.port a.port refl)
 
-dial_may : (l : LoopState) (k : ℕ) (c : Seat) (dial : Dial) → IsIdle l → DiffersBy (λ x. x.link.player) l.table.seats → slice_get l.table.seats k ≡ Some c → wants_dial l.peer.me l.table c ≡ true →
+dial_may : (l : LoopState) (k : ℕ) (c : Seat) (dial : Dial) → IsIdle l → is_clean l.peer.game l.peer.entries ≡ true → DiffersBy (λ x. x.link.player) l.table.seats → slice_get l.table.seats k ≡ Some c → wants_dial l.peer.me l.table c ≡ true →
     is_allowed (base_of l) (dial_item dial c.link.player (told_addr c.link.addr)) ≡ true
-dial_may l k c dial w d g wants = go dial
+dial_may l k c dial w clean d g wants = go dial
   where
     may : may_dial_at (base_of l) (told_addr c.link.addr) (seat_of l.table c.link.player) ≡ true
     may = ap (may_dial_at (base_of l) (told_addr c.link.addr)) (found_at (λ x. x.link.player) c.link.player l.table.seats k c d g refl)
-        ∙ both_of _ _ (both_of _ _ (ap is_running w.running) wants) (same_addr (told_addr c.link.addr))
+        ∙ and_from _ _ (and_from _ _ (serves_on l w clean) wants) (same_addr (told_addr c.link.addr))
 
     go : (r : Dial) → is_allowed (base_of l) (dial_item r c.link.player (told_addr c.link.addr)) ≡ true
     go (D.Socket s) = may
@@ -158,7 +158,7 @@ dialled_so before after l m k c dial w d n g new on same =
     let goes = call_goes before after (dial_item dial c.link.player (told_addr c.link.addr)) l m (dialled_table l c dial) w.told w.steady.idle (record {
       still = no_poll dial c.link.player (told_addr c.link.addr);
       opens = new;
-      allowed = dial_may l k c dial w.steady.idle d g wants;
+      allowed = dial_may l k c dial w.steady.idle w.clean d g wants;
       shows = dial_shows l c dial w.steady.idle;
       waiting = dial_waits l c dial;
       undialled = omega (arith, less);

@@ -3,7 +3,7 @@ use Rattle.std.proofs.Common.{◌≡◌, ℕ, ◌-◌, true, refl, ap, subst, �
 use Rattle.std.specs.Prelude.{Some, drop, take}
 use Rattle.std.specs.Str.{bytes_eq}
 use Rattle.std.proofs.lemmas.List.{length-append}
-use Rattle.std.proofs.lemmas.Bool.{eq-eqb}
+use Rattle.std.proofs.lemmas.Bool.{eq-eqb, and_from}
 use Rattle.std.proofs.lemmas.Slice.Eq.{bytes_eq-Decides}
 use Rattle.std.proofs.Math.Seq.{drop-append_seam, take-append_seam}
 use Rattle.definitions.specs.declared.logs.Entry.{Entry}
@@ -23,7 +23,6 @@ use Rattle.loop_rules.specs.Keeping.{entry_in, may_keep, may_keep_as, may_keep_i
 use Rattle.loop_rules.specs.After.{in_phase}
 use Rattle.loop_rules.specs.Told.{IsTold}
 use Rattle.loop_rules.proofs.Told.{told_goes_on}
-use Rattle.ready_loop.proofs.Tests.{both_of}
 
 -- what is written for an entry says it
 pub entry_in_written : (w : Writing) (e : Entry) → FitsEntry e → entry_in w (written w e) ≡ Some e
@@ -42,15 +41,15 @@ entry_in_written w e f =
     ∙ entry_read e f
 
 pub entry_same : (e : Entry) → entry_eq e e ≡ true
-entry_same (Chose t m n) = both_of _ _ (both_of _ _ (eq-eqb t t refl) (move_eq_same m)) (nonce_eq_same n)
+entry_same (Chose t m n) = and_from _ _ (and_from _ _ (eq-eqb t t refl) (move_eq_same m)) (nonce_eq_same n)
 entry_same (Made f) = frame_eq_same f
-entry_same (Got q f) = both_of _ _ (eq-eqb q q refl) (frame_eq_same f)
+entry_same (Got q f) = and_from _ _ (eq-eqb q q refl) (frame_eq_same f)
 
 -- the bytes of an entry may be kept where the entry may
 may_keep_written : (v : View) (e : Entry) → FitsEntry e → may_keep_in v.phase v e ≡ true → may_keep v (written v.writer e) ≡ true
 may_keep_written v e f m =
     ap (may_keep_as v (written v.writer e)) (entry_in_written v.writer e f)
-    ∙ both_of (bytes_eq (written v.writer e) (written v.writer e)) (may_keep_in v.phase v e) ((bytes_eq-Decides (written v.writer e) (written v.writer e)).1 refl) m
+    ∙ and_from (bytes_eq (written v.writer e) (written v.writer e)) (may_keep_in v.phase v e) ((bytes_eq-Decides (written v.writer e) (written v.writer e)).1 refl) m
 
 -- an entry that may be kept is
 pub kept_tells : (items : List Item) (v : View) (e : Entry) → IsTold items v → FitsEntry e → may_keep_in v.phase v e ≡ true → IsTold (items ++ Kept (written v.writer e) ∷ []) (sorted_out (with_entry e v))

@@ -1,5 +1,6 @@
 -- Heard: the first frame that waits is handled.
 use Rattle.std.proofs.Common.{◌≡◌, ℕ, ◌+◌, ◌-◌, ◌*◌, ◌<◌, ◌≤◌, Bool, true, false, refl, sym, ap, subst, ◌∙◌, List, [], ◌∷◌, ◌++◌, append-nil, arith, length}
+use Rattle.std.proofs.lemmas.Bool.{and_from}
 use Rattle.std.specs.Prelude.{Some, ◌&&◌, ◌==◌, not, drop, take, find, slice_get, if◌then◌else◌}
 use Rattle.std.specs.List.{count_by}
 use Rattle.std.proofs.lemmas.List.{drop_more}
@@ -37,7 +38,6 @@ use Rattle.table_laws.proofs.Seats.{asked_seats, same_each, same_undialled}
 use Rattle.ready_loop.specs.States.{LoopState, IsOthers, IsOfOther, setting_of, kept_of, base_of, rest_of, view_of}
 use Rattle.ready_loop.specs.Going.{undialled}
 use Rattle.ready_loop.specs.Handling.{asked, passed_as, KeepsLines, IsHearing, Hears}
-use Rattle.ready_loop.proofs.Tests.{both_of}
 use Rattle.ready_loop.proofs.Sorting.{sorted_old}
 
 -- no next place is past the last one
@@ -182,4 +182,4 @@ pass_hears items l m a answer w lt g c o e un same =
     })
   where
     unlogged_old : (game : Game) (me : ℕ) (h : List Entry) (q : ℕ) (f : TurnFrame) → is_clean game h ≡ true → is_of_another game me q f ≡ true → is_taken_in game me h q f ≡ false → is_new game me h q f ≡ false
-    unlogged_old game me h q f c o t = sym (ap (λ (b : Bool). b && is_new game me h q f) (both_of _ _ c o)) ∙ t
+    unlogged_old game me h q f c o t = sym (ap (λ (b : Bool). b && is_new game me h q f) (and_from _ _ c o)) ∙ t

@@ -1,5 +1,6 @@
 -- Kept: what a loop knows behind the keep of the first entry that was not kept.
 use Rattle.std.proofs.Common.{◌≡◌, ℕ, zero, suc, ◌+◌, ◌<◌, Bool, true, false, refl, sym, ap, subst, ◌∙◌, List, [], ◌∷◌, ◌++◌, arith, length}
+use Rattle.std.proofs.lemmas.Bool.{and_from}
 use Rattle.std.specs.Prelude.{Option, Some, not, drop, take, slice_get, is_none, if◌then◌else◌}
 use Rattle.std.specs.List.{fold}
 use Rattle.std.proofs.lemmas.List.{drop_more, take_more}
@@ -28,7 +29,6 @@ use Rattle.ready_loop.specs.States.{LoopState, IsOfOther, kept_of, writer_of, ba
 use Rattle.ready_loop.specs.Steps.{did_by, in_phase, written_for, next_bytes, kept_next}
 use Rattle.ready_loop.specs.Going.{Goes}
 use Rattle.ready_loop.specs.Handling.{IsGot}
-use Rattle.ready_loop.proofs.Tests.{both_of}
 use Rattle.ready_loop.proofs.Sorting.{IsOwn, more_kept, sorted_any, sorted_new, sorted_own, sorted_phase, sorted_twice}
 use Rattle.ready_loop.proofs.Entries.{entry_same, kept_tells, fault_tells}
 use Rattle.ready_loop.proofs.Going.{goes_one}
@@ -127,7 +127,7 @@ got_view l w lt =
 
 got_allowed : (l : LoopState) (w : IsGot l) → IsOfOther l.peer.game l.peer.me w.arrival → allowed l.peer.game l.peer.me (kept_of l) (Got w.arrival.player w.arrival.frame) ≡ true
 unfolding allows
-got_allowed l w o = both_of _ _ w.clean (both_of _ _ o w.new)
+got_allowed l w o = and_from _ _ w.clean (and_from _ _ o w.new)
 
 pub got_may : (items : List Item) (l : LoopState) (w : IsGot l) → l.handled < length l.table.waiting → IsTold items (view_of l) → slice_get l.peer.entries l.kept ≡ Some (Got w.arrival.player w.arrival.frame) → l.kept < length l.peer.entries →
     FitsEntry (Got w.arrival.player w.arrival.frame) → EachIs (IsOfOther l.peer.game l.peer.me) (rest_of l) → IsOfOther l.peer.game l.peer.me w.arrival → MayKeep items l (Got w.arrival.player w.arrival.frame)
@@ -138,7 +138,7 @@ got_may items l w lt told next more f each o = record {
   fits = f;
   each = each;
   may = ap (λ (v : View). may_keep_in v.phase v (Got w.arrival.player w.arrival.frame)) (got_view l w lt) ∙ ap (λ (p : Phase). may_keep_in p waits (Got w.arrival.player w.arrival.frame)) w.running
-      ∙ both_of _ _ (got_allowed l w o) (both_of _ _ (ap (λ (x : Option TurnFrame). is_none x) w.made) (entry_same (Got w.arrival.player w.arrival.frame)));
+      ∙ and_from _ _ (got_allowed l w o) (and_from _ _ (ap (λ (x : Option TurnFrame). is_none x) w.made) (entry_same (Got w.arrival.player w.arrival.frame)));
 }
   where
     waits : View

@@ -1,7 +1,7 @@
 -- Licensed: when a loop may wait, and when it may not.
 use Rattle.std.proofs.Common.{◌≡◌, Bool, true, false, refl, sym, ap, ◌∙◌, List, length}
 use Rattle.std.specs.Prelude.{Option, not, ◌&&◌, ◌||◌, ◌==◌, is_none}
-use Rattle.std.proofs.lemmas.Bool.{and_parts, eq-eqb, false≢true}
+use Rattle.std.proofs.lemmas.Bool.{and_parts, eq-eqb, false≢true, and_from}
 use Rattle.definitions.specs.Lists.{is_empty}
 use Rattle.definitions.specs.declared.frames.TurnFrame.{TurnFrame}
 use Rattle.definitions.specs.declared.logs.Entry.{Entry}
@@ -19,7 +19,7 @@ use Rattle.ready_loop.specs.States.{LoopState, base_of, rest_of, view_of}
 use Rattle.ready_loop.specs.Going.{IsIdle}
 use Rattle.ready_loop.specs.Serving.{IsServing}
 use Rattle.ready_loop.specs.Waiting.{waits_for}
-use Rattle.ready_loop.proofs.Tests.{both_of, not_of}
+use Rattle.ready_loop.proofs.Tests.{not_of}
 use Rattle.ready_loop.proofs.Idle.{idle_view, all_kept}
 
 -- ---- what the licence reads of the log
@@ -43,14 +43,14 @@ pub record MayWait (items : List Item) (m : LoopState) : Type 0 where
 pub licensed : (items : List Item) (m : LoopState) → MayWait items m → waits_for m ≡ true → all_are_reached m.peer.me m.table ≡ true → is_licensed (view_of m) ≡ true
 licensed items m w waits reached =
     ap is_licensed (idle_view m idle)
-    ∙ both_of _ _ (both_of _ _ (both_of _ _ (both_of _ _ (both_of _ _ (both_of _ _
+    ∙ and_from _ _ (and_from _ _ (and_from _ _ (and_from _ _ (and_from _ _ (and_from _ _
     (ap is_running idle.running)
     w.read)
     (ap (λ (h : List Entry). all_is_given (made_count h) m.table) (all_kept m idle.kept) ∙ w.given))
-    (both_of _ _ (ap (is_empty {X = Arrival}) idle.waiting) w.shut))
+    (and_from _ _ (ap (is_empty {X = Arrival}) idle.waiting) w.shut))
     (waits_same m idle ∙ waits))
     reached)
-    (played_same m idle ∙ both_of _ _ (both_of _ _ (both_of _ _ (ap not w.chosen) (ap (λ (o : Option TurnFrame). is_none o) w.serving.steady.made)) w.serving.clean) (eq-eqb m.synced (length m.peer.entries) (w.serving.synced ∙ idle.kept)))
+    (played_same m idle ∙ and_from _ _ (and_from _ _ (and_from _ _ (ap not w.chosen) (ap (λ (o : Option TurnFrame). is_none o) w.serving.steady.made)) w.serving.clean) (eq-eqb m.synced (length m.peer.entries) (w.serving.synced ∙ idle.kept)))
   where
     idle : IsIdle m
     idle = w.serving.steady.idle

@@ -1,5 +1,6 @@
 -- Made: the own frames that were just made are kept one by one.
 use Rattle.std.proofs.Common.{◌≡◌, ℕ, zero, suc, ◌+◌, ◌*◌, ◌<◌, ◌≤◌, Bool, true, false, refl, sym, ap, subst, ◌∙◌, List, [], ◌∷◌, ◌++◌, append_assoc, append-nil, arith, length}
+use Rattle.std.proofs.lemmas.Bool.{and_from}
 use Rattle.std.specs.Prelude.{Option, Some, None, ◌&&◌, take, slice_get}
 use Rattle.std.proofs.lemmas.List.{length-take-le}
 use Rattle.std.proofs.Math.Seq.{take-length}
@@ -25,7 +26,6 @@ use Rattle.ready_loop.specs.States.{LoopState, IsOfOther, kept_of, base_of, rest
 use Rattle.ready_loop.specs.Steps.{did_by, next_bytes, kept_next}
 use Rattle.ready_loop.specs.Going.{Goes}
 use Rattle.ready_loop.specs.Handling.{KeepsMade}
-use Rattle.ready_loop.proofs.Tests.{both_of}
 use Rattle.ready_loop.proofs.Going.{goes_then}
 use Rattle.ready_loop.proofs.Kept.{MayKeep, take_next, own_goes, each_drop}
 
@@ -94,7 +94,7 @@ made_may l f running e =
     ap (λ (p : Phase). may_keep_in p (view_of l) (Made f)) (k.phase ∙ running)
     ∙ ap (λ (s : Setting). allowed s.game s.me (view_of l).kept (Made f) && is_frame (next_made s.game s.me (view_of l).kept) f) k.setting
     ∙ ap (λ (h : List Entry). allowed l.peer.game l.peer.me h (Made f) && is_frame (next_made l.peer.game l.peer.me h) f) k.kept
-    ∙ both_of _ _ (next_made_allowed l.peer.game l.peer.me (kept_of l) f e) (ap (λ (o : Option TurnFrame). is_frame o f) e ∙ frame_eq_same f)
+    ∙ and_from _ _ (next_made_allowed l.peer.game l.peer.me (kept_of l) f e) (ap (λ (o : Option TurnFrame). is_frame o f) e ∙ frame_eq_same f)
   where
     k : Keeps (base_of l) (view_of l)
     k = keeps_sorted (rest_of l) (base_of l)

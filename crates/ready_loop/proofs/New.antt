@@ -16,6 +16,7 @@ use Rattle.loop_rules.specs.Tables.{Table}
 use Rattle.loop_rules.specs.Views.{first_table}
 use Rattle.ready_loop.specs.States.{LoopState, IsFit, IsOthers}
 use Rattle.ready_loop.specs.Beginning.{given_by, new_loop}
+use Rattle.socket_table.proofs.New.{differ_made}
 
 -- ---- the players of a roster differ
 
@@ -102,14 +103,6 @@ new_seats game me r e =
     (each_link (λ x. x < players_of game) r.links (subst (EachIs (λ x. x < players_of game)) (sym e) (below me (players_of game))))
     (each_link (λ x. x ≡ me → ⊥) r.links (subst (EachIs (λ x. x ≡ me → ⊥)) (sym e) (all_others me (players_of game)))))
 
-seats_none : (most n : ℕ) (links : List Link) → HasNone (λ l. l.player) n links → HasNone (λ c. c.link.player) n (map (new_seat most) links)
-seats_none most n [] h = tt
-seats_none most n (l ∷ links) h = (h.0, seats_none most n links h.1)
-
-seats_differ : (most : ℕ) (links : List Link) → DiffersBy (λ l. l.player) links → DiffersBy (λ c. c.link.player) (map (new_seat most) links)
-seats_differ most [] d = tt
-seats_differ most (l ∷ links) d = (seats_none most l.player links d.0, seats_differ most links d.1)
-
 -- the parts that a new loop is put together from
 abbrev pub parts_of : PeerState → Neighbours → List Entry → Table → LoopState
 parts_of p r over t = record { peer = p; roster = r; over = length over; kept = 0; synced = 0; phase = Fresh; table = t; handled = 0 }
@@ -135,7 +128,7 @@ new_fits p r over t w game me links same is of_game of_me begun =
       kept = omega arith;
       synced = omega arith;
       seats = new_seats p.game p.me r links;
-      differ = seats_differ (2 * p.game.turns) r.links (links_differ p.me (players_of p.game) r links);
+      differ = differ_made (2 * p.game.turns) r.links (links_differ p.me (players_of p.game) r links);
       waiting = tt;
       writer = λ n. begun ∙ ap (λ (g : Game). fresh g.id me) of_game ∙ ap (fresh p.game.id) of_me;
     })

@@ -2,13 +2,12 @@
 use Rattle.std.proofs.Common.{◌≡◌, ℕ, zero, suc, ◌<◌, Bool, true, refl, sym, ap, ◌∙◌, List, [], ◌∷◌, arith, length}
 use Rattle.std.specs.Prelude.{Some, None, map, slice_get}
 use Rattle.std.specs.List.{list_all}
-use Rattle.std.proofs.lemmas.Bool.{and_parts}
+use Rattle.std.proofs.lemmas.Bool.{and_parts, and_from}
 use Rattle.socket_lines.specs.declared.line.Line.{Line}
 use Rattle.loop_rules.specs.Tables.{Table}
 use Rattle.loop_rules.specs.Told.{HasNone, Differ}
 use Rattle.socket_table.specs.Finding.{IsAt}
 use Rattle.ready_loop.specs.Handling.{SameSockets}
-use Rattle.ready_loop.proofs.Tests.{both_of}
 
 there_by : (ls ms : List Line) (k : ℕ) (x : Line) → map (λ l. l.socket) ms ≡ map (λ l. l.socket) ls → slice_get ls k ≡ Some x → (y : Line) × (slice_get ms k ≡ Some y) × (y.socket ≡ x.socket)
 there_by [] ms k x e g = absurd (let n : None ≡ Some x = g in cc)
@@ -53,7 +52,7 @@ at_length (y ∷ ys) (suc k) x g = (let lt = at_length ys k x g in omega (arith,
 -- what is so at each place is so of all
 pub all_places : {X : Type 0} (p : X → Bool) (xs : List X) → ((k : ℕ) (x : X) → slice_get xs k ≡ Some x → p x ≡ true) → list_all p xs ≡ true
 all_places p [] each = refl
-all_places p (x ∷ xs) each = both_of (p x) (list_all p xs) (each 0 x refl) (all_places p xs (λ k y g. each (suc k) y g))
+all_places p (x ∷ xs) each = and_from (p x) (list_all p xs) (each 0 x refl) (all_places p xs (λ k y g. each (suc k) y g))
 
 -- what is so of all is so at each place
 pub place_of_all : {X : Type 0} (p : X → Bool) (xs : List X) (k : ℕ) (x : X) → list_all p xs ≡ true → slice_get xs k ≡ Some x → p x ≡ true

@@ -1,8 +1,9 @@
 -- ReadOnce: a read of a socket, and what is so behind it.
 use Rattle.std.proofs.Common.{◌≡◌, ℕ, ◌+◌, ◌<◌, ◌≤◌, Bool, true, false, refl, sym, ap, subst, ◌∙◌, List, [], ◌∷◌, ◌++◌, arith, length}
 use Rattle.std.specs.Prelude.{Option, Some, None, ◌&&◌, ◌||◌, ◌==◌, not, drop, map, take, slice_get, if◌then◌else◌}
-use Rattle.std.proofs.lemmas.Bool.{eq-eqb, eqb-true, lt-ltb, le-leb}
+use Rattle.std.proofs.lemmas.Bool.{eq-eqb, eqb-true, lt-ltb, le-leb, and_from}
 use Rattle.std.proofs.lemmas.List.{length-take-le}
+use Rattle.definitions.specs.Findings.{is_clean}
 use Rattle.definitions.specs.Lists.{is_empty}
 use Rattle.socket_station.specs.declared.answers.SocketRead.{SocketRead}
 use Rattle.socket_station.specs.declared.answers.SocketRead.TheVariants as R
@@ -15,7 +16,6 @@ use Rattle.loop_rules.specs.declared.arrivals.Arrival.{Arrival}
 use Rattle.loop_rules.specs.Tables.{Table, at_line, line_of, room_on, room_by, asks_shut}
 use Rattle.loop_rules.specs.Hearing.{Hearer, took_on}
 use Rattle.loop_rules.specs.Handling.{sorted, sorted_out}
-use Rattle.loop_rules.specs.Licence.{is_running}
 use Rattle.loop_rules.specs.Rules.{wants_read, may_read_line, is_within, is_allowed}
 use Rattle.loop_rules.specs.Views.{View}
 use Rattle.loop_rules.specs.After as A
@@ -33,9 +33,8 @@ use Rattle.ready_loop.specs.States.{LoopState, base_of, view_of}
 use Rattle.ready_loop.specs.Steps.{with_table, read_on}
 use Rattle.ready_loop.specs.Going.{Goes, IsIdle, poll_count}
 use Rattle.ready_loop.specs.Handling.{KeepsLines, Handles, ReadsOnce, SameSockets, Calm, IsReadyToRead, Reads, left_by, left_at}
-use Rattle.ready_loop.proofs.Tests.{both_of}
 use Rattle.ready_loop.proofs.Going.{goes_one, goes_then}
-use Rattle.ready_loop.proofs.Idle.{still_view, idle_view, hearer_same}
+use Rattle.ready_loop.proofs.Idle.{still_view, idle_view, hearer_same, serves_on}
 
 -- ---- what is shown
 
@@ -56,23 +55,23 @@ read_shows s read buf l w = ap (λ (v : View). A.after v (read_item s read buf))
 
 -- ---- that it may be
 
-reads_line : (l : LoopState) (s : ℕ) (x : Line) → IsIdle l → line_of l.table s ≡ Some x → wants_read l.table x ≡ true → may_read_line (base_of l) (line_of l.table s) ≡ true
-reads_line l s x w found wants = ap (may_read_line (base_of l)) found ∙ both_of _ _ (ap is_running w.running) wants
+reads_line : (l : LoopState) (s : ℕ) (x : Line) → IsIdle l → is_clean l.peer.game l.peer.entries ≡ true → line_of l.table s ≡ Some x → wants_read l.table x ≡ true → may_read_line (base_of l) (line_of l.table s) ≡ true
+reads_line l s x w clean found wants = ap (may_read_line (base_of l)) found ∙ and_from _ _ (serves_on l w clean) wants
 
 takes_within : (l : LoopState) (s : ℕ) (x : Line) (bytes : List ℕ) → line_of l.table s ≡ Some x → 0 < length bytes → length bytes ≤ room_on l.table x → is_within l.table (length bytes) (line_of l.table s) ≡ true
-takes_within l s x bytes found some few = ap (is_within l.table (length bytes)) found ∙ both_of _ _ (lt-ltb 0 (length bytes) some) (le-leb (length bytes) (room_on l.table x) few)
+takes_within l s x bytes found some few = ap (is_within l.table (length bytes)) found ∙ and_from _ _ (lt-ltb 0 (length bytes) some) (le-leb (length bytes) (room_on l.table x) few)
 
-pub read_may : (s : ℕ) (read : SocketRead) (buf : List ℕ) (l : LoopState) (x : Line) → IsIdle l → line_of l.table s ≡ Some x → wants_read l.table x ≡ true → TakesWithin read buf → length buf ≤ room_on l.table x →
+pub read_may : (s : ℕ) (read : SocketRead) (buf : List ℕ) (l : LoopState) (x : Line) → IsIdle l → is_clean l.peer.game l.peer.entries ≡ true → line_of l.table s ≡ Some x → wants_read l.table x ≡ true → TakesWithin read buf → length buf ≤ room_on l.table x →
     is_allowed (view_of l) (read_item s read buf) ≡ true
-read_may s read buf l x w found wants within few = ap (λ (v : View). is_allowed v (read_item s read buf)) (idle_view l w) ∙ go read within
+read_may s read buf l x w clean found wants within few = ap (λ (v : View). is_allowed v (read_item s read buf)) (idle_view l w) ∙ go read within
   where
     may : may_read_line (base_of l) (line_of l.table s) ≡ true
-    may = reads_line l s x w found wants
+    may = reads_line l s x w clean found wants
 
     go : (r : SocketRead) → TakesWithin r buf → is_allowed (base_of l) (read_item s r buf) ≡ true
     go (R.Took n) t =
         let long : length (take n buf) ≡ n = length-take-le n buf t.1 in
-        both_of _ _ (both_of _ _ may (ap (is_empty {X = Arrival}) w.waiting))
+        and_from _ _ (and_from _ _ may (ap (is_empty {X = Arrival}) w.waiting))
         (takes_within l s x (take n buf) found (subst (λ (k : ℕ). 0 < k) (sym long) t.0) (let a = t.1 in omega (arith, long, a, few)))
     go R.NotYet t = may
     go R.Ended t = may
@@ -114,7 +113,7 @@ read_goes k s read before after l m w a r =
     (let e = same_undialled l.table.seats (read_on (hearer_by l.peer) s read r.buf l.table).seats (read_seats (hearer_by l.peer) s read r.buf l.table) in omega (arith, e))
     (subst (IsTold (before ++ read_item s read r.buf ∷ [])) (read_shows s read r.buf l w.steady.idle)
     (told_goes_on before (view_of l) (read_item s read r.buf) w.told (opens_none before s read r.buf)
-    (read_may s read r.buf l a.line w.steady.idle (read_found l k s a) a.wants r.within (r.room a.line k a.here a.socket)))) refl)
+    (read_may s read r.buf l a.line w.steady.idle w.clean (read_found l k s a) a.wants r.within (r.room a.line k a.here a.socket)))) refl)
 
 -- ---- what it leaves as it was
 

@@ -2,15 +2,13 @@
 use Rattle.std.proofs.Common.{◌≡◌, ℕ, zero, suc, ◌+◌, ◌<◌, ◌≤◌, Bool, true, false, refl, sym, ap, subst, ◌∙◌, List, [], ◌∷◌, ◌++◌, arith, length}
 use Rattle.std.specs.Prelude.{Option, Some, None, not, ◌==◌, map, slice_get, if◌then◌else◌}
 use Rattle.std.specs.List.{count_by}
-use Rattle.std.proofs.lemmas.Bool.{eq-eqb, eqb-true, eqb-false, false≢true}
-use Rattle.definitions.specs.Lists.{EachIs}
+use Rattle.std.proofs.lemmas.Bool.{eq-eqb, eqb-true, eqb-false, false≢true, and_from}
 use Rattle.socket_station.specs.declared.answers.Standing.TheVariants.{Open}
 use Rattle.socket_station.specs.Standings.{OpensNew, standing_in}
 use Rattle.socket_station.specs.Items.{Item, Shut}
 use Rattle.socket_lines.specs.declared.line.Line.{Line}
 use Rattle.socket_lines.specs.Lines.{closed}
 use Rattle.loop_rules.specs.Tables.{Table, at_line, line_of, asks_shut}
-use Rattle.loop_rules.specs.Licence.{is_running}
 use Rattle.loop_rules.specs.Rules.{is_allowed, may_shut_line}
 use Rattle.loop_rules.specs.After as A
 use Rattle.loop_rules.specs.Told.{Differ, LineStands, IsTold}
@@ -24,10 +22,10 @@ use Rattle.ready_loop.specs.States.{LoopState, base_of, view_of}
 use Rattle.ready_loop.specs.Steps.{with_table}
 use Rattle.ready_loop.specs.Going.{Goes, IsIdle, poll_count}
 use Rattle.ready_loop.specs.Serving.{IsServing, Serves, Shuts, ShutsAll}
-use Rattle.ready_loop.proofs.Tests.{both_of}
 use Rattle.ready_loop.proofs.Going.{goes_one, goes_still, goes_then}
-use Rattle.ready_loop.proofs.Idle.{still_view, idle_view}
+use Rattle.ready_loop.proofs.Idle.{still_view, idle_view, serves_on}
 use Rattle.ready_loop.proofs.Places.{at_length, all_places}
+use Rattle.socket_table.proofs.Changed.{each_at}
 
 -- one call was made that the rules allow, and the table is this one behind it
 pub record OneCall (before : List Item) (item : Item) (l : LoopState) (u : Table) : Type 0 where
@@ -77,15 +75,10 @@ serving_on before after l m w g =
 
 -- ---- shutting
 
-each_place : {X : Type 0} (P : X → Type 0) (xs : List X) (k : ℕ) (x : X) → EachIs P xs → slice_get xs k ≡ Some x → P x
-each_place P [] k x e g = absurd (let q : None ≡ Some x = g in cc)
-each_place P (y ∷ ys) zero x e g = subst P (let q : y ≡ x = cc in q) e.0
-each_place P (y ∷ ys) (suc k) x e g = each_place P ys k x e.1 g
-
 -- an open line's socket is open
 pub stands_open : (items : List Item) (l : LoopState) (k s : ℕ) (x : Line) → IsTold items (view_of l) → IsIdle l → slice_get l.table.lines k ≡ Some x → x.socket ≡ s → x.is_open ≡ true → standing_in items s ≡ Open
 stands_open items l k s x told w g e o =
-    let stands = each_place (LineStands items) l.table.lines k x (subst (IsTold items) (idle_view l w) told).stand g in
+    let stands = each_at (LineStands items) l.table.lines k x (subst (IsTold items) (idle_view l w) told).stand g in
     ap (standing_in items) (sym e) ∙ stands.opened o
 
 pub lines_differ : (items : List Item) (l : LoopState) → IsTold items (view_of l) → IsIdle l → Differ l.table.lines
@@ -99,7 +92,7 @@ shuts k s before after l m x w g e asks on same = record {
   serves = call_serves before after (Shut s) l m (at_line s closed l.table) w (record {
     still = refl;
     opens = tt;
-    allowed = ap (may_shut_line (base_of l)) (line_found before l k s x w.told w.steady.idle g e) ∙ both_of _ _ (ap is_running w.steady.idle.running) asks;
+    allowed = ap (may_shut_line (base_of l)) (line_found before l k s x w.told w.steady.idle g e) ∙ and_from _ _ (serves_on l w.steady.idle w.clean) asks;
     shows = refl;
     waiting = refl;
     undialled = omega arith;

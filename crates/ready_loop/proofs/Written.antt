@@ -1,7 +1,7 @@
 -- Written: a write on a socket, and what is so behind it.
 use Rattle.std.proofs.Common.{◌≡◌, ℕ, zero, suc, ◌+◌, ◌<◌, ◌≤◌, Bool, true, false, refl, sym, ap, subst, ◌∙◌, List, [], ◌∷◌, ◌++◌, arith, length}
 use Rattle.std.specs.Prelude.{Option, Some, None, not, ◌&&◌, ◌||◌, ◌==◌, nat_lt, take, slice_get, is_some, if◌then◌else◌}
-use Rattle.std.proofs.lemmas.Bool.{eq-eqb, lt-ltb, ltb-true}
+use Rattle.std.proofs.lemmas.Bool.{eq-eqb, lt-ltb, ltb-true, and_from}
 use Rattle.std.proofs.lemmas.List.{length-take-le}
 use Rattle.std.proofs.lemmas.Slice.Eq.{bytes_eq-Decides}
 use Rattle.definitions.specs.Lists.{is_empty}
@@ -24,7 +24,7 @@ use Rattle.wire_frames.specs.Spelling.{spelling}
 use Rattle.commitment.specs.Spelling.{frame_bytes}
 use Rattle.definitions.specs.declared.frames.TurnFrame.TheVariants.{Commit, Reveal}
 use Rattle.loop_rules.specs.Tables.{Table, at_line, line_of, seat_by, desk_of, desk_with, asks_shut}
-use Rattle.loop_rules.specs.Licence.{is_running, all_is_shut, is_served_out, has_due_on, has_due_at}
+use Rattle.loop_rules.specs.Licence.{all_is_shut, is_served_out, has_due_on, has_due_at}
 use Rattle.loop_rules.specs.Rules.{is_allowed, may_write_line, are_due, is_front, due_at}
 use Rattle.loop_rules.specs.Views.{safe_frames}
 use Rattle.loop_rules.specs.After as A
@@ -39,8 +39,7 @@ use Rattle.ready_loop.specs.States.{LoopState, base_of}
 use Rattle.ready_loop.specs.Steps.{with_table, wrote_on}
 use Rattle.ready_loop.specs.Going.{poll_count}
 use Rattle.ready_loop.specs.Serving.{speaker_by, own_by, IsServing, Serves, wants_write, work_by, work_with, work_at, ServedBeside, Writes}
-use Rattle.ready_loop.proofs.Tests.{both_of}
-use Rattle.ready_loop.proofs.Idle.{all_kept}
+use Rattle.ready_loop.proofs.Idle.{all_kept, serves_on}
 use Rattle.ready_loop.proofs.Places.{at_length, place_of_all}
 use Rattle.ready_loop.proofs.Served.{call_serves, line_found, lines_differ}
 
@@ -144,19 +143,19 @@ line_may : (items : List Item) (l : LoopState) (k s : ℕ) (x : Line) → IsServ
 line_may items l k s x w a found =
     let p = wants_parts (made_count l.peer.entries) l.table x a.wants in
     ap (may_write_line (base_of l)) found
-    ∙ both_of _ _ (both_of _ _ (both_of _ _ (both_of _ _ (ap is_running w.steady.idle.running) p.0) (place_of_all (λ y. not (asks_shut l.table y)) l.table.lines k x a.shut a.here)) (ap not p.1))
+    ∙ and_from _ _ (and_from _ _ (and_from _ _ (and_from _ _ (serves_on l w.steady.idle w.clean) p.0) (place_of_all (λ y. not (asks_shut l.table y)) l.table.lines k x a.shut a.here)) (ap not p.1))
     (ap (λ (o : Option TurnFrame). not (is_empty (due_at (speaker_by l) o (desk_of l.table x)))) (own_same items l x w) ∙ ap not a.some)
 
 front_of : (n : ℕ) (all : List ℕ) → 0 < n → n ≤ length all → is_front (take n all) all ≡ true
 front_of n all some few =
     let long : length (take n all) ≡ n = length-take-le n all few in
-    both_of _ _ (lt-ltb 0 (length (take n all)) (subst (λ (m : ℕ). 0 < m) (sym long) some))
+    and_from _ _ (lt-ltb 0 (length (take n all)) (subst (λ (m : ℕ). 0 < m) (sym long) some))
     ((bytes_eq-Decides (take n all) (take (length (take n all)) all)).1 (ap (λ (m : ℕ). take m all) (sym long)))
 
 write_may : (items : List Item) (l : LoopState) (k s : ℕ) (x : Line) (write : SocketWrite) → IsServing items l → WritesLine l k s x → line_of l.table s ≡ Some x → GivesWithin write (due_at (speaker_by l) (own_by l x) (desk_of l.table x)) →
     is_allowed (base_of l) (write_item s write (due_at (speaker_by l) (own_by l x) (desk_of l.table x))) ≡ true
 write_may items l k s x (O.Gave n) w a found g =
-    both_of _ _ (line_may items l k s x w a found)
+    and_from _ _ (line_may items l k s x w a found)
     (ap (are_due (base_of l) (take n (due_at (speaker_by l) (own_by l x) (desk_of l.table x)))) found
     ∙ ap (λ (o : Option TurnFrame). is_front (take n (due_at (speaker_by l) (own_by l x) (desk_of l.table x))) (due_at (speaker_by l) o (desk_of l.table x))) (own_same items l x w)
     ∙ front_of n (due_at (speaker_by l) (own_by l x) (desk_of l.table x)) g.0 g.1)

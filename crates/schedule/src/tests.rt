@@ -13,83 +13,110 @@ use std::test::Fail;
 static CORRIDOR: &[u8] =
     b"playout 1\ngrid 12 1\nrules 1 1 0\ncharge 1 2 1\nturns 8\nplayers 2\nplayer 0 0 0\nplayer 1 4 0\nend\n";
 
-/// A move to this cell of the corridor without a strike.
-fn stays(x: u16) -> Move {
-    Move {
-        to: Cell { x, y: 0 },
-        strike: None,
-    }
-}
-
-fn nonce(byte: u8) -> Nonce {
-    Nonce { bytes: [byte; 32] }
-}
-
-/// A player's choice to stay at its column, with a nonce of equal bytes.
-fn choose(player: PlayerId, x: u16, byte: u8) -> Step {
-    Step::Choose {
-        player,
-        mv: stays(x),
-        nonce: nonce(byte),
-    }
-}
-
 /// What player 1 opens in the turn, where it stays, with a nonce of bytes that are the turn's number.
 fn opening(turn: u8) -> Opening {
     Opening {
         player: 1,
         turn: Turn::from(turn),
-        mv: stays(4),
-        nonce: nonce(turn),
-    }
-}
-
-/// Player 1's commitment to that, as it comes to player 0.
-fn commitment(session: &Session, turn: u8) -> Step {
-    Step::Hostile {
-        from: 1,
-        to: 0,
-        frame: TurnFrame::Commit {
-            player: 1,
-            turn: Turn::from(turn),
-            digest: digest_of(session.id(), &opening(turn)),
+        mv: Move {
+            to: Cell { x: 4, y: 0 },
+            strike: None,
         },
+        nonce: Nonce { bytes: [turn; 32] },
     }
 }
 
-/// Player 1's reveal of it.
-fn reveal(turn: u8) -> Step {
-    let opened = opening(turn);
-    Step::Hostile {
-        from: 1,
-        to: 0,
-        frame: TurnFrame::Reveal {
-            player: 1,
-            turn: opened.turn,
-            mv: opened.mv,
-            nonce: opened.nonce,
+/// What happens at a table of the corridor.
+#[derive(Clone, Copy)]
+enum Act {
+    /// A player chooses to stay at this column, with a nonce of equal bytes.
+    Choose(PlayerId, u16, u8),
+    /// A player's commitment of this turn, to what player 1 opens in that turn, comes to player 0.
+    Commit(PlayerId, u8, u8),
+    /// Player 1's reveal of what it opens in the turn comes to player 0.
+    Reveal(u8),
+    Deliver(PlayerId, PlayerId, u32),
+    Stop(PlayerId, u32),
+}
+
+/// What happens, and how it is answered.
+struct Row {
+    act: Act,
+    answer: StepAnswer,
+}
+
+const TAKEN: StepAnswer = StepAnswer::Got(GotAnswer::Taken);
+
+const CHOSEN: StepAnswer = StepAnswer::Chosen(0);
+
+/// Takes a step that has known players, and says whether it was answered so.
+fn goes(table: &mut Table, step: &Step, answer: &StepAnswer) -> bool {
+    if !has_players(step, table.session()) {
+        return false;
+    }
+    table.step(step) == *answer
+}
+
+fn chooses(table: &mut Table, player: PlayerId, x: u16, byte: u8, answer: &StepAnswer) -> bool {
+    let step = Step::Choose {
+        player,
+        mv: Move {
+            to: Cell { x, y: 0 },
+            strike: None,
         },
+        nonce: Nonce { bytes: [byte; 32] },
+    };
+    goes(table, &step, answer)
+}
+
+fn hears(table: &mut Table, from: PlayerId, frame: TurnFrame, answer: &StepAnswer) -> bool {
+    goes(table, &Step::Hostile { from, to: 0, frame }, answer)
+}
+
+fn commits(table: &mut Table, player: PlayerId, turn: u8, opened: u8, answer: &StepAnswer) -> bool {
+    let digest = digest_of(table.session().id(), &opening(opened));
+    let frame = TurnFrame::Commit {
+        player,
+        turn: Turn::from(turn),
+        digest,
+    };
+    hears(table, player, frame, answer)
+}
+
+fn reveals(table: &mut Table, turn: u8, answer: &StepAnswer) -> bool {
+    let frame = TurnFrame::Reveal {
+        player: 1,
+        turn: Turn::from(turn),
+        mv: Move {
+            to: Cell { x: 4, y: 0 },
+            strike: None,
+        },
+        nonce: Nonce { bytes: [turn; 32] },
+    };
+    hears(table, 1, frame, answer)
+}
+
+/// Whether what happens is answered so.
+fn is_answered(table: &mut Table, row: &Row) -> bool {
+    match row.act {
+        Act::Choose(player, x, byte) => chooses(table, player, x, byte, &row.answer),
+        Act::Commit(player, turn, opened) => commits(table, player, turn, opened, &row.answer),
+        Act::Reveal(turn) => reveals(table, turn, &row.answer),
+        Act::Deliver(from, to, place) => {
+            goes(table, &Step::Deliver { from, to, place }, &row.answer)
+        }
+        Act::Stop(player, keep) => goes(table, &Step::Stop { player, keep }, &row.answer),
     }
 }
 
-fn deliver(from: PlayerId, to: PlayerId, place: u32) -> Step {
-    Step::Deliver { from, to, place }
-}
-
-fn stop(player: PlayerId, keep: u32) -> Step {
-    Step::Stop { player, keep }
-}
-
-/// Takes the steps that have known players, and says whether each was answered so.
-fn goes_so(table: &mut Table, steps: &[(Step, StepAnswer)]) -> bool {
-    let mut so = true;
-    for (step, answer) in steps {
-        if !has_players(step, table.session()) {
+/// Whether all that happens, one after the other, is answered so.
+fn goes_so(table: &mut Table, rows: &[Row]) -> bool {
+    for row in rows {
+        if !is_answered(table, row) {
             return false;
         }
-        so = so && table.step(step) == *answer;
     }
-    so
+    true
 }
 
 /// How many frames an honest player made.
@@ -101,6 +128,10 @@ fn made(table: &Table, player: PlayerId) -> Option<u32> {
     }
 }
 
+fn has_made(table: &Table, player: PlayerId, count: u32) -> bool {
+    made(table, player) == Some(count)
+}
+
 /// How many entries the log of an honest player has.
 fn logged(table: &Table, player: PlayerId) -> Option<usize> {
     if player < table.session().players() && table.is_honest(player) {
@@ -108,6 +139,14 @@ fn logged(table: &Table, player: PlayerId) -> Option<usize> {
     } else {
         None
     }
+}
+
+fn has_logged(table: &Table, player: PlayerId, count: Option<usize>) -> bool {
+    logged(table, player) == count
+}
+
+fn stands(table: &Table, stand: Stand) -> bool {
+    table.stand() == stand
 }
 
 /// How an honest player answered frames.
@@ -120,65 +159,101 @@ fn tally(table: &Table, player: PlayerId) -> Option<Tally> {
 }
 
 fn corridor(alloc: Global) -> Result<Session, Fail> {
-    let session = read_session(alloc, CORRIDOR).map_err(|_| "refused")?;
-    Ok(session)
+    match read_session(alloc, CORRIDOR) {
+        Err(_) => Err("refused".into()),
+        Ok(session) => Ok(session),
+    }
+}
+
+/// A new table of the corridor.
+fn table_of(alloc: Global, hostile: u64) -> Result<Table, Fail> {
+    let session = corridor(alloc)?;
+    Ok(Table::new(alloc, &session, hostile)?)
 }
 
 #[test]
 fn one_waits_for_a_hostile_player(rt: HostRuntime) -> Result<(), Fail> {
-    let session = corridor(rt.alloc())?;
-    let mut table = Table::new(rt.alloc(), &session, 2)?;
-    assert!(rt; goes_so(&mut table, &[(choose(0, 0, 0), StepAnswer::Chosen(0))]));
-    assert_eq!(rt; made(&table, 0), Some(1));
-    assert_eq!(rt; table.stand(), Stand::Held(1));
+    let mut table = table_of(rt.alloc(), 2)?;
+    assert!(rt; chooses(&mut table, 0, 0, 0, &CHOSEN));
+    assert!(rt; has_made(&table, 0, 1));
+    assert!(rt; stands(&table, Stand::Held(1)));
     Ok(())
 }
+
+static LACKING: [Row; 3] = [
+    Row {
+        act: Act::Choose(0, 0, 0),
+        answer: CHOSEN,
+    },
+    Row {
+        act: Act::Choose(1, 4, 0),
+        answer: CHOSEN,
+    },
+    Row {
+        act: Act::Deliver(1, 0, 0),
+        answer: TAKEN,
+    },
+];
 
 #[test]
 fn one_lacks_what_another_made(rt: HostRuntime) -> Result<(), Fail> {
-    let session = corridor(rt.alloc())?;
-    let mut table = Table::new(rt.alloc(), &session, 0)?;
-    assert_eq!(rt; table.stand(), Stand::Moving(0));
-    let steps = [
-        (choose(0, 0, 0), StepAnswer::Chosen(0)),
-        (choose(1, 4, 0), StepAnswer::Chosen(0)),
-        (deliver(1, 0, 0), StepAnswer::Got(GotAnswer::Taken)),
-    ];
-    assert!(rt; goes_so(&mut table, &steps));
-    assert_eq!(rt; made(&table, 0), Some(2));
-    assert_eq!(rt; made(&table, 1), Some(1));
-    assert_eq!(rt; table.stand(), Stand::Behind(1, 0, 0));
+    let mut table = table_of(rt.alloc(), 0)?;
+    assert!(rt; stands(&table, Stand::Moving(0)));
+    assert!(rt; goes_so(&mut table, &LACKING));
+    assert!(rt; has_made(&table, 0, 2));
+    assert!(rt; has_made(&table, 1, 1));
+    assert!(rt; stands(&table, Stand::Behind(1, 0, 0)));
     Ok(())
 }
+
+static STASHING: [Row; 3] = [
+    Row {
+        act: Act::Choose(0, 0, 0),
+        answer: CHOSEN,
+    },
+    Row {
+        act: Act::Reveal(0),
+        answer: StepAnswer::Got(GotAnswer::Stashed),
+    },
+    Row {
+        act: Act::Commit(1, 0, 0),
+        answer: TAKEN,
+    },
+];
 
 #[test]
 fn a_reveal_that_comes_before_its_commitment_waits(rt: HostRuntime) -> Result<(), Fail> {
-    let session = corridor(rt.alloc())?;
-    let mut table = Table::new(rt.alloc(), &session, 2)?;
-    let steps = [
-        (choose(0, 0, 0), StepAnswer::Chosen(0)),
-        (reveal(0), StepAnswer::Got(GotAnswer::Stashed)),
-        (commitment(&session, 0), StepAnswer::Got(GotAnswer::Taken)),
-    ];
-    assert!(rt; goes_so(&mut table, &steps));
-    assert_eq!(rt; made(&table, 0), Some(2));
-    assert_eq!(rt; logged(&table, 0), Some(5));
-    assert_eq!(rt; table.stand(), Stand::Moving(0));
+    let mut table = table_of(rt.alloc(), 2)?;
+    assert!(rt; goes_so(&mut table, &STASHING));
+    assert!(rt; has_made(&table, 0, 2));
+    assert!(rt; has_logged(&table, 0, Some(5)));
+    assert!(rt; stands(&table, Stand::Moving(0)));
     Ok(())
 }
 
+static FLOOD: [Row; 4] = [
+    Row {
+        act: Act::Commit(1, 0, 0),
+        answer: TAKEN,
+    },
+    Row {
+        act: Act::Commit(1, 0, 0),
+        answer: StepAnswer::Got(GotAnswer::Same),
+    },
+    Row {
+        act: Act::Commit(1, 0, 0),
+        answer: StepAnswer::Got(GotAnswer::Same),
+    },
+    Row {
+        act: Act::Commit(1, 7, 7),
+        answer: StepAnswer::Got(GotAnswer::Far),
+    },
+];
+
 #[test]
 fn a_flood_is_counted(rt: HostRuntime) -> Result<(), Fail> {
-    let session = corridor(rt.alloc())?;
-    let mut table = Table::new(rt.alloc(), &session, 2)?;
-    let first = commitment(&session, 0);
-    let steps = [
-        (first, StepAnswer::Got(GotAnswer::Taken)),
-        (first, StepAnswer::Got(GotAnswer::Same)),
-        (first, StepAnswer::Got(GotAnswer::Same)),
-        (commitment(&session, 7), StepAnswer::Got(GotAnswer::Far)),
-    ];
-    assert!(rt; goes_so(&mut table, &steps));
+    let mut table = table_of(rt.alloc(), 2)?;
+    assert!(rt; goes_so(&mut table, &FLOOD));
     let counted = Tally {
         taken: 1,
         stashed: 0,
@@ -192,97 +267,146 @@ fn a_flood_is_counted(rt: HostRuntime) -> Result<(), Fail> {
     Ok(())
 }
 
+static STOPPING: [Row; 4] = [
+    Row {
+        act: Act::Choose(1, 4, 1),
+        answer: CHOSEN,
+    },
+    Row {
+        act: Act::Deliver(1, 0, 0),
+        answer: TAKEN,
+    },
+    Row {
+        act: Act::Stop(0, 0),
+        answer: StepAnswer::Stopped,
+    },
+    Row {
+        act: Act::Stop(0, 1),
+        answer: StepAnswer::BadCut,
+    },
+];
+
+static GOING_ON: [Row; 5] = [
+    Row {
+        act: Act::Stop(1, 1),
+        answer: StepAnswer::BadCut,
+    },
+    Row {
+        act: Act::Deliver(1, 0, 0),
+        answer: TAKEN,
+    },
+    Row {
+        act: Act::Choose(0, 0, 0),
+        answer: CHOSEN,
+    },
+    Row {
+        act: Act::Stop(0, 1),
+        answer: StepAnswer::BadCut,
+    },
+    Row {
+        act: Act::Stop(0, 4),
+        answer: StepAnswer::Stopped,
+    },
+];
+
 #[test]
 fn a_peer_is_stopped_and_goes_on(rt: HostRuntime) -> Result<(), Fail> {
-    let session = corridor(rt.alloc())?;
-    let mut table = Table::new(rt.alloc(), &session, 0)?;
-    let steps = [
-        (choose(1, 4, 1), StepAnswer::Chosen(0)),
-        (deliver(1, 0, 0), StepAnswer::Got(GotAnswer::Taken)),
-        (stop(0, 0), StepAnswer::Stopped),
-        (stop(0, 1), StepAnswer::BadCut),
-    ];
-    assert!(rt; goes_so(&mut table, &steps));
-    assert_eq!(rt; logged(&table, 0), Some(0));
-    assert_eq!(rt; table.stand(), Stand::Moving(0));
-    let more = [
-        (stop(1, 1), StepAnswer::BadCut),
-        (deliver(1, 0, 0), StepAnswer::Got(GotAnswer::Taken)),
-        (choose(0, 0, 0), StepAnswer::Chosen(0)),
-        (stop(0, 1), StepAnswer::BadCut),
-        (stop(0, 4), StepAnswer::Stopped),
-    ];
-    assert!(rt; goes_so(&mut table, &more));
-    assert_eq!(rt; made(&table, 0), Some(2));
-    assert_eq!(rt; table.stand(), Stand::Behind(1, 0, 0));
+    let mut table = table_of(rt.alloc(), 0)?;
+    assert!(rt; goes_so(&mut table, &STOPPING));
+    assert!(rt; has_logged(&table, 0, Some(0)));
+    assert!(rt; stands(&table, Stand::Moving(0)));
+    assert!(rt; goes_so(&mut table, &GOING_ON));
+    assert!(rt; has_made(&table, 0, 2));
+    assert!(rt; stands(&table, Stand::Behind(1, 0, 0)));
     Ok(())
 }
+
+static REFUSED: [Row; 9] = [
+    Row {
+        act: Act::Choose(1, 4, 0),
+        answer: StepAnswer::NotHonest,
+    },
+    Row {
+        act: Act::Stop(1, 0),
+        answer: StepAnswer::NotHonest,
+    },
+    Row {
+        act: Act::Deliver(0, 1, 0),
+        answer: StepAnswer::NotHonest,
+    },
+    Row {
+        act: Act::Deliver(1, 0, 0),
+        answer: StepAnswer::NotHonest,
+    },
+    Row {
+        act: Act::Commit(0, 0, 0),
+        answer: StepAnswer::NotHostile,
+    },
+    Row {
+        act: Act::Deliver(0, 0, 0),
+        answer: StepAnswer::NoFrame,
+    },
+    Row {
+        act: Act::Choose(0, 0, 0),
+        answer: CHOSEN,
+    },
+    Row {
+        act: Act::Deliver(0, 0, 0),
+        answer: StepAnswer::Got(GotAnswer::Foreign),
+    },
+    Row {
+        act: Act::Choose(0, 0, 1),
+        answer: StepAnswer::Refused(OwnFault::NotNow),
+    },
+];
 
 #[test]
 fn what_cannot_be_is_refused(rt: HostRuntime) -> Result<(), Fail> {
-    let session = corridor(rt.alloc())?;
-    let mut table = Table::new(rt.alloc(), &session, 2)?;
-    let foreign = Step::Hostile {
-        from: 0,
-        to: 0,
-        frame: TurnFrame::Commit {
-            player: 0,
-            turn: 0,
-            digest: digest_of(session.id(), &opening(0)),
-        },
-    };
-    let steps = [
-        (choose(1, 4, 0), StepAnswer::NotHonest),
-        (stop(1, 0), StepAnswer::NotHonest),
-        (deliver(0, 1, 0), StepAnswer::NotHonest),
-        (deliver(1, 0, 0), StepAnswer::NotHonest),
-        (foreign, StepAnswer::NotHostile),
-        (deliver(0, 0, 0), StepAnswer::NoFrame),
-        (choose(0, 0, 0), StepAnswer::Chosen(0)),
-        (deliver(0, 0, 0), StepAnswer::Got(GotAnswer::Foreign)),
-        (choose(0, 0, 1), StepAnswer::Refused(OwnFault::NotNow)),
-    ];
-    assert!(rt; goes_so(&mut table, &steps));
-    assert_eq!(rt; logged(&table, 0), Some(2));
-    assert_eq!(rt; logged(&table, 1), None);
+    let mut table = table_of(rt.alloc(), 2)?;
+    assert!(rt; goes_so(&mut table, &REFUSED));
+    assert!(rt; has_logged(&table, 0, Some(2)));
+    assert!(rt; has_logged(&table, 1, None));
     Ok(())
 }
 
+const FOUND: Finding = Finding {
+    player: 1,
+    turn: 0,
+    kind: Kind::TwoCommits,
+    first: Spot { log: 0, entry: 0 },
+    second: Spot { log: 0, entry: 1 },
+};
+
+static CAUGHT: [Row; 4] = [
+    Row {
+        act: Act::Commit(1, 0, 0),
+        answer: TAKEN,
+    },
+    Row {
+        act: Act::Commit(1, 0, 1),
+        answer: StepAnswer::Got(GotAnswer::Caught(FOUND)),
+    },
+    Row {
+        act: Act::Reveal(0),
+        answer: StepAnswer::Got(GotAnswer::Closed),
+    },
+    Row {
+        act: Act::Choose(0, 0, 0),
+        answer: StepAnswer::Refused(OwnFault::NotNow),
+    },
+];
+
 #[test]
 fn who_commits_to_two_moves_is_caught(rt: HostRuntime) -> Result<(), Fail> {
-    let session = corridor(rt.alloc())?;
-    let mut table = Table::new(rt.alloc(), &session, 2)?;
-    let other = Step::Hostile {
-        from: 1,
-        to: 0,
-        frame: TurnFrame::Commit {
-            player: 1,
-            turn: 0,
-            digest: digest_of(session.id(), &opening(1)),
-        },
-    };
-    let found = Finding {
-        player: 1,
-        turn: 0,
-        kind: Kind::TwoCommits,
-        first: Spot { log: 0, entry: 0 },
-        second: Spot { log: 0, entry: 1 },
-    };
-    let steps = [
-        (commitment(&session, 0), StepAnswer::Got(GotAnswer::Taken)),
-        (other, StepAnswer::Got(GotAnswer::Caught(found))),
-        (reveal(0), StepAnswer::Got(GotAnswer::Closed)),
-        (choose(0, 0, 0), StepAnswer::Refused(OwnFault::NotNow)),
-    ];
-    assert!(rt; goes_so(&mut table, &steps));
-    assert_eq!(rt; table.stand(), Stand::Caught(0));
+    let mut table = table_of(rt.alloc(), 2)?;
+    assert!(rt; goes_so(&mut table, &CAUGHT));
+    assert!(rt; stands(&table, Stand::Caught(0)));
     Ok(())
 }
 
 #[test]
 fn with_every_player_hostile_all_is_finished(rt: HostRuntime) -> Result<(), Fail> {
-    let session = corridor(rt.alloc())?;
-    let table = Table::new(rt.alloc(), &session, u64::MAX)?;
-    assert_eq!(rt; table.stand(), Stand::Finished);
+    let table = table_of(rt.alloc(), u64::MAX)?;
+    assert!(rt; stands(&table, Stand::Finished));
     Ok(())
 }

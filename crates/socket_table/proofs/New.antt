@@ -15,7 +15,7 @@ none_made : (most n : ℕ) (links : List Link) → HasNone (λ l. l.player) n li
 none_made most n [] h = tt
 none_made most n (l ∷ links) h = (h.0, none_made most n links h.1)
 
-differ_made : (most : ℕ) (links : List Link) → DiffersBy (λ l. l.player) links → DiffersBy (λ c. c.link.player) (map (new_seat most) links)
+pub differ_made : (most : ℕ) (links : List Link) → DiffersBy (λ l. l.player) links → DiffersBy (λ c. c.link.player) (map (new_seat most) links)
 differ_made most [] d = tt
 differ_made most (l ∷ links) d = (none_made most l.player links d.0, differ_made most links d.1)
 

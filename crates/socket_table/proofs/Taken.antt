@@ -14,6 +14,8 @@ use Rattle.socket_table.specs.Sound.{IsFitLine, spent_by, spent_of}
 use Rattle.wire_frames.specs.declared.frames.Frame.{Frame}
 use Rattle.loop_rules.proofs.Alike.{alike_at, alike_frames, read_same}
 use Rattle.socket_table.proofs.Heard.{Linked, linked_seats, at_alike}
+use Rattle.table_laws.proofs.Hearing.{counted_lines}
+use Rattle.table_laws.proofs.Waiting.{counted_waits}
 
 -- ---- whose bytes they are
 
@@ -74,14 +76,6 @@ reads_on t u l q k count c f n e g w =
 
 -- ---- what stays
 
-pub counted_lines : (o : Option ℕ) (count : ℕ) (t : Table) → (counted o count t).lines ≡ t.lines
-counted_lines None count t = refl
-counted_lines (Some q) count t = refl
-
-pub counted_waiting : (o : Option ℕ) (count : ℕ) (t : Table) → (counted o count t).waiting ≡ t.waiting
-counted_waiting None count t = refl
-counted_waiting (Some q) count t = refl
-
 pub counted_linked : (o : Option ℕ) (count : ℕ) (t : Table) → Linked t.seats (counted o count t).seats
 counted_linked None count t = refl
 counted_linked (Some q) count t = linked_seats q (S.spends count) (λ c. refl) t.seats
@@ -117,7 +111,7 @@ pub record Counting (v u : Table) (l : Line) (count : ℕ) : Type 0 where
 pub counting : (v u : Table) (l : Line) (count : ℕ) → u ≡ counted l.name count v → Counting v u l count
 counting v u l count e = record {
   lines = ap (λ (t : Table). t.lines) e ∙ counted_lines l.name count v;
-  waiting = ap (λ (t : Table). t.waiting) e ∙ counted_waiting l.name count v;
+  waiting = ap (λ (t : Table). t.waiting) e ∙ counted_waits l.name count v;
   seats = ap (λ (t : Table). map (λ c. c.link) t.seats) e ∙ counted_linked l.name count v;
 }
 

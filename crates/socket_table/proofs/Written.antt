@@ -19,49 +19,9 @@ use Rattle.loop_rules.proofs.Given.{IsOwnDue, is_own_due}
 use Rattle.socket_table.specs.Finding.{IsDeskSeat}
 use Rattle.socket_table.specs.Sound.{IsFitLine, IsFitSeat, IsByte, IsSound, spent_of}
 use Rattle.table_laws.proofs.Keys.{put_at}
+use Rattle.table_laws.proofs.Giving.{keeps_giving}
 use Rattle.socket_table.proofs.Changed.{SameSeat, sound_line, sound_seat, each_at, line_seen}
 use Rattle.socket_table.proofs.Asked.{desk_read}
-
--- what a write changes of neither the line nor the seat
-pub record KeepsDesk (d e : Desk) : Type 0 where
-  pub reader : e.line.reader ≡ d.line.reader
-  pub taken : e.line.taken ≡ d.line.taken
-  pub name : e.line.name ≡ d.line.name
-  pub link : e.seat.link ≡ d.seat.link
-  pub spent : e.seat.spent ≡ d.seat.spent
-  pub dialled : e.seat.is_dialled ≡ d.seat.is_dialled
-
-keeps : (d : Desk) → KeepsDesk d d
-keeps d = record { reader = refl; taken = refl; name = refl; link = refl; spent = refl; dialled = refl }
-
-keeps_then : (d e f : Desk) → KeepsDesk d e → KeepsDesk e f → KeepsDesk d f
-keeps_then d e f a b = record { reader = b.reader ∙ a.reader; taken = b.taken ∙ a.taken; name = b.name ∙ a.name; link = b.link ∙ a.link; spent = b.spent ∙ a.spent; dialled = b.dialled ∙ a.dialled }
-
-keeps_either : (b : Bool) (d e f : Desk) → KeepsDesk d e → KeepsDesk d f → KeepsDesk d (if b then e else f)
-keeps_either true d e f x y = x
-keeps_either false d e f x y = y
-
-keeps_marked : (due : Due) (d : Desk) → KeepsDesk d (marked due d)
-keeps_marked U.Nothing d = keeps d
-keeps_marked (U.Hello next) d = record { reader = refl; taken = refl; name = refl; link = refl; spent = refl; dialled = refl }
-keeps_marked (U.Want place) d = record { reader = refl; taken = refl; name = refl; link = refl; spent = refl; dialled = refl }
-keeps_marked (U.Own f) d = record { reader = refl; taken = refl; name = refl; link = refl; spent = refl; dialled = refl }
-
-keeps_begun : (own : Option TurnFrame) (d : Desk) → KeepsDesk d (begun own d)
-keeps_begun own d = keeps_either (is_empty d.line.unsent) d (marked (due_on own d) d) d (keeps_marked (due_on own d) d) (keeps d)
-
-keeps_ended : (o : Option ℕ) (d : Desk) → KeepsDesk d (ended_with o d)
-keeps_ended None d = keeps d
-keeps_ended (Some place) d = record { reader = refl; taken = refl; name = refl; link = refl; spent = refl; dialled = refl }
-
-keeps_left : (left : List ℕ) (d : Desk) → KeepsDesk d (left_with left d)
-keeps_left left d =
-    let e : Desk = record d { line = record d.line { unsent = left } } in
-    let same : KeepsDesk d e = record { reader = refl; taken = refl; name = refl; link = refl; spent = refl; dialled = refl } in
-    keeps_either (is_empty left) d (ended_with d.line.sending e) e (keeps_then d e (ended_with d.line.sending e) same (keeps_ended d.line.sending e)) same
-
-pub gave_keeps : (s : Speaker) (own : Option TurnFrame) (count : ℕ) (d : Desk) → KeepsDesk d (gave s own count d)
-gave_keeps s own count d = keeps_then d (begun own d) (gave s own count d) (keeps_begun own d) (keeps_left (drop count (due_bytes s own d)) (begun own d))
 
 -- ---- the place that goes out
 
@@ -136,7 +96,7 @@ written t v a b place k s own count x l y nl ns o e w i g j at is cursor made =
     let here : slice_get t.lines place ≡ Some x = ap (λ (u : Table). slice_get u.lines place) e ∙ g ∙ ap (λ (z : Line). Some z) (sym it) in
     let found = subst (IsDeskSeat v (player_of l)) is at in
     let there : slice_get t.seats k ≡ Some y = seat_here t v k y found.0 e j found.1 in
-    let kept = gave_keeps s own count d in
+    let kept = keeps_giving s own count d in
     let socket = keeps_gave s own count d in
     let same : Same x m = record {
       socket = ap (λ (z : Line). z.socket) line ∙ socket.0;
@@ -145,14 +105,14 @@ written t v a b place k s own count x l y nl ns o e w i g j at is cursor made =
       wrong = λ z. ap (λ (q : Line). q.is_wrong) line ∙ socket.3 ∙ z;
     } in
     let fit = each_at (IsFitLine t.seats) t.lines place x w.lines here in
-    let fits : IsFitLine t.seats m = fit_given t.seats d nl (gave s own count d).line (ap (λ (f : Desk). f.line) made) kept.taken kept.reader kept.name
+    let fits : IsFitLine t.seats m = fit_given t.seats d nl (gave s own count d).line (ap (λ (f : Desk). f.line) made) kept.line.taken kept.line.reader kept.line.name
     (gave_sends s own count d (λ f q. subst (λ (z : Line). z.cursor + 1 < 2 ^ 32) (sym it) (cursor f q)) fit.sending) same.dialled fit in
     let same_seat : SameSeat y ns = record {
-      link = ap (λ (c : Seat). c.link) seat ∙ kept.link;
-      spent = (let z = ap (λ (c : Seat). c.spent) seat in let n = kept.spent in omega (arith, z, n));
-      dialled = ap (λ (c : Seat). c.is_dialled) seat ∙ kept.dialled;
+      link = ap (λ (c : Seat). c.link) seat ∙ kept.seat.link;
+      spent = (let z = ap (λ (c : Seat). c.spent) seat in let n = kept.seat.spent in omega (arith, z, n));
+      dialled = ap (λ (c : Seat). c.is_dialled) seat ∙ kept.seat.dialled;
     } in
-    let few : IsFitSeat ns = (let old = each_at IsFitSeat t.seats k y w.seats there in let z = ap (λ (c : Seat). c.spent) seat in let n = kept.spent in omega (arith, old, z, n)) in
+    let few : IsFitSeat ns = (let old = each_at IsFitSeat t.seats k y w.seats there in let z = ap (λ (c : Seat). c.spent) seat in let n = kept.seat.spent in omega (arith, old, z, n)) in
     let one = sound_line t a b place x m here same fits w in
     let lines = put_at (λ (z : Line). z.socket) m.socket (λ _. m) t.lines place x w.sockets here (sym same.socket) in
     let seats = put_at (λ (c : Seat). c.link.player) ns.link.player (λ _. ns) t.seats k y w.players there (sym (ap (λ (q : Link). q.player) same_seat.link)) in (

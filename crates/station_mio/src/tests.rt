@@ -2,10 +2,12 @@
 
 use crate::MioStation;
 use crate::sockets::Sockets;
+use definitions::PlayerId;
 use socket_station::{
     Addr, Dial, Did, Ready, ReadyList, SocketId, SocketRead, SocketWrite, Station,
 };
-use std::io::{Read, Write};
+use std::env::temp_dir;
+use std::io::{self, Read, Write};
 use std::net::{Ipv4Addr, Shutdown, SocketAddr, TcpListener, TcpStream};
 use std::test::Fail;
 use std::time::Instant;
@@ -18,18 +20,30 @@ fn sockets_of(rt: &HostRuntime) -> Result<Sockets<&HostRuntime>, Fail> {
     Ok(Sockets::new(rt.alloc(), rt)?)
 }
 
+/// The address of std at this port of this machine.
+fn local(port: u16) -> SocketAddr {
+    SocketAddr::from((Ipv4Addr::LOCALHOST, port))
+}
+
+/// A port of this machine that nobody listens at.
+fn free_port(rt: &HostRuntime) -> Result<u16, Fail> {
+    let listener = TcpListener::bind(rt, local(0))?;
+    let addr = listener.local_addr()?;
+    Ok(addr.port())
+}
+
 /// An address of this machine that nobody listens at.
 fn free_addr(rt: &HostRuntime) -> Result<Addr, Fail> {
-    let listener = TcpListener::bind(rt, SocketAddr::from((Ipv4Addr::LOCALHOST, 0)))?;
+    let port = free_port(rt)?;
     Ok(Addr {
         ip: [127, 0, 0, 1],
-        port: listener.local_addr()?.port(),
+        port,
     })
 }
 
 /// A stream of std to a station that listens.
 fn stream_to(rt: &HostRuntime, addr: Addr) -> Result<TcpStream, Fail> {
-    Ok(TcpStream::connect(rt, SocketAddr::from((Ipv4Addr::LOCALHOST, addr.port)))?)
+    Ok(TcpStream::connect(rt, local(addr.port))?)
 }
 
 /// The first socket that a poll opens.
@@ -60,32 +74,97 @@ fn heard(sockets: &mut Sockets<&HostRuntime>, socket: SocketId, buf: &mut [u8]) 
     SocketRead::NotYet
 }
 
+/// Reads from a stream of std.
+fn read_some(stream: &mut TcpStream, buf: &mut [u8]) -> io::Result<usize> {
+    stream.read(buf)
+}
+
+fn dial(sockets: &mut Sockets<&HostRuntime>, player: PlayerId, addr: Addr) -> Dial {
+    sockets.dial(player, addr)
+}
+
+/// Whether the near side dials for the player, and both sides have that as this socket.
+fn meet(
+    near: &mut Sockets<&HostRuntime>,
+    far: &mut Sockets<&HostRuntime>,
+    player: PlayerId,
+    addr: Addr,
+    socket: SocketId,
+) -> bool {
+    if dial(near, player, addr) != Dial::Socket(socket) {
+        return false;
+    }
+    accepted(far) == Some(socket)
+}
+
+/// Whether so many of the bytes are given on socket 0.
+fn gives(sockets: &mut Sockets<&HostRuntime>, bytes: &[u8], count: usize) -> bool {
+    sockets.write(0, bytes) == SocketWrite::Gave(count)
+}
+
+/// Whether so many bytes come next on socket 0, behind which these fill the buffer.
+fn hears(sockets: &mut Sockets<&HostRuntime>, buf: &mut [u8], count: usize, bytes: &[u8]) -> bool {
+    if heard(sockets, 0, buf) != SocketRead::Took(count) {
+        return false;
+    }
+    *buf == *bytes
+}
+
+/// Whether bytes go there and back on socket 0.
+fn carry(near: &mut Sockets<&HostRuntime>, far: &mut Sockets<&HostRuntime>) -> bool {
+    let mut buf = [b'-'; 8];
+    if far.read(0, &mut buf) != SocketRead::NotYet || !gives(near, b"abc", 3) {
+        return false;
+    }
+    if !hears(far, &mut buf, 3, b"abc-----") || !gives(far, b"defgh", 5) {
+        return false;
+    }
+    hears(near, &mut buf, 5, b"defgh---")
+}
+
+/// Whether the far side hears the end where the near one shuts socket 0.
+fn part(near: &mut Sockets<&HostRuntime>, far: &mut Sockets<&HostRuntime>) -> bool {
+    let mut buf = [b'-'; 8];
+    near.shut(0);
+    heard(far, 0, &mut buf) == SocketRead::Ended
+}
+
 #[test]
 fn carries_bytes_both_ways(rt: HostRuntime) -> Result<(), Fail> {
     let addr = free_addr(&rt)?;
     let mut near = sockets_of(&rt)?;
     let mut far = sockets_of(&rt)?;
-    let mut buf = [b'-'; 8];
     far.listen(addr)?;
     assert!(rt; near.listen(addr).is_err());
-    assert_eq!(rt; near.dial(1, addr), Dial::Socket(0));
-    assert_eq!(rt; accepted(&mut far), Some(0));
-    assert_eq!(rt; far.read(0, &mut buf), SocketRead::NotYet);
-
-    assert_eq!(rt; near.write(0, b"abc"), SocketWrite::Gave(3));
-    assert_eq!(rt; heard(&mut far, 0, &mut buf), SocketRead::Took(3));
-    assert_eq!(rt; far.write(0, b"defgh"), SocketWrite::Gave(5));
-    assert_eq!(rt; buf, *b"abc-----");
-    assert_eq!(rt; heard(&mut near, 0, &mut buf), SocketRead::Took(5));
-    assert_eq!(rt; buf, *b"defgh---");
-
-    near.shut(0);
-    assert_eq!(rt; heard(&mut far, 0, &mut buf), SocketRead::Ended);
+    assert!(rt; meet(&mut near, &mut far, 1, addr, 0));
+    assert!(rt; carry(&mut near, &mut far));
+    assert!(rt; part(&mut near, &mut far));
     // a number is never used again
     assert_eq!(rt; far.write(0, b"i"), SocketWrite::Failed);
-    assert_eq!(rt; near.dial(2, addr), Dial::Socket(1));
-    assert_eq!(rt; accepted(&mut far), Some(1));
+    assert!(rt; meet(&mut near, &mut far, 2, addr, 1));
     Ok(())
+}
+
+/// A stream that gave two bytes and ended there.
+fn ended_stream(rt: &HostRuntime, addr: Addr) -> Result<TcpStream, Fail> {
+    let mut stream = stream_to(rt, addr)?;
+    stream.write_all(b"ab")?;
+    stream.shutdown(Shutdown::Write)?;
+    Ok(stream)
+}
+
+/// Whether socket 0 still gives two bytes, and hears those of the other side and then its end.
+fn hears_the_end(sockets: &mut Sockets<&HostRuntime>, buf: &mut [u8]) -> bool {
+    if !gives(sockets, b"cd", 2) || heard(sockets, 0, buf) != SocketRead::Took(2) {
+        return false;
+    }
+    heard(sockets, 0, buf) == SocketRead::Ended
+}
+
+/// Whether so many bytes come next from the stream, behind which these fill the buffer.
+fn takes(stream: &mut TcpStream, buf: &mut [u8], count: usize, bytes: &[u8]) -> Result<bool, Fail> {
+    let taken = read_some(stream, buf)?;
+    Ok(taken == count && *buf == *bytes)
 }
 
 #[test]
@@ -94,15 +173,10 @@ fn reads_what_came_before_the_other_side_ended(rt: HostRuntime) -> Result<(), Fa
     let mut sockets = sockets_of(&rt)?;
     let mut buf = [b'-'; 4];
     sockets.listen(addr)?;
-    let mut stream = stream_to(&rt, addr)?;
-    stream.write_all(b"ab")?;
-    stream.shutdown(Shutdown::Write)?;
+    let mut stream = ended_stream(&rt, addr)?;
     assert_eq!(rt; accepted(&mut sockets), Some(0));
-    assert_eq!(rt; sockets.write(0, b"cd"), SocketWrite::Gave(2));
-    assert_eq!(rt; heard(&mut sockets, 0, &mut buf), SocketRead::Took(2));
-    assert_eq!(rt; heard(&mut sockets, 0, &mut buf), SocketRead::Ended);
-    assert_eq!(rt; stream.read(&mut buf)?, 2);
-    assert_eq!(rt; buf, *b"cd--");
+    assert!(rt; hears_the_end(&mut sockets, &mut buf));
+    assert!(rt; takes(&mut stream, &mut buf, 2, b"cd--")?);
     Ok(())
 }
 
@@ -134,27 +208,38 @@ fn fill_up(sockets: &mut Sockets<&HostRuntime>, socket: SocketId) -> usize {
     given
 }
 
-#[test]
-fn lists_a_socket_again_once_it_takes_more(rt: HostRuntime) -> Result<(), Fail> {
-    let addr = free_addr(&rt)?;
-    let mut sockets = sockets_of(&rt)?;
-    let mut ready = ReadyList::new();
-    sockets.listen(addr)?;
-    let mut stream = stream_to(&rt, addr)?;
-    assert_eq!(rt; accepted(&mut sockets), Some(0));
-    let given = fill_up(&mut sockets, 0);
-    assert_eq!(rt; sockets.write(0, b"a"), SocketWrite::NotYet);
+/// Takes at least so many bytes from the stream.
+fn take_all(stream: &mut TcpStream, given: usize) -> Result<(), Fail> {
     let mut buf = [0u8; 4096];
     let mut taken = 0usize;
     for _ in 0..1_000_000u32 {
         if taken >= given {
             break;
         }
-        taken = taken.saturating_add(stream.read(&mut buf)?);
+        taken = taken.saturating_add(read_some(stream, &mut buf)?);
     }
+    Ok(())
+}
+
+/// Whether a poll lists socket 0 alone.
+fn lists_the_first(sockets: &mut Sockets<&HostRuntime>) -> bool {
+    let mut ready = ReadyList::new();
     sockets.poll(&mut ready);
-    assert_eq!(rt; ready.as_slice(), [Ready::Socket(0)].as_slice());
-    assert_eq!(rt; sockets.write(0, b"a"), SocketWrite::Gave(1));
+    ready.as_slice() == [Ready::Socket(0)].as_slice()
+}
+
+#[test]
+fn lists_a_socket_again_once_it_takes_more(rt: HostRuntime) -> Result<(), Fail> {
+    let addr = free_addr(&rt)?;
+    let mut sockets = sockets_of(&rt)?;
+    sockets.listen(addr)?;
+    let mut stream = stream_to(&rt, addr)?;
+    assert_eq!(rt; accepted(&mut sockets), Some(0));
+    let given = fill_up(&mut sockets, 0);
+    assert_eq!(rt; sockets.write(0, b"a"), SocketWrite::NotYet);
+    take_all(&mut stream, given)?;
+    assert!(rt; lists_the_first(&mut sockets));
+    assert!(rt; gives(&mut sockets, b"a", 1));
     Ok(())
 }
 
@@ -170,7 +255,7 @@ fn dials_an_address_that_refuses_ten_times_a_second(rt: HostRuntime) -> Result<(
         if refused == 4 {
             break;
         }
-        match sockets.dial(3, addr) {
+        match dial(&mut sockets, 3, addr) {
             Dial::Failed => refused = refused.saturating_add(1),
             // it waits for its turn, or for the answer
             Dial::Socket(number) => {
@@ -232,6 +317,14 @@ fn accepts_all_of_a_crowd_and_waits_when_nothing_comes(rt: HostRuntime) -> Resul
     Ok(())
 }
 
+/// Whether three bytes come from the stream, and then its end.
+fn hears_three(stream: &mut TcpStream) -> bool {
+    let mut buf = [b'-'; 8];
+    let first = read_some(stream, &mut buf).unwrap_or(9);
+    let second = read_some(stream, &mut buf).unwrap_or(9);
+    first == 3 && second == 0 && buf.as_slice() == b"abc-----".as_slice()
+}
+
 #[test]
 fn ends_behind_what_it_gave(rt: HostRuntime) -> Result<(), Fail> {
     let addr = free_addr(&rt)?;
@@ -242,27 +335,27 @@ fn ends_behind_what_it_gave(rt: HostRuntime) -> Result<(), Fail> {
     assert_eq!(rt; sockets.write(0, b"abc"), SocketWrite::Gave(3));
     // what came and was not read would reset the socket where it is closed at once
     stream.write_all(b"not read")?;
-    let ended = thread::Builder::new().spawn(&rt, move || {
-        let mut buf = [b'-'; 8];
-        let first = stream.read(&mut buf).unwrap_or(9);
-        (first, stream.read(&mut buf).unwrap_or(9), buf)
-    })?;
+    let ended = thread::Builder::new().spawn(&rt, move || hears_three(&mut stream))?;
     let start = Instant::now(&rt)?;
     sockets.finish();
     assert!(rt; start.elapsed(&rt)?.as_millis() < 900);
-    let (first, second, buf) = ended.join(&rt);
-    assert_eq!(rt; (first, second), (3, 0));
-    assert_eq!(rt; buf, *b"abc-----");
+    assert!(rt; ended.join(&rt));
     Ok(())
 }
 
-/// Whether nothing is kept before there is a log, and none is begun where there can be none.
+/// Whether nothing is kept before there is a log.
 fn keeps_nothing<S: Station>(station: &mut S) -> bool {
-    station.keep(b"a") == Did::Failed
-        && station.sync() == Did::Failed
-        && station.log_to(b"/tmp/not there/a.log") == Did::Failed
-        && station.log_to(b"/tmp/\xff") == Did::Failed
-        && station.log_to(b"") == Did::Failed
+    station.keep(b"a") == Did::Failed && station.sync() == Did::Failed
+}
+
+/// Whether no log of that name is begun.
+fn refuses<S: Station>(station: &mut S, name: &[u8]) -> bool {
+    station.log_to(name) == Did::Failed
+}
+
+/// Whether no log is begun where there can be none.
+fn refuses_all<S: Station>(station: &mut S) -> bool {
+    refuses(station, b"not there/a.log") && refuses(station, b"\xff") && refuses(station, b"")
 }
 
 /// Whether a log of five bytes is begun, kept in two pieces, and synced behind each.
@@ -288,18 +381,32 @@ fn begins_none(rt: &HostRuntime, path: &str) -> Result<bool, Fail> {
 /// The path of a file that isn't there.
 fn free_path(rt: &HostRuntime) -> Result<String, Fail> {
     let id = process::id(rt.process());
-    let path = format!(in rt.alloc(); "/tmp/station_mio_{id}.log")?;
+    let folder = temp_dir(rt)?;
+    let path = format!(in rt.alloc(); "{}/station_mio_{id}.log", folder.as_str())?;
     if fs::exists(rt, path.as_str())? {
         fs::remove_file(rt, path.as_str())?;
     }
     Ok(path)
 }
 
+/// Whether the file keeps its five bytes where no log is begun in it.
+fn stays(rt: &HostRuntime, path: &str) -> Result<bool, Fail> {
+    if !has_five(rt, path)? || !begins_none(rt, path)? {
+        return Ok(false);
+    }
+    has_five(rt, path)
+}
+
 /// Whether that path's log is kept, and stays as it is.
 fn keeps_a_log(rt: &HostRuntime, path: &str) -> Result<bool, Fail> {
     let mut station = MioStation::new(rt, rt.alloc())?;
-    let kept = keeps_nothing(&mut station) && keeps_five(&mut station, path);
-    Ok(kept && has_five(rt, path)? && begins_none(rt, path)? && has_five(rt, path)?)
+    if !keeps_nothing(&mut station) || !refuses_all(&mut station) {
+        return Ok(false);
+    }
+    if !keeps_five(&mut station, path) {
+        return Ok(false);
+    }
+    stays(rt, path)
 }
 
 #[test]

@@ -24,6 +24,7 @@ pub record KeepsLine (l m : Line) : Type 0 where
   pub opened : m.is_open ≡ l.is_open
   pub dialled : m.dialled ≡ l.dialled
   pub name : m.name ≡ l.name
+  pub reader : m.reader ≡ l.reader
   pub taken : m.taken ≡ l.taken
   pub quiet : m.is_quiet ≡ l.is_quiet
   pub wrong : m.is_wrong ≡ l.is_wrong
@@ -42,7 +43,7 @@ pub record KeepsDesk (d e : Desk) : Type 0 where
   pub seat : KeepsSeat d.seat e.seat
 
 pub keeps_line : (l : Line) → KeepsLine l l
-keeps_line l = record { socket = refl; opened = refl; dialled = refl; name = refl; taken = refl; quiet = refl; wrong = refl }
+keeps_line l = record { socket = refl; opened = refl; dialled = refl; name = refl; reader = refl; taken = refl; quiet = refl; wrong = refl }
 
 pub keeps_seat : (c : Seat) → KeepsSeat c c
 keeps_seat c = record { link = refl; spent = refl; most = refl; dialled = refl; none_due = λ e. e }
@@ -53,6 +54,7 @@ line_then k l m a b = record {
   opened = b.opened ∙ a.opened;
   dialled = b.dialled ∙ a.dialled;
   name = b.name ∙ a.name;
+  reader = b.reader ∙ a.reader;
   taken = b.taken ∙ a.taken;
   quiet = b.quiet ∙ a.quiet;
   wrong = b.wrong ∙ a.wrong;
@@ -74,9 +76,9 @@ drop_empty (x ∷ xs) e = absurd (false≢true e)
 
 keeps_marked : (due : Due) (d : Desk) → KeepsDesk d (marked due d)
 keeps_marked U.Nothing d = record { line = keeps_line d.line; seat = keeps_seat d.seat }
-keeps_marked (U.Hello next) d = record { line = record { socket = refl; opened = refl; dialled = refl; name = refl; taken = refl; quiet = refl; wrong = refl }; seat = keeps_seat d.seat }
+keeps_marked (U.Hello next) d = record { line = record { socket = refl; opened = refl; dialled = refl; name = refl; reader = refl; taken = refl; quiet = refl; wrong = refl }; seat = keeps_seat d.seat }
 keeps_marked (U.Want place) d = record { line = keeps_line d.line; seat = record { link = refl; spent = refl; most = refl; dialled = refl; none_due = drop_empty d.seat.asks.due } }
-keeps_marked (U.Own f) d = record { line = record { socket = refl; opened = refl; dialled = refl; name = refl; taken = refl; quiet = refl; wrong = refl }; seat = keeps_seat d.seat }
+keeps_marked (U.Own f) d = record { line = record { socket = refl; opened = refl; dialled = refl; name = refl; reader = refl; taken = refl; quiet = refl; wrong = refl }; seat = keeps_seat d.seat }
 
 keeps_begun : (own : Option TurnFrame) (d : Desk) → KeepsDesk d (begun own d)
 keeps_begun own d =
@@ -85,21 +87,24 @@ keeps_begun own d =
 keeps_ended : (o : Option ℕ) (d : Desk) → KeepsDesk d (ended_with o d)
 keeps_ended None d = record { line = keeps_line d.line; seat = keeps_seat d.seat }
 keeps_ended (Some place) d = record {
-  line = record { socket = refl; opened = refl; dialled = refl; name = refl; taken = refl; quiet = refl; wrong = refl };
+  line = record { socket = refl; opened = refl; dialled = refl; name = refl; reader = refl; taken = refl; quiet = refl; wrong = refl };
   seat = record { link = refl; spent = refl; most = refl; dialled = refl; none_due = λ e. e };
 }
 
 keeps_left : (left : List ℕ) (d : Desk) → KeepsDesk d (left_with left d)
 keeps_left left d =
     let e : Desk = record d { line = record d.line { unsent = left } } in
-    let same : KeepsDesk d e = record { line = record { socket = refl; opened = refl; dialled = refl; name = refl; taken = refl; quiet = refl; wrong = refl }; seat = keeps_seat d.seat } in
+    let same : KeepsDesk d e = record { line = record { socket = refl; opened = refl; dialled = refl; name = refl; reader = refl; taken = refl; quiet = refl; wrong = refl }; seat = keeps_seat d.seat } in
     keeps_either (is_empty left) d (ended_with d.line.sending e) e (keeps_then d e (ended_with d.line.sending e) same (keeps_ended d.line.sending e)) same
+
+pub keeps_giving : (k : Speaker) (own : Option TurnFrame) (count : ℕ) (d : Desk) → KeepsDesk d (gave k own count d)
+keeps_giving k own count d = keeps_then d (begun own d) (gave k own count d) (keeps_begun own d) (keeps_left (drop count (due_bytes k own d)) (begun own d))
 
 pub gave_keeps : (k : Speaker) (own : Option TurnFrame) (count : ℕ) (d : Desk) → KeepsDesk d (gave_on k own count d)
 gave_keeps k own count d =
-    let left = keeps_then d (begun own d) (gave k own count d) (keeps_begun own d) (keeps_left (drop count (due_bytes k own d)) (begun own d)) in
+    let left = keeps_giving k own count d in
     record {
-      line = record { socket = left.line.socket; opened = left.line.opened; dialled = left.line.dialled; name = left.line.name; taken = left.line.taken; quiet = left.line.quiet; wrong = left.line.wrong };
+      line = record { socket = left.line.socket; opened = left.line.opened; dialled = left.line.dialled; name = left.line.name; reader = left.line.reader; taken = left.line.taken; quiet = left.line.quiet; wrong = left.line.wrong };
       seat = record { link = left.seat.link; spent = left.seat.spent; most = left.seat.most; dialled = left.seat.dialled; none_due = left.seat.none_due };
     }
 

@@ -113,7 +113,7 @@ lines_heard_all s R k n h g t =
     let frames = lines_frames s R k n h t g.frames in
     lines_if R t.lines g.reader.bad (at_line s doomed u) u (pairs_then R k.goes_on t.lines u.lines (at_line s doomed u).lines frames (lines_doomed s R k s u)) frames
 
-counted_lines : (o : Option ℕ) (count : ℕ) (t : Table) → (counted o count t).lines ≡ t.lines
+pub counted_lines : (o : Option ℕ) (count : ℕ) (t : Table) → (counted o count t).lines ≡ t.lines
 counted_lines None count t = refl
 counted_lines (Some q) count t = refl
 

@@ -145,7 +145,7 @@ read_other game me count g l = go l.name
     go None = (refl, λ x. x)
     go (Some q) = (refl, λ x. x)
 
-counted_waits : (o : Option ℕ) (count : ℕ) (t : Table) → (counted o count t).waiting ≡ t.waiting
+pub counted_waits : (o : Option ℕ) (count : ℕ) (t : Table) → (counted o count t).waiting ≡ t.waiting
 counted_waits None count t = refl
 counted_waits (Some q) count t = refl
 

@@ -1,0 +1,10 @@
+mod Moves
+mod Synced
+mod Given
+mod Over
+mod Fronts
+mod Reading
+mod Left
+mod Honest
+mod Handed
+mod Survived

@@ -1,0 +1,71 @@
+//! Runs whose text goes to memory.
+
+use file_shelf::FileShelf;
+use peer_cli::run_plainly;
+use rand_chacha::ChaCha20Rng;
+use rand_core::SeedableRng;
+use station::{MemorySink, MemorySource};
+use station_mio::MioStation;
+use std::io;
+use std::random::RandomSource;
+
+/// More bytes than a run of an example writes.
+const MOST: usize = 1_048_576;
+
+/// How a run ended: its status, and what it wrote.
+#[derive(Drop)]
+pub(crate) struct Ran {
+    pub(crate) status: u8,
+    pub(crate) text: String,
+}
+
+/// The words behind the program's name.
+pub(crate) fn words_of(rt: &HostRuntime) -> io::Result<Vec<Vec<u8>>> {
+    let mut words = Vec::new(rt.alloc());
+    for word in std::env::args(rt)?.skip(1) {
+        words.push(Vec::from_slice(rt.alloc(), word.as_bytes())?)?;
+    }
+    Ok(words)
+}
+
+/// The words of a line, which stand with a blank between each two.
+fn split(rt: &HostRuntime, line: &str) -> io::Result<Vec<Vec<u8>>> {
+    let mut words = Vec::new(rt.alloc());
+    for word in line.split(' ') {
+        words.push(Vec::from_slice(rt.alloc(), word.as_bytes())?)?;
+    }
+    Ok(words)
+}
+
+/// A generator that random bytes of the machine seed.
+pub(crate) fn chance_of(rt: &HostRuntime) -> io::Result<ChaCha20Rng> {
+    let mut seed = [0; 32];
+    rt.fill_bytes(&mut seed)?;
+    Ok(ChaCha20Rng::from_seed(seed))
+}
+
+/// Runs the words of a line over this machine's files and sockets, with no input.
+pub(crate) fn run_line(rt: &HostRuntime, line: &str) -> io::Result<Ran> {
+    let alloc = rt.alloc();
+    let words = split(rt, line)?;
+    let mut input = MemorySource::new(Vec::new(alloc), Vec::new(alloc));
+    let mut out = MemorySink::new(alloc, MOST, Vec::new(alloc))?;
+    let mut shelf = FileShelf::new(alloc, rt);
+    let mut station = MioStation::new(rt, alloc)?;
+    let mut chance = chance_of(rt)?;
+    let status = run_plainly(
+        alloc,
+        words.as_slice(),
+        &mut input,
+        &mut out,
+        &mut shelf,
+        &mut station,
+        &mut chance,
+    );
+    station.finish();
+    let text = String::from_utf8_lossy(alloc, out.bytes())?;
+    Ok(Ran {
+        status: status.code(),
+        text,
+    })
+}
