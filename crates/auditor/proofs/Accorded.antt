@@ -1,5 +1,5 @@
 -- Accorded: one move more among those that are compared.
-use Rattle.std.proofs.Common.{Bool, List, None, Some, [], ap, refl, sym, true, false, ◌++◌, ◌∙◌, ◌∷◌, ◌≡◌, Option}
+use Rattle.std.proofs.Common.{Bool, List, Some, [], ap, refl, sym, true, false, ◌++◌, ◌∙◌, ◌∷◌, ◌≡◌}
 use Rattle.std.specs.Prelude.{◌&&◌, unwrap_or}
 use Rattle.std.specs.List.{list_all}
 use Rattle.std.proofs.Math.Bool.{and_assoc}

@@ -1,25 +1,23 @@
 -- Agreeing: moves of all turns on which logs agree are the moves of one log, and so they are legal.
-use Rattle.std.proofs.Common.{Bool, List, None, Some, [], ap, arith, false, inl, inr, refl, subst, suc, sym, true, zero, zero-add, ℕ, ◌*◌, ◌+◌, ◌<◌, ◌≤◌, ◌∙◌, ◌∷◌, ◌≡◌, Option, length, map, slice_get, IsTrue}
-use Rattle.std.specs.Prelude.{◌&&◌, ◌==◌, filter_map, if◌then◌else◌}
-use Rattle.std.specs.List.{list_all, range_with_len}
-use Rattle.std.proofs.lemmas.Bool.{and_parts, cases_lt, eqb-true}
+use Rattle.std.proofs.Common.{List, None, Some, [], ap, arith, inl, inr, refl, subst, suc, sym, true, zero, zero-add, ℕ, ◌*◌, ◌+◌, ◌<◌, ◌≤◌, ◌∙◌, ◌∷◌, ◌≡◌, Option, length, slice_get}
+use Rattle.std.specs.List.{list_all}
+use Rattle.std.proofs.lemmas.Bool.{and_parts, cases_lt}
 use Rattle.std.proofs.lemmas.Option.{slice_get_past, slice_get_within}
 use Rattle.definitions.specs.declared.frames.TurnFrame.{TurnFrame}
 use Rattle.definitions.specs.declared.world.Move.{Move}
 use Rattle.definitions.specs.declared.logs.Entry.{Entry}
 use Rattle.definitions.specs.Lists.{EachIs, item_or}
-use Rattle.definitions.specs.World.{Game, players_of}
+use Rattle.definitions.specs.World.{Game}
 use Rattle.definitions.specs.Moves.{AreLegal}
-use Rattle.definitions.specs.Logs.{frames_of, got_of, made, move_eq}
+use Rattle.definitions.specs.Logs.{move_eq}
 use Rattle.definitions.specs.Held.{known, known_to}
 use Rattle.definitions.specs.Findings.{got_known}
 use Rattle.definition_laws.proofs.Alike.{move_eq_true}
 use Rattle.definition_laws.proofs.Nexts.{known_are_legal, known_orderly, some_at}
+use Rattle.definition_laws.proofs.Behind.{frames_of_other}
 use Rattle.plain_lemmas.proofs.Options.{some_when}
-use Rattle.playout.specs.Lockstep.{AreLegalMoves, moves_of}
-use Rattle.auditor.specs.Agreed.{agreed_move, agreed_moves, all_agreed_moves, are_whole, moves_given, one_move, resolved_at, resolved_by}
-use Rattle.auditor.specs.Played.{AreLegalIfWhole}
-use Rattle.auditor.proofs.Picked.{length_range, picked_all, picked_each, picked_few, picked_first, same_items}
+use Rattle.auditor.specs.Agreed.{agreed_move, agreed_moves, moves_given, one_move, resolved_at, resolved_by}
+use Rattle.auditor.proofs.Picked.{picked_all, picked_each, picked_first, same_items}
 
 -- the moves that a log shows of a player are legal, at most one a turn, and those by which it resolves the turns
 record IsShown (game : Game) (q : ℕ) (owner : Option ℕ) (h : List Entry) (ms : List Move) : Type 0 where
@@ -27,16 +25,9 @@ record IsShown (game : Game) (q : ℕ) (owner : Option ℕ) (h : List Entry) (ms
   few : length ms ≤ game.turns
   resolves : (t : ℕ) → resolved_by game owner h q t ≡ slice_get ms t
 
-other_frames : (q : ℕ) (h : List Entry) → frames_of (suc q) q h ≡ got_of q h
-other_frames q h = go (q == suc q) refl
-  where
-    go : (b : Bool) → (q == suc q) ≡ b → (if b then made h else got_of q h) ≡ got_of q h
-    go true e = let same = eqb-true q (suc q) e in absurd (omega arith)
-    go false e = refl
-
 same_known : (game : Game) (q : ℕ) (h : List Entry) → (got_known game q h).moves ≡ (known game (suc q) h q).moves
 unfolding known
-same_known game q h = ap (λ (fs : List TurnFrame). (known_to game q fs (2 * game.turns)).moves) (sym (other_frames q h))
+same_known game q h = ap (λ (fs : List TurnFrame). (known_to game q fs (2 * game.turns)).moves) (sym (frames_of_other (suc q) q h (λ e. absurd (omega (arith, e)))))
 
 shown : (game : Game) (q : ℕ) (owner : Option ℕ) (h : List Entry) → (ms : List Move) × IsShown game q owner h ms
 shown game q (Some me) h = (

@@ -24,7 +24,7 @@ on_err_always (Ok x) p = tt
 on_err_always (Err e) p = p
 
 -- an entry that an owner may have is of its sender
-well_sent : (game : Game) (me : ℕ) (e : Entry) → is_well_formed game me e ≡ true → is_of_its_sender e ≡ true
+pub well_sent : (game : Game) (me : ℕ) (e : Entry) → is_well_formed game me e ≡ true → is_of_its_sender e ≡ true
 well_sent game me (Chose t m n) w = refl
 well_sent game me (Made f) w = refl
 well_sent game me (Got q f) w = (and_parts (nat_lt q (players_of game) && not (q == me)) (player_of f == q) (and_parts (nat_lt (turn_of f) game.turns) (is_of_another game me q f) w).1).1

@@ -1,8 +1,7 @@
 -- Joining: the move of a turn on which logs agree, where each of them resolves it by the one move of its group or not at all.
-use Rattle.std.proofs.Common.{Bool, List, None, Some, [], ap, arith, false, inl, inr, nat_eq, refl, subst, suc, sym, true, zero, ℕ, ◌+◌, ◌<◌, ◌≤◌, ◌∙◌, ◌∷◌, ◌≡◌, ◌⊎◌, Option, length, map, slice_get, zero-add}
-use Rattle.std.specs.Prelude.{◌&&◌, filter_map, if◌then◌else◌, not}
+use Rattle.std.proofs.Common.{Bool, List, None, Some, [], ap, arith, false, inl, inr, refl, suc, sym, true, zero, ℕ, ◌<◌, ◌∙◌, ◌∷◌, ◌≡◌, ◌⊎◌, Option, length, map, slice_get}
+use Rattle.std.specs.Prelude.{◌&&◌, if◌then◌else◌, not}
 use Rattle.std.specs.List.{list_all, range_with_len}
-use Rattle.std.specs.Option.{option_eq}
 use Rattle.std.proofs.lemmas.Bool.{false≢true}
 use Rattle.std.proofs.lemmas.Option.{slice_get_within}
 use Rattle.definitions.specs.declared.world.Move.{Move}
@@ -17,7 +16,7 @@ use Rattle.definition_laws.proofs.Nexts.{some_at}
 use Rattle.frame_index.specs.Plain.{AreCommon, IsCommonAt, is_among, move_of}
 use Rattle.frame_index.specs.declared.limits.TheConstants.{MOST_LOGS}
 use Rattle.frame_index.proofs.Wrong.{item_is}
-use Rattle.auditor.specs.Accords.{is_own, joined, joined_with}
+use Rattle.auditor.specs.Accords.{is_own, joined}
 use Rattle.auditor.specs.Agreed.{AreOwned, ArePlays, agreed_move, moves_given, one_move, resolved_at, resolved_by}
 use Rattle.auditor.specs.Audits.{crossed, crossed_logs}
 use Rattle.auditor.proofs.Crossed.{crossed_there}

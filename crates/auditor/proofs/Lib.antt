@@ -13,3 +13,4 @@ pub mod Crossed
 pub mod Worlds
 pub mod Padded
 pub mod Joining
+pub mod Behind

@@ -1,5 +1,5 @@
 -- Moved: the move by which a log resolves a turn, by its stream up to the turn and behind it.
-use Rattle.std.proofs.Common.{List, None, Some, arith, refl, sym, ℕ, ◌+◌, ◌<◌, ◌≤◌, ◌∙◌, ◌≡◌, slice_get, length}
+use Rattle.std.proofs.Common.{List, None, Some, arith, refl, sym, ℕ, ◌+◌, ◌<◌, ◌≤◌, ◌≡◌, slice_get, length}
 use Rattle.definitions.specs.declared.logs.Entry.{Entry}
 use Rattle.definitions.specs.World.{Game, players_of}
 use Rattle.definitions.specs.Logs.{got_of}

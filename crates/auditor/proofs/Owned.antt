@@ -1,5 +1,5 @@
 -- Owned: what a log shows of a player, whether it is the player's own or another one's.
-use Rattle.std.proofs.Common.{Bool, List, None, Some, [], ap, false, nat_eq, refl, slice_index_or, suc, sym, true, zero, ℕ, ◌*◌, ◌++◌, ◌+◌, ◌∙◌, ◌∷◌, ◌≡◌, Option, map, slice_get}
+use Rattle.std.proofs.Common.{Bool, List, None, Some, [], ap, false, nat_eq, refl, sym, true, ℕ, ◌*◌, ◌++◌, ◌∙◌, ◌∷◌, ◌≡◌, Option, map, slice_get}
 use Rattle.std.specs.Prelude.{◌==◌, flat_map, if◌then◌else◌, nat_lt}
 use Rattle.std.specs.Option.{option_eq}
 use Rattle.std.proofs.lemmas.Bool.{and_parts, eq-eqb, eqb-true, false≢true}
@@ -7,10 +7,9 @@ use Rattle.definitions.specs.declared.frames.TurnFrame.{TurnFrame}
 use Rattle.definitions.specs.declared.world.Move.{Move}
 use Rattle.definitions.specs.declared.logs.Entry.{Entry}
 use Rattle.definitions.specs.declared.logs.Entry.TheVariants.{Chose, Made, Got}
-use Rattle.definitions.specs.Lists.{item_or}
 use Rattle.definitions.specs.World.{Game}
 use Rattle.definitions.specs.Logs.{frames_of, got_in, got_of, made, player_of, turn_of}
-use Rattle.definitions.specs.Held.{known, known_to, resolved}
+use Rattle.definitions.specs.Held.{known, known_to}
 use Rattle.definitions.specs.Entries.{AreWellFormed}
 use Rattle.definitions.specs.Findings.{got_known}
 use Rattle.auditor.specs.Agreed.{resolved_by}
@@ -47,12 +46,6 @@ by_got game (Some me) h q t isnt = go (q == me) refl
     go : (b : Bool) → (q == me) ≡ b → moves_by game q t (got_of q h) ≡ moves_by game q t (frames_of me q h)
     go true e = absurd (isnt (ap (λ (p : ℕ). Some p) (sym (eqb-true q me e))))
     go false e = ap (moves_by game q t) (ap (λ (b : Bool). if b then made h else got_of q h) (sym e))
-
--- an item by its place, in two words
-pub item_same : {X : Type 0} (xs : List X) (i : ℕ) (d : X) → slice_index_or xs i d ≡ item_or xs i d
-item_same [] i d = refl
-item_same (x ∷ xs) zero d = refl
-item_same (x ∷ xs) (suc i) d = item_same xs i d
 
 pub owner_is : (o : Option ℕ) (q : ℕ) → option_eq nat_eq o (Some q) ≡ true → o ≡ Some q
 owner_is None q e = absurd (false≢true e)

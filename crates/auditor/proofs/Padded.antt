@@ -1,8 +1,7 @@
 -- Padded: logs behind which empty ones stand show what they show without these.
-use Rattle.std.proofs.Common.{◌≡◌, ℕ, zero, suc, ◌+◌, ◌-◌, ◌*◌, ◌<◌, Bool, List, [], ◌∷◌, ◌++◌, Option, None, Some, length, map, ap, arith, refl, subst, sym, ◌∙◌}
+use Rattle.std.proofs.Common.{◌≡◌, ℕ, zero, suc, ◌+◌, ◌-◌, ◌*◌, ◌<◌, List, [], ◌∷◌, ◌++◌, Option, None, Some, length, map, ap, arith, refl, subst, sym, ◌∙◌}
 use Rattle.std.specs.Prelude.{◌&&◌, ◌||◌, ◌==◌, Err, IfOk, Ok, Result, filter_map, flat_map, option_map, replicate, slice_get}
 use Rattle.std.specs.List.{cons_option, range_with_len}
-use Rattle.definitions.specs.declared.frames.TurnFrame.{TurnFrame}
 use Rattle.definitions.specs.declared.logs.Entry.{Entry}
 use Rattle.definitions.specs.declared.findings.Kind.{Kind}
 use Rattle.definitions.specs.declared.findings.Kind.TheVariants.{TwoCommits, BadOpening, Collision, Illegal}
@@ -14,7 +13,7 @@ use Rattle.definitions.specs.Logs.{got_of}
 use Rattle.definitions.specs.Held.{Known}
 use Rattle.definition_laws.specs.Members.{Has}
 use Rattle.definition_laws.proofs.ForPeers.{known_of_none}
-use Rattle.definition_laws.proofs.Silent.{pair_alike}
+use Rattle.definition_laws.proofs.Silent.{pair_alike, filter_map_alike, flat_map_alike}
 use Rattle.frame_index.specs.declared.limits.TheConstants.{MOST_LOGS}
 use Rattle.evidence.specs.declared.exhibit.Exhibit.{Exhibit}
 use Rattle.evidence.specs.Showing.{commit_first, frame_at, frame_got, frames_by, frames_of_finding, pair_at, turns_shown}
@@ -29,15 +28,6 @@ use Rattle.auditor.specs.Reports.{IsReportOf}
 pub if_ok : {T E : Type 0} {P Q : T → Type 0} (r : Result T E) → ((x : T) → P x → Q x) → IfOk r P → IfOk r Q
 if_ok (Ok x) f p = f x p
 if_ok (Err e) f p = tt
-
--- functions that give the same of each item give the same of the list
-flat_as : {X Y : Type 0} (f g : X → List Y) (xs : List X) → ((x : X) → f x ≡ g x) → flat_map f xs ≡ flat_map g xs
-flat_as f g [] h = refl
-flat_as f g (x ∷ xs) h = ap (λ y. y ++ flat_map f xs) (h x) ∙ ap (λ y. g x ++ y) (flat_as f g xs h)
-
-some_as : {X Y : Type 0} (f g : X → Option Y) (xs : List X) → ((x : X) → f x ≡ g x) → filter_map f xs ≡ filter_map g xs
-some_as f g [] h = refl
-some_as f g (x ∷ xs) h = ap (λ o. cons_option o (filter_map f xs)) (h x) ∙ ap (cons_option (g x)) (some_as f g xs h)
 
 map_as : {X Y : Type 0} (f g : X → Y) (xs : List X) → ((x : X) → f x ≡ g x) → map f xs ≡ map g xs
 map_as f g [] h = refl
@@ -113,14 +103,14 @@ module _ (game : Game) (logs : List (List Entry)) (k : ℕ) where
 
   turn_as : (q t : ℕ) → findings_in game (padded logs k) q t ≡ findings_in game logs q t
   unfolding findings_in
-  turn_as q t = some_as (finding_at game (padded logs k) q t) (finding_at game logs q t) kinds (finding_as q t)
+  turn_as q t = filter_map_alike (finding_at game (padded logs k) q t) (finding_at game logs q t) kinds (finding_as q t)
 
   pub findings_as : findings game (padded logs k) ≡ findings game logs
   unfolding findings
   findings_as =
-      flat_as (λ q. flat_map (findings_in game (padded logs k) q) (range_with_len 0 game.turns)) (λ q. flat_map (findings_in game logs q) (range_with_len 0 game.turns))
+      flat_map_alike (λ q. flat_map (findings_in game (padded logs k) q) (range_with_len 0 game.turns)) (λ q. flat_map (findings_in game logs q) (range_with_len 0 game.turns))
       (range_with_len 0 (players_of game))
-      (λ q. flat_as (findings_in game (padded logs k) q) (findings_in game logs q) (range_with_len 0 game.turns) (turn_as q))
+      (λ q. flat_map_alike (findings_in game (padded logs k) q) (findings_in game logs q) (range_with_len 0 game.turns) (turn_as q))
 
   -- their evidence
   pair_shown : (f : Finding) → pair_at (padded logs k) f ≡ pair_at logs f
@@ -156,7 +146,7 @@ module _ (game : Game) (logs : List (List Entry)) (k : ℕ) where
 
     given_as : (q t : ℕ) → moves_given game owners (padded logs k) q t ≡ moves_given game owners' logs q t
     given_as q t =
-        some_as (resolved_at game owners (padded logs k) q t) (resolved_at game owners' logs q t) (range_with_len 0 (length (padded logs k))) (resolved_as q t) ∙
+        filter_map_alike (resolved_at game owners (padded logs k) q t) (resolved_at game owners' logs q t) (range_with_len 0 (length (padded logs k))) (resolved_as q t) ∙
         ap (λ n. filter_map (resolved_at game owners' logs q t) (range_with_len 0 n)) (length_padded logs k) ∙
         first_some (resolved_at game owners' logs q t) 0 (length logs) k (unresolved q t)
 
@@ -166,7 +156,7 @@ module _ (game : Game) (logs : List (List Entry)) (k : ℕ) where
 
     pub moves_as : (q : ℕ) → agreed_moves game owners (padded logs k) q ≡ agreed_moves game owners' logs q
     unfolding agreed_moves
-    moves_as q = some_as (agreed_move game owners (padded logs k) q) (agreed_move game owners' logs q) (range_with_len 0 game.turns) (move_as q)
+    moves_as q = filter_map_alike (agreed_move game owners (padded logs k) q) (agreed_move game owners' logs q) (range_with_len 0 game.turns) (move_as q)
 
     pub all_moves_as : all_agreed_moves game owners (padded logs k) ≡ all_agreed_moves game owners' logs
     all_moves_as = map_as (agreed_moves game owners (padded logs k)) (agreed_moves game owners' logs) (range_with_len 0 (players_of game)) moves_as

@@ -1,5 +1,5 @@
 -- Picked: what a function gives of numbers one behind the other.
-use Rattle.std.proofs.Common.{List, None, Some, [], add-zero, ap, arith, refl, subst, suc, sym, zero, zero-add, ℕ, ◌+◌, ◌<◌, ◌≤◌, ◌∙◌, ◌∷◌, ◌≡◌, Option, length, slice_get}
+use Rattle.std.proofs.Common.{List, None, Some, [], add-zero, ap, arith, refl, subst, suc, sym, zero, ℕ, ◌+◌, ◌<◌, ◌≤◌, ◌∙◌, ◌∷◌, ◌≡◌, Option, length, slice_get}
 use Rattle.std.specs.Prelude.{filter_map}
 use Rattle.std.specs.List.{cons_option, range_with_len}
 use Rattle.definitions.specs.Lists.{EachIs}

@@ -2,18 +2,17 @@
 use Rattle.std.proofs.Common.{Bool, List, None, Some, [], ap, arith, false, inl, inr, refl, subst, suc, sym, true, zero, ℕ, ◌+◌, ◌≤◌, ◌∙◌, ◌∷◌, ◌≡◌, ◌⊎◌, Option, slice_get, length, take}
 use Rattle.std.specs.Prelude.{◌&&◌, ◌==◌, find, if◌then◌else◌, option_map}
 use Rattle.std.proofs.lemmas.Bool.{false≢true, and_from, and_parts, eq-eqb, eqb-true}
+use Rattle.std.proofs.lemmas.Option.{same_Some}
 use Rattle.definitions.specs.declared.findings.Spot.{Spot}
 use Rattle.definitions.specs.declared.findings.Kind.{Kind}
 use Rattle.definitions.specs.declared.findings.Kind.TheVariants.{TwoCommits, BadOpening, Collision, Illegal}
 use Rattle.definitions.specs.declared.findings.Finding.{Finding}
-use Rattle.definitions.specs.declared.world.Move.{Move}
 use Rattle.definitions.specs.declared.frames.TurnFrame.{TurnFrame}
-use Rattle.definitions.specs.declared.frames.TurnFrame.TheVariants.{Commit, Reveal}
 use Rattle.definitions.specs.declared.logs.Entry.{Entry}
 use Rattle.definitions.specs.Lists.{item_or}
 use Rattle.definitions.specs.World.{Game}
 use Rattle.definitions.specs.Held.{commit_of}
-use Rattle.definitions.specs.Findings.{Sighting, are_bad_opening, are_collision, are_illegal, are_two_commits, finding_at, got_known, is_commit, is_illegal_after, is_illegal_at}
+use Rattle.definitions.specs.Findings.{Sighting, are_bad_opening, are_collision, are_illegal, are_two_commits, finding_at, got_known, is_illegal_at}
 use Rattle.definition_laws.specs.Members.{Has}
 use Rattle.definition_laws.specs.Spots.{IsSighting}
 use Rattle.frame_index.specs.declared.seen.Seen.{Seen}
@@ -28,15 +27,8 @@ use Rattle.frame_index.proofs.Shown.{bad_opening_found, bad_opening_is, collisio
 use Rattle.frame_index.proofs.Wrong.{item_is, none_without_commit, none_without_wrong, wrong_found}
 use Rattle.evidence.specs.Showing.{frame_at, if_there}
 use Rattle.evidence.proofs.Showing.{frame_sighted}
+use Rattle.evidence.proofs.Illegal.{illegal_reveals}
 use Rattle.auditor.specs.Exhibits.{IsKeptAt, kept_at, spot_eq}
-
-some_is : {X : Type 0} (x y : X) → Some x ≡ Some y → x ≡ y
-some_is x y e = cc
-
--- an illegal move is shown by a reveal
-illegal_reveals : (game : Game) (q : ℕ) (before : List Move) (f : TurnFrame) → is_illegal_after game q before f ≡ true → is_commit f ≡ false
-illegal_reveals game q before (Commit p t d) h = absurd (false≢true h)
-illegal_reveals game q before (Reveal p t m n) h = refl
 
 module _ (game : Game) (q t : ℕ) (logs : List (List Entry)) (kept : List Seen) (keeps : Keeps game q t logs kept) where
   -- both spots are those of frames that are kept
@@ -47,7 +39,7 @@ module _ (game : Game) (q t : ℕ) (logs : List (List Entry)) (kept : List Seen)
   pair_spotted test k None f is e = absurd (let none : None ≡ Some f = e in cc)
   pair_spotted test k (Some p) f is e =
       let made : Finding = record { player = q; turn = t; kind = k; first = p.0; second = p.1 } in
-      let same : made ≡ f = some_is made f e in
+      let same : made ≡ f = same_Some made f e in
       ((is.lower, is.lower_in, sym is.first_is ∙ ap (λ (g : Finding). g.first) same), (is.higher, is.higher_in, sym is.second_is ∙ ap (λ (g : Finding). g.second) same))
 
   order_spotted : (r c : Seen) → Has kept r → Has kept c → IsKeptAt kept (in_order r c).0 × IsKeptAt kept (in_order r c).1
@@ -82,7 +74,7 @@ module _ (game : Game) (q t : ℕ) (logs : List (List Entry)) (kept : List Seen)
           let pair = order_spotted r c m.0 l.0 in
           let p = in_order r c in
           let made : Finding = record { player = q; turn = t; kind = Illegal; first = p.0; second = p.1 } in
-          let same : made ≡ f = some_is made f (sym (wrong_found game q t logs kept keeps (is_bad game q t logs) right i c r (record { commit = l; wrong = m }) below reveals) ∙ e) in
+          let same : made ≡ f = same_Some made f (sym (wrong_found game q t logs kept keeps (is_bad game q t logs) right i c r (record { commit = l; wrong = m }) below reveals) ∙ e) in
           subst Spotted same pair
 
       with_commit : (NoneBelow game q t logs (i + 1) → AreSpotted) → (o : Option Seen) → IsLeast (takes (commit_of t) i) kept o → AreSpotted

@@ -1,5 +1,5 @@
 -- Turned: what is kept of a log's turn that the log resolves gives the two frames by which it does.
-use Rattle.std.proofs.Common.{Bool, List, None, Some, [], ap, false, refl, subst, sym, true, ℕ, ◌++◌, ◌+◌, ◌∙◌, ◌∷◌, ◌≡◌, Option, slice_get, take, IsTrue}
+use Rattle.std.proofs.Common.{Bool, List, None, Some, [], ap, false, refl, subst, sym, true, ℕ, ◌+◌, ◌∙◌, ◌∷◌, ◌≡◌, Option, slice_get, take, IsTrue}
 use Rattle.std.specs.Prelude.{◌&&◌, ◌==◌, cond, find, if◌then◌else◌, is_some, option_and_then, option_map}
 use Rattle.std.specs.Option.{option_or}
 use Rattle.std.specs.Result.{result_ok}
@@ -10,12 +10,12 @@ use Rattle.definitions.specs.declared.openings.Digest.{Digest}
 use Rattle.definitions.specs.declared.frames.TurnFrame.{TurnFrame}
 use Rattle.definitions.specs.declared.frames.TurnFrame.TheVariants.{Commit, Reveal}
 use Rattle.definitions.specs.declared.logs.Entry.{Entry}
-use Rattle.definitions.specs.Lists.{EachIs, first_of}
+use Rattle.definitions.specs.Lists.{first_of}
 use Rattle.definitions.specs.World.{Game, is_open}
 use Rattle.definitions.specs.Moves.{is_legal, next_track, start_track, track_after}
 use Rattle.definitions.specs.Logs.{digest_eq, got_of, turn_of}
 use Rattle.definitions.specs.Held.{Known, commit_of, digest_of, opening_of}
-use Rattle.definitions.specs.Findings.{got_known, is_commit}
+use Rattle.definitions.specs.Findings.{got_known}
 use Rattle.definition_laws.specs.Members.{Has}
 use Rattle.definition_laws.proofs.Listing.{take_more}
 use Rattle.definition_laws.proofs.Nexts.{some_at}
@@ -29,8 +29,9 @@ use Rattle.frame_index.specs.Wants.{least_from}
 use Rattle.frame_index.proofs.InLog.{first_in_log}
 use Rattle.frame_index.proofs.Judging.{good_at, least_alike, led_to, opened_open_if}
 use Rattle.frame_index.proofs.Lowest.{least_is}
+use Rattle.frame_index.proofs.Wrong.{commit_some}
 use Rattle.evidence.specs.Showing.{resolving, turn_shown}
-use Rattle.evidence.proofs.Resolved.{held_by, resolved_by}
+use Rattle.evidence.proofs.Resolved.{held_by, resolved_by, find_there}
 use Rattle.auditor.specs.declared.turns.Resolved.{Resolved}
 use Rattle.plain_lemmas.proofs.Options.{some_when}
 use Rattle.auditor.specs.Reading as R
@@ -62,11 +63,6 @@ first_pick p (f ∷ fs) = go (first_pick p fs) (p f)
     go rest true = refl
     go rest false = rest
 
--- what `find` gives behind items that give nothing
-find_behind : {X Y : Type 0} (g : X → Option Y) (front back : List X) (x : X) → EachIs (λ z. g z ≡ None) front → is_some (g x) ≡ true → find (λ z. is_some (g z)) (front ++ x ∷ back) ≡ Some x
-find_behind g [] back x each some = rw some refl
-find_behind g (z ∷ front) back x each some = rw each.0 (find_behind g front back x each.1 some)
-
 commits_turn : (u : ℕ) (f : TurnFrame) → is_some (commit_of u f) ≡ true → turn_of f ≡ u
 commits_turn u (Reveal p t m n) h = absurd (false≢true h)
 commits_turn u (Commit p t d) h = go (t == u) refl h
@@ -74,10 +70,6 @@ commits_turn u (Commit p t d) h = go (t == u) refl h
     go : (b : Bool) → (t == u) ≡ b → is_some (if b then Some d else None) ≡ true → t ≡ u
     go true x h = eqb-true t u x
     go false x h = absurd (false≢true h)
-
-commits_same : (u : ℕ) (f : TurnFrame) → turn_of f ≡ u → is_commit f ≡ is_some (commit_of u f)
-commits_same u (Reveal p t m n) e = refl
-commits_same u (Commit p t d) e = sym (ap (λ (b : Bool). is_some (if b then Some d else None)) (eq-eqb t u e))
 
 opening_same : (game : Game) (q : ℕ) (before : List Move) (d : Digest) (u : ℕ) (f : TurnFrame) → opening_of game q before d u f ≡ opening_at game q (track_after game q before) d u f
 opening_same game q before d u (Commit p t e) = refl
@@ -125,10 +117,10 @@ module _ (game : Game) (q u : ℕ) (logs : List (List Entry)) (log : ℕ) (h : L
       let c = held_by game q u h r.digest r.held in
       let commit : TurnFrame = Commit c.player u r.digest in
       let first : find (λ f. is_some (commit_of u f)) (got_of q h) ≡ Some commit =
-      ap (find (λ f. is_some (commit_of u f))) c.stands ∙ find_behind (commit_of u) c.front c.back commit c.first (let e = eq-eqb u u refl in rw e refl) in
+      ap (find (λ f. is_some (commit_of u f))) c.stands ∙ find_there (commit_of u) c.front c.back commit c.first (let e = eq-eqb u u refl in rw e refl) in
       let second : find (λ f. is_some (opening_of game q before r.digest u f)) (got_of q h) ≡ Some r.frame =
-      ap (find (λ f. is_some (opening_of game q before r.digest u f))) r.stands ∙ find_behind (opening_of game q before r.digest u) r.front r.back r.frame r.first (ap is_some r.opens) in
-      let one = kept_find (λ f. is_some (commit_of u f)) (commits_in log) (commits_turn u) (λ s n. ap (λ (b : Bool). (s.spot.log == log) && b) (commits_same u s.frame (keeps.within s n).turn)) commit first in
+      ap (find (λ f. is_some (opening_of game q before r.digest u f))) r.stands ∙ find_there (opening_of game q before r.digest u) r.front r.back r.frame r.first (ap is_some r.opens) in
+      let one = kept_find (λ f. is_some (commit_of u f)) (commits_in log) (commits_turn u) (λ s n. ap (λ (b : Bool). (s.spot.log == log) && b) (commit_some u s.frame (keeps.within s n).turn)) commit first in
       let digest : one.0.digest ≡ r.digest = keeps.digests one.0 one.2 ∙ ap (digest_of game) one.3 in
       let at : (f : TurnFrame) → opening_at game q track one.0.digest u f ≡ opening_of game q before r.digest u f = (λ f. (λ i. opening_at game q (is.1 i) (digest i) u f) ∙ sym (opening_same game q before r.digest u f)) in
       let good : (s : Seen) → Has kept s → is_good game q track one.0.digest log s ≡ ((s.spot.log == log) && is_some (opening_of game q before r.digest u s.frame)) =

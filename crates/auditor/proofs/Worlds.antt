@@ -1,8 +1,8 @@
 -- Worlds: the play of agreed moves over all turns.
-use Rattle.std.proofs.Common.{Bool, Global, List, Vec, None, Some, [], add-zero, ap, arith, false, refl, subst, suc, sym, true, zero, zero-add, ℕ, ◌+◌, ◌<◌, ◌≤◌, ◌∙◌, ◌∷◌, ◌≡◌, Option, length, map, slice_get, slice_index_or, IsTrue}
-use Rattle.std.specs.Prelude.{◌&&◌, ◌==◌, Result, filter_map, if◌then◌else◌, is_err, not}
+use Rattle.std.proofs.Common.{Bool, Global, List, Vec, None, Some, [], add-zero, ap, arith, refl, subst, suc, sym, true, zero, zero-add, ℕ, ◌+◌, ◌<◌, ◌∙◌, ◌∷◌, ◌≡◌, Option, length, map, slice_index_or, IsTrue}
+use Rattle.std.specs.Prelude.{◌==◌, Result, if◌then◌else◌, is_err, not}
 use Rattle.std.specs.List.{cons_option, list_all, range_with_len}
-use Rattle.std.proofs.lemmas.Bool.{and_parts, eqb-true, false≢true}
+use Rattle.std.proofs.lemmas.Bool.{and_parts, eqb-true}
 use Rattle.definitions.specs.declared.world.Cell.{Cell}
 use Rattle.definitions.specs.declared.world.Move.{Move}
 use Rattle.definitions.specs.declared.world.MoveFault.{MoveFault}
@@ -13,26 +13,22 @@ use Rattle.definitions.specs.Lists.{EachIs, item_or}
 use Rattle.definitions.specs.World.{Game, is_open, players_of}
 use Rattle.definitions.specs.Moves.{AreLegal, IsLegal, is_legal}
 use Rattle.definitions.proofs.Walks.{walked_open}
+use Rattle.definitions.proofs.Items.{item_is}
 use Rattle.definition_laws.proofs.Tracks.{legal_in_reach}
 use Rattle.definition_laws.proofs.Nexts.{some_at}
 use Rattle.playout.specs.declared.standing.Standing.{Standing}
 use Rattle.playout.specs.Hits.{move_of, no_move}
-use Rattle.playout.specs.Lockstep.{AreLegalMoves, lockstep, moves_of, turn_moves}
+use Rattle.playout.specs.Lockstep.{lockstep, moves_of, turn_moves}
 use Rattle.move_rules.specs.Verdicts.{verdict}
 use Rattle.playout.specs.Playing.{AreLegalNow, IsLockstep, Played, after_turn, no_standing, seated, standing_of}
 use Rattle.playout.proofs.Standings.{after_item}
+use Rattle.playout.proofs.Items.{item_other}
 use Rattle.streams.proofs.Opened.{refused_illegal}
-use Rattle.auditor.specs.declared.world.WorldLine.{WorldLine}
+use Rattle.evidence.proofs.Showing.{item_there}
 use Rattle.auditor.specs.Agreed.{agreed_moves, all_agreed_moves, are_whole, line_of, world_by}
 use Rattle.auditor.specs.Played.{AreLegalIfWhole, AreOpen, line_at, moves_at}
 use Rattle.auditor.proofs.Agreeing.{whole_legal}
 use Rattle.auditor.proofs.Picked.{length_range}
-
--- the item at a place, in two words
-pub item_there : {X : Type 0} (xs : List X) (i : ℕ) (x d : X) → slice_get xs i ≡ Some x → item_or xs i d ≡ x
-item_there [] i x d e = absurd (let none : None ≡ Some x = e in cc)
-item_there (y ∷ ys) zero x d e = let same : y ≡ x = cc in same
-item_there (y ∷ ys) (suc i) x d e = item_there ys i x d e
 
 each_item : {X : Type 0} (P : X → Type 0) (xs : List X) (i : ℕ) (d : X) → EachIs P xs → i < length xs → P (item_or xs i d)
 each_item P [] i d each lt = absurd (omega arith)
@@ -43,7 +39,7 @@ length_map : {X Y : Type 0} (f : X → Y) (xs : List X) → length (map f xs) �
 length_map f [] = refl
 length_map f (x ∷ xs) = ap suc (length_map f xs)
 
-item_range : {X : Type 0} (f : ℕ → X) (a n i : ℕ) (d : X) → i < n → item_or (map f (range_with_len a n)) i d ≡ f (a + i)
+pub item_range : {X : Type 0} (f : ℕ → X) (a n i : ℕ) (d : X) → i < n → item_or (map f (range_with_len a n)) i d ≡ f (a + i)
 item_range f a zero i d lt = absurd (omega arith)
 item_range f a (suc n) zero d lt = ap f (sym (add-zero a))
 item_range f a (suc n) (suc i) d lt = item_range f (a + 1) n i d (omega arith) ∙ ap f (let e : a + 1 + i ≡ a + suc i = omega arith in e)
@@ -63,9 +59,7 @@ item_length (x ∷ xs) (suc q) = item_length xs q
 
 -- the item at a place that is there is the same whatever stands for one that isn't
 pub item_any : {X : Type 0} (xs : List X) (i : ℕ) (d e : X) → i < length xs → slice_index_or xs i d ≡ item_or xs i e
-item_any [] i d e lt = absurd (omega arith)
-item_any (x ∷ xs) zero d e lt = refl
-item_any (x ∷ xs) (suc i) d e lt = item_any xs i d e (omega arith)
+item_any xs i d e lt = item_is xs i d ∙ item_other xs i d e lt
 
 -- a move that is refused isn't legal, and one that isn't is
 pub refused : (game : Game) (q : ℕ) (track : Track) (m : Move) (r : Result Track MoveFault) (b : Bool) → r ≡ verdict game q track m → b ≡ is_err r → not (is_legal game q track m) ≡ b
@@ -132,7 +126,3 @@ whole_world game moves p q whole turns played lt =
 pub map_lengths : (vs : List (Vec Move Global)) → map (λ v. length v.items) vs ≡ map length (map (λ v. v.items) vs)
 map_lengths [] = refl
 map_lengths (v ∷ vs) = ap (λ (ns : List ℕ). length v.items ∷ ns) (map_lengths vs)
-
-pub not_false : (b : Bool) → not b ≡ false → b ≡ true
-not_false true e = refl
-not_false false e = absurd (false≢true (sym e))

@@ -1,5 +1,5 @@
 -- Played: the play of lists of moves, one list a player.
-use Rattle.std.specs.Prelude.{◌≡◌, ◌<◌, ℕ, List, Option, None, Some, filter_map, map, slice_get, IsTrue}
+use Rattle.std.specs.Prelude.{◌<◌, ℕ, List, Option, None, Some, filter_map, map, slice_get, IsTrue}
 use Rattle.definitions.specs.declared.world.Move.{Move}
 use Rattle.definitions.specs.Lists.{item_or}
 use Rattle.definitions.specs.World.{Game, is_open, players_of}

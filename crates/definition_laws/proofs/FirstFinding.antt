@@ -46,7 +46,7 @@ first_nowhere f [] h = refl
 first_nowhere f (x ∷ xs) h = ap (λ o. option_or o (first_of f xs)) (h x) ∙ first_nowhere f xs h
 
 -- over a range: nothing anywhere, the first that is something, and the only one that may be
-first_none_in : {Y : Type 0} (f : ℕ → Option Y) (a n : ℕ) → ((t : ℕ) → a ≤ t → t < a + n → f t ≡ None) → first_of f (range_with_len a n) ≡ None
+pub first_none_in : {Y : Type 0} (f : ℕ → Option Y) (a n : ℕ) → ((t : ℕ) → a ≤ t → t < a + n → f t ≡ None) → first_of f (range_with_len a n) ≡ None
 first_none_in f a zero h = refl
 first_none_in f a (suc n) h =
     ap (λ o. option_or o (first_of f (range_with_len (a + 1) n))) (h a (omega arith) (omega arith)) ∙ first_none_in f (a + 1) n (λ t le lt. h t (omega arith) (omega arith))

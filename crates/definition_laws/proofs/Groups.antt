@@ -216,7 +216,7 @@ all_counts game me q own h d honest other authentic whole = go (cases_lt (next_p
         absurd (slot there.0 there.1 (slot_at game n) refl (made_item game q n own there.0 d honest there.1))
 
 -- what holds of all who wait for no one: they are done
-done_where_still : (game : Game) (logs : Logs) (p : ℕ) (h : List Entry) → 1 ≤ game.ahead → IsHonest game p h → IsStill game logs p h → needs game p h ≡ [] → IsDone game p h
+pub done_where_still : (game : Game) (logs : Logs) (p : ℕ) (h : List Entry) → 1 ≤ game.ahead → IsHonest game p h → IsStill game logs p h → needs game p h ≡ [] → IsDone game p h
 done_where_still game logs p h d i still none = go (stands_one_way game p h d i still.clean still.makes)
   where
     go : ExactlyOne (may_choose game p h ≡ true) (needs game p h ≡ [] → ⊥) (IsDone game p h) → IsDone game p h

@@ -49,11 +49,11 @@ unfolding first_pair
 pair_alike test test' [] h = refl
 pair_alike test test' (x ∷ xs) h = rw (find_alike (test x) (test' x) xs (h x), pair_alike test test' xs h) refl
 
-filter_map_alike : {X Y : Type 0} (f f' : X → Option Y) (xs : List X) → ((x : X) → f x ≡ f' x) → filter_map f xs ≡ filter_map f' xs
+pub filter_map_alike : {X Y : Type 0} (f f' : X → Option Y) (xs : List X) → ((x : X) → f x ≡ f' x) → filter_map f xs ≡ filter_map f' xs
 filter_map_alike f f' [] h = refl
 filter_map_alike f f' (x ∷ xs) h = rw (h x, filter_map_alike f f' xs h) refl
 
-flat_map_alike : {X Y : Type 0} (f f' : X → List Y) (xs : List X) → ((x : X) → f x ≡ f' x) → flat_map f xs ≡ flat_map f' xs
+pub flat_map_alike : {X Y : Type 0} (f f' : X → List Y) (xs : List X) → ((x : X) → f x ≡ f' x) → flat_map f xs ≡ flat_map f' xs
 flat_map_alike f f' [] h = refl
 flat_map_alike f f' (x ∷ xs) h = rw (h x, flat_map_alike f f' xs h) refl
 

@@ -1,7 +1,8 @@
 -- Strikes: who is hit was near enough to meet.
-use Rattle.std.proofs.Common.{List, None, Some, [], arith, inl, inr, subst, sym, suc, true, zero, ℕ, ap, refl, ◌*◌, ◌+◌, ◌-◌, ◌∙◌, ◌∷◌, ◌≡◌, ◌≤◌, ◌<◌, ◌⊎◌, slice_get, take}
+use Rattle.std.proofs.Common.{List, None, Some, [], arith, inl, inr, subst, sym, suc, true, zero, ℕ, ap, ◌*◌, ◌+◌, ◌-◌, ◌∙◌, ◌∷◌, ◌≡◌, ◌≤◌, ◌<◌, ◌⊎◌, slice_get, take}
 use Rattle.std.specs.Prelude.{Option}
 use Rattle.std.proofs.lemmas.Bool.{and_parts}
+use Rattle.std.proofs.lemmas.List.{take-take}
 use Rattle.std.proofs.lemmas.Option.{same_Some}
 use Rattle.definitions.specs.declared.world.Cell.{Cell}
 use Rattle.definitions.specs.declared.world.Move.{Move}
@@ -55,13 +56,6 @@ walk_from game q track (x ∷ ms) (suc u) (suc t) m le legal there =
     let e : t - u ≡ suc t - suc u = omega arith in
     subst P e (walk_from game q (next_track game track x) ms u t m (omega arith) (and_parts _ _ legal).1 there)
 
-take_take : {X : Type 0} (xs : List X) (i j : ℕ) → i ≤ j → take i (take j xs) ≡ take i xs
-take_take xs zero j le = refl
-take_take [] (suc i) zero le = refl
-take_take [] (suc i) (suc j) le = refl
-take_take (x ∷ xs) (suc i) zero le = absurd (omega arith)
-take_take (x ∷ xs) (suc i) (suc j) le = ap (λ ys. x ∷ ys) (take_take xs i j (omega arith))
-
 -- a cell that player a, who ends a turn at `to`, strikes and hits player b at `at` by is one that both reach and blast
 pub record IsStruck (game : Game) (a b : ℕ) (to at : Cell) : Type 0 where
   pub cell : Cell
@@ -93,7 +87,7 @@ who_is_hit_meets game me q t h own others mv other revealed unresolved ours thei
     here : (track_after game me (take t own)).at ≡ cell_before game me h me t
     here =
         let le : t ≤ resolved_count game me h me = omega arith in
-        ap (λ (ms : List Move). (track_after game me ms).at) (sym (take_take own t (resolved_count game me h me) le) ∙ ap (take t) ours.begins)
+        ap (λ (ms : List Move). (track_after game me ms).at) (sym (take-take t (resolved_count game me h me) own le) ∙ ap (take t) ours.begins)
 
     last : (track_after game q (take (resolved_count game me h q) others)).at ≡ last_cell game me h q
     last = ap (λ (ms : List Move). (track_after game q ms).at) theirs.begins

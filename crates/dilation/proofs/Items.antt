@@ -1,18 +1,15 @@
 -- Items: how the items of a list are read, where one of them was written or is one more.
-use Rattle.std.proofs.Common.{◌≡◌, ℕ, zero, suc, ◌<◌, List, [], ◌∷◌, ◌++◌, length, refl, ap, arith}
+use Rattle.std.proofs.Common.{◌≡◌, ℕ, zero, suc, ◌<◌, List, [], ◌∷◌, ◌++◌, length, refl, ap, arith, sym, ◌∙◌}
+use Rattle.std.proofs.lemmas.List.{get_or-set_same}
 use Rattle.std.specs.Prelude.{map, slice_set}
 use Rattle.definitions.specs.Lists.{EachIs, item_or}
+use Rattle.definitions.proofs.Items.{item_is}
 
 -- what is read of each item, where one of them is another
 pub map_set : {X Y : Type 0} (f : X → Y) (xs : List X) (i : ℕ) (x : X) → map f (slice_set xs i x) ≡ slice_set (map f xs) i (f x)
 map_set f [] i x = refl
 map_set f (y ∷ xs) zero x = refl
 map_set f (y ∷ xs) (suc i) x = ap (λ ys. f y ∷ ys) (map_set f xs i x)
-
-pub length_set : {X : Type 0} (xs : List X) (i : ℕ) (x : X) → length (slice_set xs i x) ≡ length xs
-length_set [] i x = refl
-length_set (y ∷ xs) zero x = refl
-length_set (y ∷ xs) (suc i) x = ap suc (length_set xs i x)
 
 -- what holds of each item still does, where it holds of the one that was written
 pub each_set : {X : Type 0} (P : X → Type 0) (xs : List X) (i : ℕ) (x : X) → EachIs P xs → P x → EachIs P (slice_set xs i x)
@@ -24,11 +21,14 @@ pub map_more : {X Y : Type 0} (f : X → Y) (xs : List X) (x : X) → map f (xs 
 map_more f [] x = refl
 map_more f (y ∷ xs) x = ap (λ ys. f y ∷ ys) (map_more f xs x)
 
--- an item before the one that is one more, and that one
+-- an item before what stands behind the list, before the one that is one more, and that one
+pub item_front : {X : Type 0} (xs ys : List X) (t : ℕ) (d : X) → t < length xs → item_or (xs ++ ys) t d ≡ item_or xs t d
+item_front [] ys t d lt = absurd (omega arith)
+item_front (x ∷ xs) ys zero d lt = refl
+item_front (x ∷ xs) ys (suc t) d lt = item_front xs ys t d (omega arith)
+
 pub item_before : {X : Type 0} (xs : List X) (x : X) (i : ℕ) (d : X) → i < length xs → item_or (xs ++ x ∷ []) i d ≡ item_or xs i d
-item_before [] x i d lt = absurd (omega arith)
-item_before (y ∷ xs) x zero d lt = refl
-item_before (y ∷ xs) x (suc i) d lt = item_before xs x i d (omega arith)
+item_before xs x i d lt = item_front xs (x ∷ []) i d lt
 
 pub item_last : {X : Type 0} (xs : List X) (x : X) (i : ℕ) (d : X) → i ≡ length xs → item_or (xs ++ x ∷ []) i d ≡ x
 item_last [] x zero d here = refl
@@ -38,9 +38,7 @@ item_last (y ∷ xs) x (suc i) d here = item_last xs x i d (omega arith)
 
 -- the item that was written
 pub item_set : {X : Type 0} (xs : List X) (i : ℕ) (x d : X) → i < length xs → item_or (slice_set xs i x) i d ≡ x
-item_set [] i x d lt = absurd (omega arith)
-item_set (y ∷ xs) zero x d lt = refl
-item_set (y ∷ xs) (suc i) x d lt = item_set xs i x d (omega arith)
+item_set xs i x d lt = sym (item_is (slice_set xs i x) i d) ∙ get_or-set_same xs i x d lt
 
 -- and the others
 pub item_set_other : {X : Type 0} (xs : List X) (i j : ℕ) (x d : X) → (j ≡ i → ⊥) → item_or (slice_set xs i x) j d ≡ item_or xs j d

@@ -1,7 +1,7 @@
 -- Reached: what the calls of a dilation find and leave, by its fields.
 use Rattle.std.proofs.Common.{◌≡◌, ℕ, ◌+◌, ◌<◌, List, [], ◌∷◌, ◌++◌, length-append, sym, ap, ◌∙◌, arith, inl, inr, get_or, subst, length, refl}
 use Rattle.std.proofs.lemmas.Bool.{cases_eq, cases_lt}
-use Rattle.std.proofs.lemmas.List.{length-map}
+use Rattle.std.proofs.lemmas.List.{length-map, length-set}
 use Rattle.std.specs.Prelude.{IsTrue, map, slice_set}
 use Rattle.definitions.specs.declared.world.Cell.{Cell}
 use Rattle.definitions.specs.declared.world.Seat.{Seat}
@@ -15,7 +15,7 @@ use Rattle.dilation.specs.declared.growth.Kept.{Kept}
 use Rattle.dilation.specs.Dilated.{Dilated, starts_of, cell_of, kept_of, none_kept, kept_set}
 use Rattle.dilation.specs.Following.{IsKept, AreKept, IsDilated, AreFresh, no_kept}
 use Rattle.dilation.proofs.Seats.{first_starts, first_length, start_more, item_read, starts_open}
-use Rattle.dilation.proofs.Items.{map_set, map_more, length_set, item_before, item_last, item_set, item_set_other, each_set}
+use Rattle.dilation.proofs.Items.{map_set, map_more, item_before, item_last, item_set, item_set_other, each_set}
 
 -- for how many turns each player was followed
 abbrev pub turns_of : List Kept → List ℕ
@@ -53,7 +53,7 @@ seen_set-each : (game : Game) (cells : List Cell) (kept : List Kept) (q : ℕ) (
     AreKept game (slice_set cells q cell) (slice_set kept q new)
 seen_set-each game cells kept q cell new same each is p lt =
     let at : ℕ → Cell → Kept → Type 0 = λ n c k. IsKept game n c k in
-    let within : p < length cells = omega (arith, length_set cells q cell) in
+    let within : p < length cells = omega (arith, length-set cells q cell) in
     elim (cases_eq p q) [
       | inl here ↦
           let short : q < length cells = omega (arith, here) in
@@ -74,7 +74,7 @@ dilated_grown game cells kept i q cell new facts is lt at_cells fits =
     let P : ℕ → Type 0 = λ n. IsDilated game cells (slice_set kept n new) in
     subst P (sym is) (record {
       seen = facts.seen;
-      one_each = length_set kept q new ∙ facts.one_each;
+      one_each = length-set kept q new ∙ facts.one_each;
       each_kept = kept_set-each game cells kept q new (facts.one_each ∙ sym facts.seen.one_each) facts.each_kept
           (subst of_cell (item_read cells q cell no_seat.start (omega (arith, facts.seen.one_each)) (at_cells ∙ ap (λ n. get_or cells n cell) is)) fits);
     })
@@ -87,10 +87,10 @@ dilated_seen game cells kept i q cell new facts is opens fits =
     subst P (sym is) (record {
       seen = record {
         session = facts.seen.session;
-        one_each = length_set cells q cell ∙ facts.seen.one_each;
+        one_each = length-set cells q cell ∙ facts.seen.one_each;
         each_open = each_set (λ c. IsTrue (is_open game.grid c)) cells q cell facts.seen.each_open opens;
       };
-      one_each = length_set kept q new ∙ facts.one_each;
+      one_each = length-set kept q new ∙ facts.one_each;
       each_kept = seen_set-each game cells kept q cell new (facts.one_each ∙ sym facts.seen.one_each) facts.each_kept fits;
     })
 

@@ -1,25 +1,13 @@
 -- Fair: the log of a peer that is driven is honest, and its reveals stand behind the commitments of all that meet.
-use Rattle.std.proofs.Common.{Bool, List, None, Option, Some, [], false, inl, inr, refl, subst, true, ℕ, ◌+◌, ◌++◌, ◌<◌, ◌∷◌, ◌≡◌, ◌≤◌, ◌⊎◌}
+use Rattle.std.proofs.Common.{Bool, List, [], false, true, ℕ, ◌+◌, ◌∷◌, ◌≤◌}
 use Rattle.definitions.specs.declared.logs.Entry.{Entry}
-use Rattle.definitions.specs.declared.logs.Entry.TheVariants.{Got, Made}
-use Rattle.definitions.specs.declared.frames.TurnFrame.{TurnFrame}
-use Rattle.definitions.specs.declared.frames.TurnFrame.TheVariants.{Commit, Reveal}
-use Rattle.definitions.specs.declared.openings.Nonce.{Nonce}
-use Rattle.definitions.specs.declared.world.Move.{Move}
-use Rattle.definitions.specs.World.{Game, players_of}
-use Rattle.definitions.specs.Held.{resolved}
-use Rattle.definitions.specs.Meets.{meets}
-use Rattle.std.specs.Prelude.{IsSome, IsTrue, if◌then◌else◌}
+use Rattle.definitions.specs.World.{Game}
+use Rattle.std.specs.Prelude.{if◌then◌else◌}
 use Rattle.definitions.specs.Findings.{is_clean}
 use Rattle.definitions.specs.Honest.{IsHonest}
 use Rattle.definitions.specs.Advance.{advance}
 use Rattle.line_io.specs.Inputs.{Input, lines_in}
 use Rattle.definition_laws.proofs.Advances.{advance_honest}
-use Rattle.definition_laws.proofs.Behind.{reveal_behind_received, resolved_received}
-use Rattle.definition_laws.proofs.Permits.{IsHonest_prefix}
-use Rattle.definition_laws.proofs.WellFormed.{honest_well_formed}
-use Rattle.definition_laws.specs.Members.{Has}
-use Rattle.definition_laws.proofs.Members.{Has_split}
 use Rattle.definition_laws.proofs.Stepping.{choice_honest, got_honest}
 use Rattle.wire_frames.specs.declared.frames.Frame.{Frame}
 use Rattle.wire_frames.specs.declared.frames.Frame.TheVariants.{Hello, Turn, Want}

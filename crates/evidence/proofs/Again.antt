@@ -1,9 +1,7 @@
 -- What is spelled is read: the text of an exhibit is read as that exhibit.
-use Rattle.std.proofs.Common.{◌≡◌, ℕ, suc, ◌+◌, ◌^◌, ◌≤◌, ◌<◌, true, false, List, [], ◌∷◌, ◌++◌, length, Ok, refl, arith, inl, inr}
-use Rattle.std.specs.Prelude.{codes, ◌==◌, ◌&&◌, nat_le}
-use Rattle.std.specs.List.{list_all}
-use Rattle.std.specs.Char.{is_ascii_digit}
-use Rattle.std.proofs.lemmas.Bool.{and_parts, or_cases, leb-true, ne_eqb, lt-ltb}
+use Rattle.std.proofs.Common.{◌≡◌, ℕ, suc, ◌+◌, ◌^◌, ◌≤◌, ◌<◌, false, List, [], ◌∷◌, ◌++◌, length, Ok, refl, arith}
+use Rattle.std.specs.Prelude.{codes, ◌==◌}
+use Rattle.std.proofs.lemmas.Bool.{ne_eqb, lt-ltb}
 use Rattle.hex.specs.Hex.{encode_lower}
 use Rattle.definitions.specs.declared.frames.TurnFrame.{TurnFrame}
 use Rattle.definitions.specs.declared.findings.Kind.{Kind}
@@ -13,9 +11,9 @@ use Rattle.definitions.specs.Lists.{EachIs}
 use Rattle.commitment.specs.Spelling.{frame_bytes}
 use Rattle.text_lines.specs.Lines.{ended_lines_of}
 use Rattle.text_lines.proofs.Forms.{one_within-spelled}
-use Rattle.text_lines.proofs.Joined.{AreLines, IsLine, bare_line, ended_lines_of-joined, has_no_lf, one_line}
-use Rattle.text_fields.specs.Hexes.{is_lower_digit}
+use Rattle.text_lines.proofs.Joined.{AreLines, IsLine, bare_line, ended_lines_of-joined, one_line}
 use Rattle.text_fields.proofs.Digits.{digits_lower}
+use Rattle.text_fields.proofs.Plain.{digits_plain}
 use Rattle.evidence.specs.declared.exhibit.Exhibit.{Exhibit}
 use Rattle.evidence.specs.Text.{IsExhibit, FitsText, kind_line, frame_line, head_lines, frame_lines, exhibit_lines, exhibit_text}
 use Rattle.evidence.specs.Reading.{head_at, frame_at, frames_at, said_by}
@@ -57,20 +55,6 @@ kind_is_line TwoCommits = bare_line (codes "kind two-commits") refl
 kind_is_line BadOpening = bare_line (codes "kind bad-opening") refl
 kind_is_line Collision = bare_line (codes "kind collision") refl
 kind_is_line Illegal = bare_line (codes "kind illegal") refl
-
--- no digit is an LF
-digit_plain : (b : ℕ) → is_lower_digit b ≡ true → (b == 10) ≡ false
-digit_plain b h =
-    elim (or_cases (is_ascii_digit b) (nat_le 97 b && nat_le b 102) h) [
-      | inl low ↦ let least : 48 ≤ b = leb-true 48 b (and_parts _ _ low).0 in ne_eqb b 10 (λ e. absurd (omega arith))
-      | inr high ↦ let least : 97 ≤ b = leb-true 97 b (and_parts (nat_le 97 b) (nat_le b 102) high).0 in ne_eqb b 10 (λ e. absurd (omega arith))
-    ]
-
-digits_plain : (ds : List ℕ) → list_all is_lower_digit ds ≡ true → has_no_lf ds ≡ true
-digits_plain [] all = refl
-digits_plain (d ∷ ds) all =
-    let both = and_parts (is_lower_digit d) (list_all is_lower_digit ds) all in
-    rw (digit_plain d both.0) (digits_plain ds both.1)
 
 frame_is_line : (f : TurnFrame) → FitsText f → IsLine (frame_line f)
 frame_is_line f fits = bare_line (codes "frame " ++ encode_lower (frame_bytes f)) (digits_plain (encode_lower (frame_bytes f)) (digits_lower (frame_bytes f) fits.1))

@@ -2,7 +2,7 @@
 use Rattle.std.proofs.Common.{◌≡◌, ◌⊎◌, ℕ, suc, ◌+◌, ◌*◌, ◌<◌, ◌≤◌, Bool, true, false, List, [], ◌∷◌, ◌++◌, length, Option, Some, None, refl, sym, ap, subst, ◌∙◌, length-append, arith, inl, inr, slice_get, take}
 use Rattle.std.specs.Prelude.{flat_map, min, not, nat_lt, ◌&&◌, ◌==◌, if◌then◌else◌}
 use Rattle.std.specs.Option.{option_or}
-use Rattle.std.proofs.lemmas.Bool.{and_parts, and_from, cases_lt, cases_eq, eq-eqb, eqb-true, le-leb, ltb-true, or_left, or_right, false≢true}
+use Rattle.std.proofs.lemmas.Bool.{and_parts, and_from, cases_lt, cases_eq, eq-eqb, eqb-true, le-leb, ltb-true, or_left, or_right, false≢true, not-false}
 use Rattle.std.proofs.Math.Seq.{take-length}
 use Rattle.definitions.specs.declared.world.Move.{Move}
 use Rattle.definitions.specs.declared.openings.Digest.{Digest}
@@ -18,7 +18,7 @@ use Rattle.definitions.specs.Lists.{EachIs, first_of, item_or}
 use Rattle.definitions.specs.World.{Game, players_of}
 use Rattle.definitions.specs.Moves.{is_legal, track_after}
 use Rattle.definitions.specs.Logs.{digest_eq, frame_eq, got_in, got_of, turn_of}
-use Rattle.definitions.specs.Held.{Known, commit_of, digest_of, first_commit, first_opening, opened, opening_of, with_commit, with_move}
+use Rattle.definitions.specs.Held.{Known, commit_of, digest_of, first_commit, first_opening, opened, opening_of}
 use Rattle.definitions.specs.Findings.{Sighting, are_illegal, findings, got_known, is_first_commit, is_illegal_after, is_illegal_at, opens, same_digest, show_kind, sightings_from}
 use Rattle.definitions.specs.Exhibits.{are_of_kind, end_illegal, is_of_turn, is_opened_by, with_move_of, Shows}
 use Rattle.definition_laws.specs.Members.{Has}
@@ -27,7 +27,7 @@ use Rattle.definition_laws.proofs.Headline.{known_to_sound}
 use Rattle.definition_laws.proofs.Knowing.{known_to_whole, next_commit, next_reveal}
 use Rattle.definition_laws.proofs.Listing.{take_more}
 use Rattle.definition_laws.proofs.Members.{Has_flat_map, Has_middle, Has_slice_get}
-use Rattle.definition_laws.proofs.Nexts.{some_at}
+use Rattle.definition_laws.proofs.Nexts.{some_at, no_commit, no_move}
 use Rattle.definition_laws.proofs.WellFormed.{got_entry}
 use Rattle.evidence.specs.Laws.{Convicts, HasCommit, StandsIn}
 use Rattle.evidence.proofs.Convicting.{digest_turned, frames_convict, sightings_convict}
@@ -50,20 +50,6 @@ got_Has : (q : ℕ) (h : List Entry) (f : TurnFrame) → Has h (Got q f) → Has
 unfolding got_of
 got_Has q h f m = Has_flat_map (got_in q) h (Got q f) f m (let e = eq-eqb q q refl in rw e (inl refl))
 
-more_commit : (k : Known) (o : Option Digest) → with_commit k o ≡ k → o ≡ None
-more_commit k None e = refl
-more_commit k (Some d) e =
-    let l = length-append k.digests (d ∷ []) in
-    let same = ap (λ (j : Known). length j.digests) e in
-    absurd (omega arith)
-
-more_move : (k : Known) (o : Option Move) → with_move k o ≡ k → o ≡ None
-more_move k None e = refl
-more_move k (Some m) e =
-    let l = length-append k.moves (m ∷ []) in
-    let same = ap (λ (j : Known). length j.moves) e in
-    absurd (omega arith)
-
 -- ---- a log that got the commitments
 
 -- one of the logs got commitments of the player to each turn up to this one, and those without which it doesn't resolve the turn before
@@ -79,7 +65,7 @@ none_next : (game : Game) (q : ℕ) (h : List Entry) → length (got_known game 
     first_commit (got_of q h) (length (got_known game q h).digests) ≡ None
 none_next game q h lt =
     let k : Known = got_known game q h in
-    more_commit k (first_commit (got_of q h) (length k.digests)) (sym (next_commit game q (got_of q h) k lt) ∙ known_to_whole game q (got_of q h))
+    no_commit k (first_commit (got_of q h) (length k.digests)) (sym (next_commit game q (got_of q h) k lt) ∙ known_to_whole game q (got_of q h))
 
 -- so the next is none that the log got
 got_next : (game : Game) (q u : ℕ) (h : List Entry) → HasCommit h q u → first_commit (got_of q h) u ≡ None → ⊥
@@ -118,7 +104,7 @@ moves_there game logs h q t d g m w lt held stands opens = go (cases_lt (length 
     go (inr full) =
         let b = w.turn in
         let next = next_reveal game q (got_of q h) k full (omega arith) in
-        let none = more_move k _ (sym next ∙ known_to_whole game q (got_of q h)) in
+        let none = no_move k _ (sym next ∙ known_to_whole game q (got_of q h)) in
         let first : first_opening game q k.moves d (got_of q h) (length k.moves) ≡ None = ap (opened game q k.moves (got_of q h) (length k.moves)) (sym held) ∙ none in
         first_of_Has (opening_of game q k.moves d (length k.moves)) (got_of q h) g m (got_Has q h g stands) opens first
 
@@ -283,10 +269,6 @@ record IsOpening (game : Game) (q u : ℕ) (f g : TurnFrame) : Type 0 where
   opens : (before : List Move) → is_illegal_after game q before g ≡ false → opening_of game q before digest u g ≡ Some move
   more : (before : List Move) → with_move_of before g ≡ before ++ move ∷ []
 
-not_false : (b : Bool) → not b ≡ false → b ≡ true
-not_false true h = refl
-not_false false h = absurd (false≢true (sym h))
-
 opening_frames : (game : Game) (q u : ℕ) (f g : TurnFrame) → is_of_turn q u f ≡ true → is_of_turn q u g ≡ true → is_opened_by game f g ≡ true → IsOpening game q u f g
 opening_frames game q u (Commit p v d) (Commit r w e) a b c = absurd (false≢true c)
 opening_frames game q u (Reveal p v m n) g a b c = absurd (false≢true c)
@@ -302,7 +284,7 @@ opening_frames game q u (Commit p v d) (Reveal r w m n) a b c =
       commits = ap (λ (k : ℕ). Commit k v d) player ∙ ap (λ (k : ℕ). Commit q k d) turn;
       turn = eqb-true w u y.1;
       same = digest_eq_true (digest_of game (Reveal r w m n)) d turned;
-      opens = λ before legal. rw (y.1, turned, not_false (is_legal game q (track_after game q before) m) legal) refl;
+      opens = λ before legal. rw (y.1, turned, not-false (is_legal game q (track_after game q before) m) legal) refl;
       more = λ before. refl;
     }
 

@@ -20,18 +20,12 @@ use Rattle.definition_laws.proofs.Alike.{digest_eq_same, digest_eq_true, frame_e
 use Rattle.definition_laws.proofs.Least.{Has_findings, found_some, pair_none, seen_strict}
 use Rattle.definition_laws.proofs.Listed.{finding_at_kind}
 use Rattle.definition_laws.proofs.Members.{Has_slice_get}
-use Rattle.definition_laws.proofs.Sighted.{SeenBefore, sighting_is_seen, sightings_sorted}
+use Rattle.definition_laws.proofs.Sighted.{SeenBefore, sighting_is_seen, sightings_sorted, spot_from}
 use Rattle.plain_lemmas.proofs.Tests.{same_tests}
 use Rattle.evidence.specs.Judging.{pair_shows}
 use Rattle.evidence.specs.Laws.{Convicts, StandsIn}
 
 -- ---- spots
-
-spot_from : (s t : Spot) → s.log ≡ t.log → s.entry ≡ t.entry → s ≡ t
-spot_from s t a b =
-    let at_log : ℕ → Spot = λ n. record { log = n; entry = s.entry } in
-    let at_entry : ℕ → Spot = λ n. record { log = t.log; entry = n } in
-    ap at_log a ∙ ap at_entry b
 
 -- of two spots one comes before the other
 spots_apart : (s t : Spot) → (s ≡ t → ⊥) → SpotBefore s t ⊎ SpotBefore t s

@@ -1,26 +1,15 @@
 -- Digits: those of a frame are few.
-use Rattle.std.proofs.Common.{◌≡◌, ℕ, ◌≤◌, ◌<◌, List, length, Option, Some, None, refl, ap, ◌∙◌, arith}
+use Rattle.std.proofs.Common.{◌≡◌, ℕ, ◌<◌, List, length, Option, Some, None, refl, ap, ◌∙◌, arith}
 use Rattle.hex.specs.Hex.{lower_digits}
 use Rattle.hex.proofs.HexLemmas.{length-encode_with}
-use Rattle.definitions.specs.declared.world.Cell.{Cell}
 use Rattle.definitions.specs.declared.frames.TurnFrame.{TurnFrame}
-use Rattle.definitions.specs.declared.frames.TurnFrame.TheVariants.{Commit, Reveal}
 use Rattle.definitions.specs.declared.limits.TheConstants.{LONGEST_LINE}
-use Rattle.commitment.specs.Spelling.{frame_bytes, reveal_length, FitsFrame}
-use Rattle.commitment.proofs.Reading.{length-frame}
+use Rattle.commitment.specs.Spelling.{frame_bytes}
+use Rattle.commitment.proofs.Reading.{frame_short}
 use Rattle.byte_fields.specs.Fronts.{◌>>=◌}
 use Rattle.text_fields.specs.Hexes.{frame_of}
 use Rattle.evidence.specs.Reading.{digits_said, frame_said}
 use Rattle.text_fields.proofs.HexFields.{frame_spelled}
-
-payload_short : (strike : Option Cell) → reveal_length strike ≤ 46
-payload_short None = omega arith
-payload_short (Some c) = omega arith
-
-pub frame_short : (f : TurnFrame) → FitsFrame f → length (frame_bytes f) ≤ 49
-unfolding frame_bytes
-frame_short (Commit p t d) h = let l = length-frame (Commit p t d) h in omega arith
-frame_short (Reveal p t m n) h = let l = length-frame (Reveal p t m n) h in let s = payload_short m.strike in omega arith
 
 -- a text that is longer than a line is no frame
 pub frame_of-long : (text : List ℕ) → LONGEST_LINE < length text → None ≡ frame_of text

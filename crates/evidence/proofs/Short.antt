@@ -11,10 +11,10 @@ use Rattle.definitions.specs.declared.findings.Kind.TheVariants.{TwoCommits, Bad
 use Rattle.definitions.specs.declared.limits.TheConstants.{EVIDENCE_FRONT}
 use Rattle.definitions.specs.Lists.{EachIs}
 use Rattle.commitment.specs.Spelling.{frame_bytes}
+use Rattle.commitment.proofs.Reading.{frame_short}
 use Rattle.text_lines.specs.Lines.{fields_of, joined, line_of}
 use Rattle.evidence.specs.declared.exhibit.Exhibit.{Exhibit}
 use Rattle.evidence.specs.Text.{FitsText, IsExhibit, exhibit_text, frame_line, frame_lines, kind_line}
-use Rattle.evidence.proofs.Digits.{frame_short}
 
 number_short : (name : List ℕ) (n : ℕ) → n < 2 ^ 32 → length (line_of name (n ∷ [])) ≤ length name + 12
 number_short name n small =

@@ -1,9 +1,7 @@
 -- Come: what a stream that has come to a place, or ended before it, says of all that the log shows.
-use Rattle.std.proofs.Common.{List, None, Some, [], ◌∷◌, ap, arith, inl, inr, refl, subst, suc, sym, zero, zero-add, ℕ, ◌*◌, ◌++◌, ◌+◌, ◌-◌, ◌<◌, ◌≤◌, ◌∙◌, ◌≡◌, ◌⊎◌, slice_get, length, take}
+use Rattle.std.proofs.Common.{List, None, [], ◌∷◌, ap, arith, inl, inr, subst, suc, sym, zero, zero-add, ℕ, ◌*◌, ◌++◌, ◌+◌, ◌-◌, ◌<◌, ◌≤◌, ◌∙◌, ◌≡◌, ◌⊎◌, slice_get, length, take}
 use Rattle.std.proofs.Math.Nat.{suc-add}
 use Rattle.std.proofs.lemmas.Option.{slice_get_past}
-use Rattle.definitions.specs.declared.world.Move.{Move}
-use Rattle.definitions.specs.declared.world.Track.{Track}
 use Rattle.definitions.specs.declared.frames.TurnFrame.{TurnFrame}
 use Rattle.definitions.specs.declared.logs.Entry.{Entry}
 use Rattle.definitions.specs.World.{Game, players_of}
@@ -19,7 +17,7 @@ use Rattle.streams.specs.declared.stream.Stream.{Stream}
 use Rattle.streams.specs.Streams.{places_of}
 use Rattle.streams.proofs.Shown.{shown_short}
 use Rattle.frame_index.specs.declared.heads.Front.{Front}
-use Rattle.frame_index.specs.Heads.{Ends, IsAt, Stands, front_of}
+use Rattle.frame_index.specs.Heads.{Ends, IsAt, Stands}
 
 -- what is known of some places begins what is known of more
 known_begins : (game : Game) (q : ℕ) (fs : List TurnFrame) (m n : ℕ) → IsBeginning (known_to game q fs n) (known_to game q fs (m + n))

@@ -1,27 +1,25 @@
 -- Commonly: the places of a player's stream one behind the other, for all logs that show the same of it.
-use Rattle.std.proofs.Common.{Bool, List, None, Some, [], ap, arith, false, inl, inr, refl, subst, suc, sym, true, zero, ℕ, ◌++◌, ◌+◌, ◌*◌, ◌<◌, ◌≤◌, ◌∙◌, ◌∷◌, ◌≡◌, ◌⊎◌, Option, length, slice_get, take}
-use Rattle.std.specs.Prelude.{◌&&◌, ◌==◌, flat_map, if◌then◌else◌, min, option_map}
+use Rattle.std.proofs.Common.{Bool, List, None, Some, [], ap, arith, false, inl, inr, refl, subst, suc, sym, true, zero, ℕ, ◌++◌, ◌+◌, ◌<◌, ◌≤◌, ◌∙◌, ◌∷◌, ◌≡◌, ◌⊎◌, Option, length, slice_get}
+use Rattle.std.specs.Prelude.{◌&&◌, ◌==◌, if◌then◌else◌, min, option_map}
 use Rattle.std.specs.List.{list_any}
 use Rattle.std.specs.Option.{option_or}
-use Rattle.std.proofs.lemmas.Bool.{and_parts, cases_lt, eq-eqb, eqb-true, false≢true, le-ltb, lt-ltb}
-use Rattle.std.proofs.lemmas.Option.{slice_get_past, slice_get_within}
+use Rattle.std.proofs.lemmas.Bool.{and_parts, cases_lt, eq-eqb, eqb-true, false≢true}
+use Rattle.std.proofs.lemmas.Option.{slice_get_past}
 use Rattle.definitions.specs.declared.findings.Spot.{Spot}
 use Rattle.definitions.specs.declared.world.Move.{Move}
 use Rattle.definitions.specs.declared.world.Track.{Track}
 use Rattle.definitions.specs.declared.openings.Digest.{Digest}
-use Rattle.definitions.specs.declared.openings.Nonce.{Nonce}
 use Rattle.definitions.specs.declared.frames.TurnFrame.{TurnFrame}
 use Rattle.definitions.specs.declared.frames.TurnFrame.TheVariants.{Commit, Reveal}
 use Rattle.definitions.specs.declared.logs.Entry.{Entry}
 use Rattle.definitions.specs.declared.logs.Entry.TheVariants.{Got}
-use Rattle.definitions.specs.Findings.{Sighting, got_known, is_commit}
+use Rattle.definitions.specs.Findings.{got_known, is_commit}
 use Rattle.definitions.specs.Held.{commit_of, digest_of, first_commit, known_to}
 use Rattle.definitions.specs.Lists.{first_of}
 use Rattle.definitions.specs.Logs.{digest_eq, got_in, got_of, turn_of}
 use Rattle.definitions.specs.Moves.{is_legal, next_track, start_track}
 use Rattle.definitions.specs.World.{Game, players_of}
 use Rattle.definition_laws.specs.Members.{Has}
-use Rattle.definition_laws.specs.Spots.{IsSighting}
 use Rattle.definition_laws.proofs.Alike.{digest_eq_same}
 use Rattle.definition_laws.proofs.Listing.{slice_get_last}
 use Rattle.definition_laws.proofs.Members.{Has_flat_map, Has_slice_get, flat_map_Has, slice_get_Has}
@@ -29,17 +27,17 @@ use Rattle.definition_laws.proofs.Nexts.{some_at}
 use Rattle.grid_world.specs.Sessions.{IsSession}
 use Rattle.streams.specs.declared.stream.Stream.{Stream}
 use Rattle.streams.specs.Frames.{opening_at}
-use Rattle.streams.specs.Streams.{IsCommitNext, IsReadFrom, places_of}
+use Rattle.streams.specs.Streams.{places_of}
 use Rattle.streams.proofs.Shown.{held_there, read_from, still_commit, still_due, stream_none, there_commit, there_due}
 use Rattle.frame_index.specs.declared.common.Common.{Common}
 use Rattle.frame_index.specs.declared.frames.FrameIndex.{FrameIndex}
 use Rattle.frame_index.specs.declared.heads.Front.{Front}
 use Rattle.frame_index.specs.declared.kept.KeptFrame.{KeptFrame}
 use Rattle.frame_index.specs.declared.seen.Seen.{Seen}
-use Rattle.frame_index.specs.Frames.{IsIndex, kept_in, kept_of}
-use Rattle.frame_index.specs.Heads.{Ends, Stands, front_of}
-use Rattle.frame_index.specs.Kept.{seen_in, seen_of, seen_with}
-use Rattle.frame_index.specs.Plain.{AreCommon, AreLeft, AreOfFirst, CommitIsRead, HasCome, HaveCome, IsCommon, IsCommonAt, IsLed, IsPlain, LeadsTo, NoneGoesOn, RevealIsRead, commit_spots, is_among, is_in, move_in, move_of, reveal_spots, shown}
+use Rattle.frame_index.specs.Frames.{IsIndex, kept_of}
+use Rattle.frame_index.specs.Heads.{Stands}
+use Rattle.frame_index.specs.Kept.{seen_of, seen_with}
+use Rattle.frame_index.specs.Plain.{AreCommon, AreLeft, AreOfFirst, CommitIsRead, HasCome, IsCommon, IsCommonAt, IsPlain, LeadsTo, NoneGoesOn, RevealIsRead, commit_spots, is_among, is_in, move_in, move_of, reveal_spots, shown}
 use Rattle.frame_index.proofs.Come.{ended_count, resolves}
 use Rattle.frame_index.proofs.Growing.{any_has, has_kept, kept_has}
 use Rattle.frame_index.proofs.Plainly.{got_entry, move_is, resolved_move}

@@ -1,6 +1,6 @@
 -- Derived: the test of a derived `==` on frames is that of the definitions.
 use Rattle.std.proofs.Common.{Bool, None, Some, ap, refl, sym, ◌∙◌, ◌≡◌, Option}
-use Rattle.std.specs.Prelude.{◌&&◌, ◌==◌, cond}
+use Rattle.std.specs.Prelude.{◌&&◌, ◌==◌}
 use Rattle.std.specs.Option.{option_eq}
 use Rattle.std.proofs.Math.Bool.{and_assoc}
 use Rattle.definitions.specs.declared.world.Cell.{Cell}

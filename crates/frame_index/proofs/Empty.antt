@@ -1,5 +1,5 @@
 -- Empty: nothing kept stands for logs without entries.
-use Rattle.std.proofs.Common.{List, None, Some, [], ap, sym, ℕ, ◌∙◌, ◌≡◌, Option, slice_get}
+use Rattle.std.proofs.Common.{List, None, Some, [], ap, sym, ℕ, ◌∙◌, ◌≡◌, slice_get}
 use Rattle.definitions.specs.declared.logs.Entry.{Entry}
 use Rattle.definitions.specs.declared.logs.Entry.TheVariants.{Got}
 use Rattle.definitions.specs.World.{Game}

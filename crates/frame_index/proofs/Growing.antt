@@ -1,6 +1,6 @@
 -- Growing: what is kept of a player's turn, where the spots of one frame change or a frame comes behind the others.
 use Rattle.std.proofs.Common.{Bool, List, None, Some, [], ap, false, inl, inr, refl, suc, subst, sym, true, zero, ℕ, ◌++◌, ◌∙◌, ◌∷◌, ◌<◌, ◌≡◌, ◌⊎◌, length, set, slice_get}
-use Rattle.std.specs.Prelude.{◌==◌, Err, Ok, OnErr, OnOk, Result, flat_map, if◌then◌else◌, map}
+use Rattle.std.specs.Prelude.{◌==◌, Err, Ok, OnErr, OnOk, Result, if◌then◌else◌, map}
 use Rattle.std.specs.List.{list_any}
 use Rattle.std.proofs.lemmas.Bool.{eqb-true, false≢true}
 use Rattle.std.proofs.lemmas.Option.{slice_get_within}
@@ -14,7 +14,7 @@ use Rattle.definition_laws.specs.Members.{Has}
 use Rattle.definition_laws.proofs.Members.{Has_append, Has_back, Has_flat_map, Has_front, flat_map_Has, map_Has, slice_get_Has}
 use Rattle.frame_index.specs.declared.seen.Seen.{Seen}
 use Rattle.frame_index.specs.declared.kept.KeptFrame.{KeptFrame}
-use Rattle.frame_index.specs.Kept.{AreAlike, AreOf, Grows, HasSpots, IsAdded, IsNotedAt, StandsAt, seen_in, seen_of, seen_with, sight, spot_noted}
+use Rattle.frame_index.specs.Kept.{AreAlike, AreOf, Grows, IsAdded, IsNotedAt, StandsAt, seen_in, seen_of, seen_with, sight, spot_noted}
 
 -- what follows where there is a value, and where there is an error
 pub on_ok : {T E P Q : Type 0} (r : Result T E) → (P → Q) → OnOk r P → OnOk r Q

@@ -1,5 +1,6 @@
 -- Grows: what is kept stands for the logs with one entry more.
 use Rattle.std.proofs.Common.{List, None, Some, [], ap, arith, inl, inr, refl, subst, suc, sym, zero, ℕ, ◌++◌, ◌<◌, ◌∙◌, ◌∷◌, ◌≡◌, ◌⊎◌, slice_get, length}
+use Rattle.std.proofs.lemmas.Option.{slice_get_within}
 use Rattle.definitions.specs.declared.frames.TurnFrame.{TurnFrame}
 use Rattle.definitions.specs.declared.logs.Entry.{Entry}
 use Rattle.definitions.specs.declared.logs.Entry.TheVariants.{Got}
@@ -29,11 +30,6 @@ stays : {X : Type 0} (xs : List X) (e x : X) (n : ℕ) → slice_get xs n ≡ So
 stays [] e x n h = absurd (let none : None ≡ Some x = h in cc)
 stays (y ∷ ys) e x zero h = h
 stays (y ∷ ys) e x (suc n) h = stays ys e x n h
-
-within : {X : Type 0} (xs : List X) (n : ℕ) (x : X) → slice_get xs n ≡ Some x → n < length xs
-within [] n x h = absurd (let none : None ≡ Some x = h in cc)
-within (y ∷ ys) zero x h = omega arith
-within (y ∷ ys) (suc n) x h = let r = within ys n x h in omega arith
 
 -- the log of a number in the logs with one entry more
 log_before : (logs : List (List Entry)) (i l : ℕ) (e : Entry) (h g : List Entry) → slice_get logs i ≡ Some h → slice_get (with_entry logs i e) l ≡ Some g →
@@ -140,7 +136,7 @@ module _ (game : Game) (q : ℕ) (logs : List (List Entry)) (h : List Entry) (ke
           let w = k.within x m in
           let one : Some w.log ≡ Some h = sym w.there ∙ ap (slice_get logs) log ∙ there in
           let same : w.log ≡ h = cc in
-          within h x.spot.entry (Got q x.frame) (ap (λ (g : List Entry). slice_get g x.spot.entry) (sym same) ∙ w.got)
+          slice_get_within h x.spot.entry (Got q x.frame) (ap (λ (g : List Entry). slice_get g x.spot.entry) (sym same) ∙ w.got)
 
       at : (u : Sighting) → IsSighting logs q (turn_of s.frame) u ⊎ IsNew u → Has more s ⊎ ((k : Seen) × Has kept k × (k.spot.log ≡ s.spot.log) × (k.frame ≡ s.frame)) →
           (x : Seen) × Has more x × IsFirstOf x u

@@ -1,5 +1,5 @@
 -- Illegals: what a stream that has come to a turn says of the frames of the turn is what the definitions say of them.
-use Rattle.std.proofs.Common.{Bool, List, None, Some, [], ◌∷◌, ap, arith, false, inl, inr, refl, subst, suc, sym, true, zero, zero-add, ℕ, ◌*◌, ◌++◌, ◌+◌, ◌-◌, ◌<◌, ◌≤◌, ◌∙◌, ◌≡◌, ◌⊎◌, Option, slice_get, length, take, is_err, IfSome}
+use Rattle.std.proofs.Common.{Bool, List, None, Some, ap, arith, false, inl, inr, refl, sym, true, ℕ, ◌++◌, ◌+◌, ◌<◌, ◌≤◌, ◌∙◌, ◌≡◌, ◌⊎◌, Option, slice_get, length, take, is_err, IfSome}
 use Rattle.std.specs.Prelude.{◌&&◌, ◌==◌, if◌then◌else◌, is_some, nat_le, not}
 use Rattle.std.specs.Option.{option_map_or}
 use Rattle.std.proofs.lemmas.Bool.{false≢true, and_parts, cases_lt, eqb-true, le-leb, lt-leb}
@@ -24,7 +24,6 @@ use Rattle.definition_laws.proofs.Listing.{slice_get_front, take_front}
 use Rattle.grid_world.specs.Sessions.{IsSession}
 use Rattle.move_rules.specs.Verdicts.{verdict}
 use Rattle.streams.specs.declared.stream.Stream.{Stream}
-use Rattle.streams.specs.Streams.{places_of}
 use Rattle.streams.proofs.Opened.{refused_illegal}
 use Rattle.streams.proofs.Shown.{held_there}
 use Rattle.frame_index.specs.declared.seen.Seen.{Seen}

@@ -1,5 +1,5 @@
 -- Indexed: an index in which a frame was taken stands for the logs with one entry more.
-use Rattle.std.proofs.Common.{Bool, List, Some, [], ap, cond, false, inl, inr, refl, subst, sym, true, ℕ, ◌∙◌, ◌≡◌, ◌⊎◌, Option, slice_get, length}
+use Rattle.std.proofs.Common.{Bool, List, Some, [], ap, cond, false, refl, subst, sym, true, ℕ, ◌∙◌, ◌≡◌, Option, slice_get, length}
 use Rattle.std.specs.Prelude.{◌&&◌, ◌==◌}
 use Rattle.std.specs.Option.{option_map_or}
 use Rattle.std.proofs.lemmas.Bool.{and_from, eq-eqb, eqb-true, eqb-false}
@@ -10,7 +10,6 @@ use Rattle.definitions.specs.declared.logs.Entry.TheVariants.{Got}
 use Rattle.definitions.specs.World.{Game}
 use Rattle.definitions.specs.Logs.{player_of, turn_of}
 use Rattle.definition_laws.specs.Members.{Has}
-use Rattle.frame_index.specs.declared.seen.Seen.{Seen}
 use Rattle.frame_index.specs.declared.kept.KeptFrame.{KeptFrame}
 use Rattle.frame_index.specs.declared.frames.FrameIndex.{FrameIndex}
 use Rattle.frame_index.specs.Keeps.{Keeps}

@@ -1,7 +1,7 @@
 -- Plainly: where at most one commitment and one reveal are kept of a turn, no log shows anything against the player in it, and all that
 -- resolve it do so by one move.
 use Rattle.std.proofs.Common.{Bool, List, None, Some, [], ap, arith, false, inl, inr, length, refl, slice_index_or, subst, suc, sym, true, zero, ℕ, ◌*◌, ◌++◌, ◌+◌, ◌<◌, ◌≤◌, ◌∙◌, ◌∷◌, ◌≡◌, Option, slice_get, take}
-use Rattle.std.specs.Prelude.{◌&&◌, ◌||◌, ◌==◌, IsTrue, Result, flat_map, if◌then◌else◌, is_none, nat_le, not, option_map}
+use Rattle.std.specs.Prelude.{◌&&◌, ◌||◌, ◌==◌, IsTrue, Result, flat_map, if◌then◌else◌, is_none, not, option_map}
 use Rattle.std.specs.List.{range_with_len}
 use Rattle.std.specs.Option.{option_or}
 use Rattle.std.specs.Result.{result_ok}
@@ -13,14 +13,12 @@ use Rattle.definitions.specs.declared.findings.Finding.{Finding}
 use Rattle.definitions.specs.declared.world.Move.{Move}
 use Rattle.definitions.specs.declared.world.MoveFault.{MoveFault}
 use Rattle.definitions.specs.declared.world.Track.{Track}
-use Rattle.definitions.specs.declared.openings.Digest.{Digest}
-use Rattle.definitions.specs.declared.openings.Nonce.{Nonce}
 use Rattle.definitions.specs.declared.frames.TurnFrame.{TurnFrame}
 use Rattle.definitions.specs.declared.frames.TurnFrame.TheVariants.{Commit, Reveal}
 use Rattle.definitions.specs.declared.logs.Entry.{Entry}
 use Rattle.definitions.specs.declared.logs.Entry.TheVariants.{Chose, Got, Made}
-use Rattle.definitions.specs.Findings.{Sighting, are_bad_opening, are_collision, are_illegal, are_two_commits, finding_at, finding_of, findings_in, first_pair, got_known, is_commit, is_illegal_after, is_illegal_at, is_reveal, opens, same_digest, show_kind, sightings}
-use Rattle.definitions.specs.Held.{Known, digest_of}
+use Rattle.definitions.specs.Findings.{Sighting, are_collision, are_illegal, finding_at, finding_of, findings_in, got_known, is_commit, is_illegal_at, is_reveal, opens, same_digest, show_kind, sightings}
+use Rattle.definitions.specs.Held.{digest_of}
 use Rattle.definitions.specs.Lists.{item_or}
 use Rattle.definitions.specs.Logs.{digest_eq, frame_eq, got_in, got_of, turn_of}
 use Rattle.definitions.specs.Moves.{is_legal, move_fault, next_track, start_track, track_after}
@@ -41,9 +39,9 @@ use Rattle.move_rules.specs.Verdicts.{judged as verdict_by, verdict}
 use Rattle.frame_index.specs.declared.seen.Seen.{Seen}
 use Rattle.frame_index.specs.declared.kept.KeptFrame.{KeptFrame}
 use Rattle.frame_index.specs.declared.frames.FrameIndex.{FrameIndex}
-use Rattle.frame_index.specs.Frames.{IsIndex, kept_in, kept_of}
-use Rattle.frame_index.specs.Kept.{AreOf, seen_in, seen_of}
-use Rattle.frame_index.specs.Plain.{AreAlong, IsLed, IsPlain, LeadsTo, move_in, shown}
+use Rattle.frame_index.specs.Frames.{IsIndex, kept_of}
+use Rattle.frame_index.specs.Kept.{seen_of}
+use Rattle.frame_index.specs.Plain.{AreAlong, IsPlain, LeadsTo, move_in, shown}
 use Rattle.frame_index.proofs.Growing.{has_kept}
 use Rattle.frame_index.proofs.Judging.{led_open}
 use Rattle.frame_index.proofs.Lifted.{no_pair}

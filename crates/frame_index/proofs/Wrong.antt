@@ -33,7 +33,7 @@ item_is [] i h at = absurd (let nothing : None ≡ Some h = at in cc)
 item_is (x ∷ xs) zero h at = cc
 item_is (x ∷ xs) (suc i) h at = item_is xs i h at
 
-commit_some : (t : ℕ) (f : TurnFrame) → turn_of f ≡ t → is_commit f ≡ is_some (commit_of t f)
+pub commit_some : (t : ℕ) (f : TurnFrame) → turn_of f ≡ t → is_commit f ≡ is_some (commit_of t f)
 commit_some t (Commit p u d) e = sym (ap (λ (b : Bool). is_some (if b then Some d else None)) (eq-eqb u t e))
 commit_some t (Reveal p u m n) e = refl
 

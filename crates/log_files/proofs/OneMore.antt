@@ -1,6 +1,6 @@
 -- OneMore: logs are taken one behind the other.
 use Rattle.std.proofs.Common.{◌≡◌, ◌⊎◌, inl, inr, ℕ, zero, suc, ◌+◌, ◌-◌, ◌<◌, ◌≤◌, Bool, true, false, List, [], ◌∷◌, ◌++◌, Option, None, Some, length, map, drop, take, refl, sym, ◌∙◌, ap, subst, append_assoc, append-nil, length-append, arith}
-use Rattle.std.specs.Prelude.{option_map, replicate, slice_index_or}
+use Rattle.std.specs.Prelude.{option_map, slice_index_or}
 use Rattle.std.proofs.lemmas.List.{take_all}
 use Rattle.std.specs.Option.{option_or}
 use Rattle.std.proofs.lemmas.Bool.{cases_lt}
@@ -15,11 +15,11 @@ use Rattle.station.specs.Since.{since}
 use Rattle.line_io.specs.Files.{AreContents, AreReadings, Calls, Contents, ReadsFiles, in_turn}
 use Rattle.line_io.specs.Fronts.{AllShown}
 use Rattle.frame_index.specs.declared.limits.TheConstants.{MOST_LOGS}
-use Rattle.frame_index.specs.Appended.{with_entry}
 use Rattle.session_log.specs.Laws as L
 use Rattle.auditor.specs.declared.auditor.Auditor.{Auditor}
 use Rattle.auditor.specs.Audits.{StandsFor, IsAuditOf, owner_in, padded}
 use Rattle.auditor.specs.Taking.{LeavesOthers, Takes, with_entries}
+use Rattle.auditor.proofs.Behind.{item_last, item_more, next_log}
 use Rattle.log_files.specs.Logs.{entries_in, log_fault}
 use Rattle.log_files.specs.Taken.{IsAnswer, IsTaken, IsThere, TakesLog, is_failed}
 use Rattle.log_files.specs.Several.{AreAnswered, LogFault, TakesFiles, TakesLogs, behind_first, first_bytes, first_fault, is_shelf_failed, logs_in, of_log, owners_in}
@@ -27,40 +27,6 @@ use Rattle.log_files.specs.declared.taking.LogTaken.{LogTaken}
 use Rattle.log_files.specs.declared.taking.LogTaken.TheVariants as became
 use Rattle.log_files.specs.declared.several.LogsTaken.{LogsTaken}
 use Rattle.log_files.specs.declared.several.LogsTaken.TheVariants.{Whole, Bad, Failed, Memory}
-
--- entries at the end of the log behind these
-entry_behind : (done : List (List Entry)) (h : List Entry) (rest : List (List Entry)) (e : Entry) → with_entry (done ++ h ∷ rest) (length done) e ≡ done ++ (h ++ e ∷ []) ∷ rest
-entry_behind [] h rest e = refl
-entry_behind (d ∷ done) h rest e = ap (λ ls. d ∷ ls) (entry_behind done h rest e)
-
-entries_behind : (es : List Entry) (done : List (List Entry)) (h : List Entry) (rest : List (List Entry)) → with_entries (done ++ h ∷ rest) (length done) es ≡ done ++ (h ++ es) ∷ rest
-entries_behind [] done h rest = ap (λ x. done ++ x ∷ rest) (sym (append-nil h))
-entries_behind (e ∷ es) done h rest =
-    ap (λ ls. with_entries ls (length done) es) (entry_behind done h rest e) ∙ entries_behind es done (h ++ e ∷ []) rest ∙
-    ap (λ x. done ++ x ∷ rest) (append_assoc h (e ∷ []) es)
-
--- the first of the empty logs behind these is no longer empty
-next_log : (done : List (List Entry)) (es : List Entry) → length done < MOST_LOGS →
-    with_entries (padded done (MOST_LOGS - length done)) (length done) es ≡ padded (done ++ es ∷ []) (MOST_LOGS - length (done ++ es ∷ []))
-next_log done es few =
-    let n : ℕ = length done in
-    let long : length (done ++ es ∷ []) ≡ n + 1 = length-append done (es ∷ []) in
-    let left : MOST_LOGS - n ≡ suc (MOST_LOGS - (n + 1)) = omega (arith, few) in
-    let now : MOST_LOGS - length (done ++ es ∷ []) ≡ MOST_LOGS - (n + 1) = ap (λ k. MOST_LOGS - k) long in
-    let behind : List (List Entry) = replicate (MOST_LOGS - (n + 1)) [] in
-    ap (λ k. with_entries (padded done k) n es) left ∙ entries_behind es done [] behind ∙ sym (append_assoc done (es ∷ []) behind) ∙
-    ap (λ k. padded (done ++ es ∷ []) k) (sym now)
-
--- an item behind a list, and one more
-item_more : (xs : List (Option ℕ)) (x : Option ℕ) (i : ℕ) → (i ≡ length xs → ⊥) → item_or (xs ++ x ∷ []) i None ≡ item_or xs i None
-item_more [] x zero not = absurd (not refl)
-item_more [] x (suc i) not = refl
-item_more (y ∷ xs) x zero not = refl
-item_more (y ∷ xs) x (suc i) not = item_more xs x i (λ e. not (ap suc e))
-
-item_last : (xs : List (Option ℕ)) (x : Option ℕ) → item_or (xs ++ x ∷ []) (length xs) None ≡ x
-item_last [] x = refl
-item_last (y ∷ xs) x = item_last xs x
 
 -- the auditor stands for one log more
 pub one_more_log : (game : Game) (owners : List (Option ℕ)) (logs : List (List Entry)) (a a' : Auditor) (number : ℕ) (es : List Entry) (o : Option ℕ) → number < MOST_LOGS → length logs ≡ number →

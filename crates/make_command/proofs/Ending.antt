@@ -20,7 +20,7 @@ use Rattle.pilots.specs.Draws.{draw, generator_of}
 use Rattle.pilots.specs.Making.{made_session, plain_game, seat_at, starts_of, walls_of}
 use Rattle.pilots.specs.declared.sizes.TheConstants.{CELLS, PLAYERS}
 use Rattle.pilots.proofs.Legal.{bot_is_legal, draw_below}
-use Rattle.pilots.proofs.Made.{IsDrawnBy, drawn_by}
+use Rattle.pilots.proofs.Made.{drawn_all}
 use Rattle.schedule.specs.declared.stands.Stand.{Stand}
 use Rattle.schedule.specs.declared.stands.Stand.TheVariants.{Behind, Caught, Finished, Held, Moving}
 use Rattle.schedule.specs.Stands.{stand}
@@ -151,20 +151,13 @@ over_at m g none = go (runs 46400 m g).0 (runs 46400 m g).1
 
 -- ---- the match of a number
 
--- the walls and the starts of the number, and the session by them
-drawn_for : (number : ℕ) → IsDrawnBy number (walls_of CELLS (generator_of number)).0 (starts_of (walls_of CELLS (generator_of number)).0 PLAYERS (walls_of CELLS (generator_of number)).1).0
-drawn_for number =
-    let walls = walls_of CELLS (generator_of number) in
-    let starts = starts_of walls.0 PLAYERS walls.1 in
-    drawn_by number (generator_of number) walls.1 starts.1 walls.0 starts.0 refl refl refl
-
 made_is : (number : ℕ) → IsSession (made_session number)
-made_is number = let d = drawn_for number in subst IsSession d.made d.reads.session
+made_is number = let d = drawn_all number in subst IsSession d.made d.reads.session
 
 made_size : (number : ℕ) → players_of (made_session number) ≡ 8
 unfolding plain_game
 made_size number =
-    let d = drawn_for number in
+    let d = drawn_all number in
     ap players_of (sym d.made) ∙ length-map (starts_of (walls_of CELLS (generator_of number)).0 PLAYERS (walls_of CELLS (generator_of number)).1).0 seat_at ∙ d.count
 
 made_turns : (number : ℕ) → (made_session number).turns ≡ 200

@@ -1,5 +1,5 @@
 -- Going: a match of eight players over 200 turns step by step: what was counted is what their logs show.
-use Rattle.std.proofs.Common.{◌≡◌, inl, inr, ℕ, zero, suc, ◌+◌, ◌<◌, ◌≤◌, Bool, true, false, List, [], ◌∷◌, Option, Some, length, slice_get, refl, sym, ◌∙◌, ap, subst, length-append, arith}
+use Rattle.std.proofs.Common.{◌≡◌, inl, inr, ℕ, ◌+◌, ◌<◌, ◌≤◌, Bool, true, false, List, [], ◌∷◌, Option, Some, length, slice_get, refl, sym, ◌∙◌, ap, subst, length-append, arith}
 use Rattle.std.specs.Prelude.{option_map, ◌==◌}
 use Rattle.std.proofs.lemmas.Bool.{cases_eq, cases_lt, cond-false, cond-true, eq-eqb, false≢true, ne_eqb}
 use Rattle.plain_lemmas.proofs.Options.{some_of}
@@ -15,6 +15,7 @@ use Rattle.definitions.specs.Steps.{Choose, Deliver, Logs, after, after_choice, 
 use Rattle.definitions.specs.World.{Game, players_of}
 use Rattle.definition_laws.proofs.OwnLog.{own_honest}
 use Rattle.definition_laws.proofs.Standing.{made_count_most}
+use Rattle.definition_laws.proofs.Nexts.{some_at}
 use Rattle.schedule.proofs.Idling.{honest_within}
 use Rattle.make_command.proofs.Counted.{chosen_by, chosen_in, chosen_kept, chosen_more, entries_at, got_by, got_from_all, got_in_all, got_kept, got_more, log_off, log_on, log_stays}
 use Rattle.make_command.specs.Audits.{entries_by}
@@ -139,12 +140,6 @@ goes_chosen game logs chose came gone was_lost p h m n g at may legal =
       room = g.room;
     }
 
--- an item of a list
-item_at : (xs : List TurnFrame) (n : ℕ) → n < length xs → (f : TurnFrame) × (slice_get xs n ≡ Some f)
-item_at [] n lt = absurd (omega (arith, lt))
-item_at (f ∷ fs) zero lt = (f, refl)
-item_at (f ∷ fs) (suc n) lt = item_at fs n (omega (arith, lt))
-
 deliver_is : (game : Game) (logs : Logs) (p q place : ℕ) (h own : List Entry) (f : TurnFrame) → log_of logs p ≡ Some h → log_of logs q ≡ Some own → slice_get (made own) place ≡ Some f →
     after game logs (Deliver q p place) ≡ with_log logs p (Some (after_got game p h q f))
 deliver_is game logs p q place h own f at_p at_q at_f =
@@ -156,7 +151,7 @@ deliver_is game logs p q place h own f at_p at_q at_f =
 pub goes_delivered : (game : Game) (logs : Logs) (chose came gone : ℕ) (was_lost : Bool) (p q place : ℕ) → Goes game logs chose came gone was_lost → IsNext game logs p q place →
     Goes game (after game logs (Deliver q p place)) chose (came + 1) gone false
 goes_delivered game logs chose came gone was_lost p q place g x =
-    let f = item_at (made x.own) place x.low in
+    let f = some_at (made x.own) place x.low in
     let at_f : slice_get (made x.own) (length (got_of q x.h)) ≡ Some f.0 = ap (slice_get (made x.own)) (sym x.place_is) ∙ f.1 in
     let fits : Fits q x.own x.h = g.order p q x.h x.own x.at_p x.at_q x.other in
     let clean = clean_alone game logs p x.h g.sound x.at_p in
@@ -214,7 +209,7 @@ pub deliver_twice : (game : Game) (logs : Logs) (p q place k : ℕ) → AreSound
     after game (after game logs (Deliver q p k)) (Deliver q p place) ≡ after game logs (Deliver q p place)
 deliver_twice game logs p q place k w order x le = elim (cases_lt k place) [
   | inl lt ↦
-      let f = item_at (made x.own) k (let low = x.low in omega (arith, low, lt)) in
+      let f = some_at (made x.own) k (let low = x.low in omega (arith, low, lt)) in
       let place_is = x.place_is in
       let not_taken = taken_not game p q x.own x.h f.0 ahead honest x.other fits k f.1 (omega (arith, lt, place_is)) in
       let same : after game logs (Deliver q p k) ≡ logs =
@@ -222,7 +217,7 @@ deliver_twice game logs p q place k w order x le = elim (cases_lt k place) [
       ap (λ (ls : Logs). after game ls (Deliver q p place)) same
   | inr past ↦
       let same : k ≡ place = omega (arith, le, past) in
-      let f = item_at (made x.own) place x.low in
+      let f = some_at (made x.own) place x.low in
       let at_f : slice_get (made x.own) (length (got_of q x.h)) ≡ Some f.0 = ap (slice_get (made x.own)) (sym x.place_is) ∙ f.1 in
       let taken = taken_next game p q x.own x.h f.0 ahead honest x.other fits at_f x.inside (clean_alone game logs p x.h w x.at_p) in
       let got = got_one game p q x.h f.0 taken in

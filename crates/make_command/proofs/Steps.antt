@@ -1,5 +1,6 @@
 -- Steps: a match step by step, and how far its counts have come.
 use Rattle.std.proofs.Common.{◌≡◌, ◌≤◌, ◌<◌, ◌+◌, ◌-◌, ℕ, zero, suc, Bool, true, false, List, Option, None, Some, refl, sym, ap, ◌∙◌, arith}
+use Rattle.std.proofs.lemmas.Bool.{not-true, not-false}
 use Rattle.std.specs.Prelude.{not, ◌&&◌, ◌==◌, if◌then◌else◌}
 use Rattle.definitions.specs.declared.logs.Entry.{Entry}
 use Rattle.definitions.specs.Steps.{log_of}
@@ -67,25 +68,17 @@ within_next m Finished n w = later m.counts n w
 
 -- ---- a match that is played step by step
 
-not_true : (b : Bool) → not b ≡ true → b ≡ false
-not_true true e = absurd (let never : false ≡ true = e in cc)
-not_true false e = refl
-
-not_false : (b : Bool) → not b ≡ false → b ≡ true
-not_false true e = refl
-not_false false e = absurd (let never : true ≡ false = e in cc)
-
 -- where nothing came next, it is as it was and as it will be
 pub stopped : (n : ℕ) (m k end : Match) (on : Bool) → on ≡ false → on ≡ not (is_over (stand m.game m.logs)) → k ≡ next_by m (stand m.game m.logs) → played n m ≡ end → k ≡ end
 stopped n m k end on off is next rest =
-    let over : is_over (stand m.game m.logs) ≡ true = not_false (is_over (stand m.game m.logs)) (sym is ∙ off) in
+    let over : is_over (stand m.game m.logs) ≡ true = not-false (is_over (stand m.game m.logs)) (sym is ∙ off) in
     next ∙ over_stays m (stand m.game m.logs) over ∙ sym (played_over n m over) ∙ rest
 
 -- else one step less is left
 pub went_on : (n i : ℕ) (m k end : Match) (on : Bool) → i < n → on ≡ true → on ≡ not (is_over (stand m.game m.logs)) → k ≡ next_by m (stand m.game m.logs) → played (n - i) m ≡ end →
     played (n - (i + 1)) k ≡ end
 went_on n i m k end on lt so is next rest =
-    let not_over : is_over (stand m.game m.logs) ≡ false = not_true (is_over (stand m.game m.logs)) (sym is ∙ so) in
+    let not_over : is_over (stand m.game m.logs) ≡ false = not-true (is_over (stand m.game m.logs)) (sym is ∙ so) in
     let left : n - i ≡ suc (n - (i + 1)) = omega (arith, lt) in
     ap (played (n - (i + 1))) next ∙ sym (played_on (n - (i + 1)) m not_over) ∙ ap (λ (j : ℕ). played j m) (sym left) ∙ rest
 

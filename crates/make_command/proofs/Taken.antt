@@ -1,19 +1,19 @@
 -- Taken: an auditor takes the logs of a match's players one behind the other.
-use Rattle.std.proofs.Common.{◌≡◌, ◌⊎◌, inl, inr, ℕ, zero, suc, ◌+◌, ◌-◌, ◌<◌, ◌≤◌, true, false, List, [], ◌∷◌, ◌++◌, Option, None, Some, length, slice_get, get_or, take, map, refl, sym, ◌∙◌, ap, subst, append_assoc, append-nil, length-append, arith}
-use Rattle.std.specs.Prelude.{Err, IfOk, Ok, OnOk, Result, ◌&&◌, ◌==◌, is_some, nat_lt, not, replicate, unwrap_or, if◌then◌else◌}
+use Rattle.std.proofs.Common.{◌≡◌, ◌⊎◌, inl, inr, ℕ, zero, suc, ◌+◌, ◌-◌, ◌<◌, ◌≤◌, true, false, List, [], ◌∷◌, ◌++◌, Option, None, Some, length, slice_get, get_or, take, map, refl, sym, ◌∙◌, ap, subst, length-append, arith}
+use Rattle.std.specs.Prelude.{IfOk, OnOk, Result, is_some, not, replicate, unwrap_or, if◌then◌else◌}
 use Rattle.std.specs.declared.alloc.AllocError.{AllocError}
 use Rattle.std.specs.List.{range_with_len}
-use Rattle.std.proofs.lemmas.Bool.{and_parts, cases_lt}
+use Rattle.std.proofs.lemmas.Bool.{cases_lt}
 use Rattle.std.proofs.lemmas.List.FromFn.{length-map-range_with_len, map-range_with_len_more}
+use Rattle.std.proofs.lemmas.List.{get_or_past}
 use Rattle.definitions.specs.declared.logs.Entry.{Entry}
-use Rattle.definitions.specs.declared.logs.Entry.TheVariants.{Chose, Made, Got}
-use Rattle.definitions.specs.Answers.{is_of_another}
+use Rattle.definitions.specs.declared.logs.Entry.TheVariants.{Chose}
 use Rattle.definitions.specs.Entries.{AreWellFormed, is_well_formed}
 use Rattle.definitions.specs.Lists.{EachIs, item_or}
-use Rattle.definitions.specs.Logs.{player_of, turn_of}
 use Rattle.definitions.specs.Steps.{Logs, has_log, log_of}
 use Rattle.definitions.specs.World.{Game, players_of}
 use Rattle.definitions.specs.declared.limits.TheConstants.{LONGEST_LOG}
+use Rattle.definitions.proofs.Items.{item_is}
 use Rattle.definition_laws.specs.Stepping.{AreHonest}
 use Rattle.definition_laws.proofs.Listing.{EachIs_kept, take_more}
 use Rattle.definition_laws.proofs.Room.{logs_fit, room_small}
@@ -21,47 +21,17 @@ use Rattle.definition_laws.proofs.WellFormed.{honest_well_formed}
 use Rattle.grid_world.specs.Sessions.{IsSession}
 use Rattle.frame_index.specs.declared.limits.TheConstants.{MOST_LOGS}
 use Rattle.frame_index.specs.Appended.{with_entry}
+use Rattle.frame_index.proofs.Growing.{on_ok}
 use Rattle.auditor.specs.declared.auditor.Auditor.{Auditor}
 use Rattle.auditor.specs.Audits.{IsAuditOf, StandsFor, count_in, is_of_its_sender, owner_in, padded}
 use Rattle.auditor.specs.Taking.{Takes, with_entries}
 use Rattle.auditor.specs.declared.report.Report.{Report}
 use Rattle.auditor.specs.Agreed.{AreOwned}
 use Rattle.auditor.specs.Reports.{IsReportOf}
-use Rattle.auditor.proofs.Fed.{takes_more}
+use Rattle.auditor.proofs.Fed.{takes_more, well_sent}
+use Rattle.auditor.proofs.Behind.{item_last, item_more, next_log}
+use Rattle.auditor.proofs.Padded.{if_ok}
 use Rattle.make_command.specs.Audits.{HasTaken, HasTakenOf, IsReportOn, entries_by, logs_of, owner_by, owners_of}
-
--- entries at the end of the log behind these
-entry_behind : (done : List (List Entry)) (h : List Entry) (rest : List (List Entry)) (e : Entry) → with_entry (done ++ h ∷ rest) (length done) e ≡ done ++ (h ++ e ∷ []) ∷ rest
-entry_behind [] h rest e = refl
-entry_behind (d ∷ done) h rest e = ap (λ ls. d ∷ ls) (entry_behind done h rest e)
-
-entries_behind : (es : List Entry) (done : List (List Entry)) (h : List Entry) (rest : List (List Entry)) → with_entries (done ++ h ∷ rest) (length done) es ≡ done ++ (h ++ es) ∷ rest
-entries_behind [] done h rest = ap (λ x. done ++ x ∷ rest) (sym (append-nil h))
-entries_behind (e ∷ es) done h rest =
-    ap (λ ls. with_entries ls (length done) es) (entry_behind done h rest e) ∙ entries_behind es done (h ++ e ∷ []) rest ∙
-    ap (λ x. done ++ x ∷ rest) (append_assoc h (e ∷ []) es)
-
--- the first of the empty logs behind these is no longer empty
-next_log : (done : List (List Entry)) (es : List Entry) → length done < MOST_LOGS →
-    with_entries (padded done (MOST_LOGS - length done)) (length done) es ≡ padded (done ++ es ∷ []) (MOST_LOGS - length (done ++ es ∷ []))
-next_log done es few =
-    let n : ℕ = length done in
-    let long : length (done ++ es ∷ []) ≡ n + 1 = length-append done (es ∷ []) in
-    let left : MOST_LOGS - n ≡ suc (MOST_LOGS - (n + 1)) = omega (arith, few) in
-    let now : MOST_LOGS - length (done ++ es ∷ []) ≡ MOST_LOGS - (n + 1) = ap (λ k. MOST_LOGS - k) long in
-    let behind : List (List Entry) = replicate (MOST_LOGS - (n + 1)) [] in
-    ap (λ k. with_entries (padded done k) n es) left ∙ entries_behind es done [] behind ∙ sym (append_assoc done (es ∷ []) behind) ∙
-    ap (λ k. padded (done ++ es ∷ []) k) (sym now)
-
-item_more : (xs : List (Option ℕ)) (x : Option ℕ) (i : ℕ) → (i ≡ length xs → ⊥) → item_or (xs ++ x ∷ []) i None ≡ item_or xs i None
-item_more [] x zero not = absurd (not refl)
-item_more [] x (suc i) not = refl
-item_more (y ∷ xs) x zero not = refl
-item_more (y ∷ xs) x (suc i) not = item_more xs x i (λ e. not (ap suc e))
-
-item_last : (xs : List (Option ℕ)) (x : Option ℕ) → item_or (xs ++ x ∷ []) (length xs) None ≡ x
-item_last [] x = refl
-item_last (y ∷ xs) x = item_last xs x
 
 -- an auditor that stood for these logs stands for one more, of which it took these entries
 one_more_log : (game : Game) (owners : List (Option ℕ)) (logs : List (List Entry)) (a a' : Auditor) (number : ℕ) (es : List Entry) (o : Option ℕ) → number < MOST_LOGS → length logs ≡ number →
@@ -92,15 +62,7 @@ one_more_log game owners logs a a' number es o few long stands takes owner other
 
 -- past the logs there are no owners
 owner_past : (owners : List (Option ℕ)) (i : ℕ) → length owners ≤ i → item_or owners i None ≡ None
-owner_past [] i le = refl
-owner_past (x ∷ owners) zero le = absurd (omega (arith, le))
-owner_past (x ∷ owners) (suc i) le = owner_past owners i (omega (arith, le))
-
--- an entry that an owner may have is of its sender
-well_sent : (game : Game) (me : ℕ) (e : Entry) → is_well_formed game me e ≡ true → is_of_its_sender e ≡ true
-well_sent game me (Chose t m n) w = refl
-well_sent game me (Made f) w = refl
-well_sent game me (Got q f) w = (and_parts (nat_lt q (players_of game) && not (q == me)) (player_of f == q) (and_parts (nat_lt (turn_of f) game.turns) (is_of_another game me q f) w).1).1
+owner_past owners i le = sym (item_is owners i None) ∙ get_or_past owners i None le
 
 pub all_sent : (game : Game) (me : ℕ) (h : List Entry) → AreWellFormed game me h → EachIs (λ e. is_of_its_sender e ≡ true) h
 all_sent game me h w = EachIs_kept (λ e. is_well_formed game me e ≡ true) (λ e. is_of_its_sender e ≡ true) h (well_sent game me) w
@@ -175,10 +137,6 @@ taken_more a b c log i es lt t stands session counted others owners =
 
 -- ---- the log of a player, and the report
 
-on_ok : {X E P Q : Type 0} (r : Result X E) → (P → Q) → OnOk r P → OnOk r Q
-on_ok (Ok x) f p = f p
-on_ok (Err e) f p = p
-
 -- an honest log is short
 pub log_short : (game session : Game) (logs : Logs) (p : ℕ) (h : List Entry) (a b : Auditor) (k : ℕ) → IsSession session → session ≡ game → AreHonest game logs → p < players_of game → log_of logs p ≡ Some h → k ≡ p →
     HasTaken game logs p a → ((i : ℕ) → count_in b i ≡ count_in a i) → count_in b k + length h ≤ LONGEST_LOG
@@ -250,10 +208,6 @@ all_owned game logs ahead honest i o h at owner = go (log_of logs i) refl (item_
       where
         entries_is : (i : ℕ) (g : List Entry) → log_of logs i ≡ Some g → entries_by logs i ≡ g
         entries_is i g e = ap (λ (l : Option (List Entry)). unwrap_or l []) e
-
-if_ok : {X E : Type 0} {P Q : X → Type 0} (r : Result X E) → ((x : X) → P x → Q x) → IfOk r P → IfOk r Q
-if_ok (Ok x) f p = f x p
-if_ok (Err e) f p = p
 
 pub all_reported : (game session : Game) (logs : Logs) (n : ℕ) (a : Auditor) (r : Result Report AllocError) → IsSession session → session ≡ game → AreHonest game logs → players_of game ≤ n → n ≤ players_of game → HasTaken game logs n a →
     IfOk r (λ r. (g : Game) (owners : List (Option ℕ)) (ls : List (List Entry)) → StandsFor g owners ls a → IsReportOf g owners ls r) → IfOk r (IsReportOn game logs)

@@ -22,8 +22,9 @@ use Rattle.definition_laws.proofs.Alike.{move_eq_same}
 use Rattle.definition_laws.proofs.ForPeers.{own_moves, own_next}
 use Rattle.definition_laws.proofs.Listing.{slice_get_map, slice_get_take}
 use Rattle.definition_laws.proofs.Members.{Has_filter_map, Has_range}
-use Rattle.definition_laws.proofs.Nexts.{resolved_below}
+use Rattle.definition_laws.proofs.Nexts.{resolved_below, some_at}
 use Rattle.auditor.specs.Agreed.{agreed_move, agreed_moves, all_agreed_moves, are_whole, line_of, moves_given, one_move, resolved_at, resolved_by}
+use Rattle.auditor.proofs.Worlds.{item_range}
 use Rattle.playout.specs.Lockstep.{lockstep}
 use Rattle.schedule.specs.declared.stands.Stand.TheVariants.{Finished}
 use Rattle.schedule.specs.Stands.{stand}
@@ -36,17 +37,6 @@ use Rattle.make_command.proofs.InOrder.{InOrder, next_is_count}
 use Rattle.make_command.proofs.Lasts.{all_made, have_all, own_chosen}
 
 -- ---- lists
-
-opening_at : (xs : List Opening) (n : ℕ) → n < length xs → (o : Opening) × (slice_get xs n ≡ Some o)
-opening_at [] n lt = absurd (omega (arith, lt))
-opening_at (o ∷ os) zero lt = (o, refl)
-opening_at (o ∷ os) (suc n) lt = opening_at os n (omega (arith, lt))
-
--- the items of a function over numbers are the function's
-item_map : {X : Type 0} (f : ℕ → X) (a n i : ℕ) (d : X) → i < n → item_or (map f (range_with_len a n)) i d ≡ f (a + i)
-item_map f a zero i d lt = absurd (omega (arith, lt))
-item_map f a (suc n) zero d lt = ap f (omega arith)
-item_map f a (suc n) (suc i) d lt = item_map f (a + 1) n i d (omega (arith, lt)) ∙ ap f (omega arith)
 
 filter_whole : {X : Type 0} (f : ℕ → Option X) (a n : ℕ) → ((k : ℕ) → a ≤ k → k < a + n → is_some (f k) ≡ true) → length (filter_map f (range_with_len a n)) ≡ n
 filter_whole f a zero each = refl
@@ -120,7 +110,7 @@ module _ (game : Game) (logs : Logs) (w : AreSound game logs) (size : players_of
   -- by the move that the player chose
   module _ (q t : ℕ) (own : List Entry) (at_q : log_of logs q ≡ Some own) (below : q < 8) (early : t < 200) where
     opening : (o : Opening) × (slice_get (chosen q own) t ≡ Some o)
-    opening = opening_at (chosen q own) t (let long = own_chosen game logs w size turns order e q own at_q in omega (arith, long, early))
+    opening = some_at (chosen q own) t (let long = own_chosen game logs w size turns order e q own at_q in omega (arith, long, early))
 
     is_chosen : (p : ℕ) (h : List Entry) → log_of logs p ≡ Some h → p < 8 → (m : Move) → resolved game p h q t ≡ Some m → m ≡ opening.0.mv
     is_chosen p h at_p lt m came = elim (cases_eq q p) [
@@ -144,10 +134,10 @@ module _ (game : Game) (logs : Logs) (w : AreSound game logs) (size : players_of
 
     owner_is : (i : ℕ) → i < 8 → item_or (audited_owners game logs) i None ≡ Some i
     owner_is i lt =
-        item_map (owner_by logs) 0 (players_of game) i None (inside i lt) ∙ ap (owner_by logs) (omega arith) ∙ cond-true (has_log logs i) (Some i) None (w.all i (inside i lt))
+        item_range (owner_by logs) 0 (players_of game) i None (inside i lt) ∙ ap (owner_by logs) (omega arith) ∙ cond-true (has_log logs i) (Some i) None (w.all i (inside i lt))
 
     log_is : (i : ℕ) (h : List Entry) → i < 8 → log_of logs i ≡ Some h → item_or (audited_logs game logs) i [] ≡ h
-    log_is i h lt at = item_map (entries_by logs) 0 (players_of game) i [] (inside i lt) ∙ ap (entries_by logs) (omega arith) ∙ entries_at logs i h at
+    log_is i h lt at = item_range (entries_by logs) 0 (players_of game) i [] (inside i lt) ∙ ap (entries_by logs) (omega arith) ∙ entries_at logs i h at
 
     given_is : (i : ℕ) (h : List Entry) → i < 8 → log_of logs i ≡ Some h → resolved_at game (audited_owners game logs) (audited_logs game logs) q t i ≡ resolved game i h q t
     given_is i h lt at =

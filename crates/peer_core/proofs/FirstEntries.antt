@@ -1,7 +1,7 @@
 -- FirstEntries: the first entries of a log, and a peer's tables of them.
 use Rattle.std.proofs.Common.{◌≡◌, ℕ, suc, ◌+◌, ◌<◌, ◌≤◌, Bool, true, false, List, [], ◌∷◌, ◌++◌, refl, sym, ◌∙◌, ap, subst, arith, length, take, drop, get_or, append-nil, length-append}
 use Rattle.std.specs.Prelude.{None, Option, map, if◌then◌else◌, slice_get}
-use Rattle.std.proofs.lemmas.Bool.{and_parts, false≢true}
+use Rattle.std.proofs.lemmas.Bool.{and_parts}
 use Rattle.std.proofs.lemmas.List.{take-append-drop, take_more, take_all}
 use Rattle.definitions.specs.declared.world.Move.{Move}
 use Rattle.definitions.specs.declared.world.Track.{Track}
@@ -24,7 +24,7 @@ use Rattle.definitions.specs.Steps.{has_no_made}
 use Rattle.definition_laws.specs.First.{finding_of_log}
 use Rattle.definition_laws.proofs.ForPeers.{honest_last, honest_empty}
 use Rattle.definition_laws.proofs.Permits.{IsHonest_prefix}
-use Rattle.definition_laws.proofs.Listing.{flat_map_append}
+use Rattle.definition_laws.proofs.Listing.{flat_map_append, take_front, empty_nil}
 use Rattle.definition_laws.proofs.Room.{clean_none}
 use Rattle.grid_world.specs.Sessions.{IsSession}
 use Rattle.grid_world.proofs.Reveals.{ahead_least}
@@ -76,20 +76,12 @@ split_made : (n : ℕ) (h : List Entry) → made h ≡ made (take n h) ++ made (
 unfolding made
 split_made n h = ap (λ (l : List Entry). made l) (sym (take-append-drop n h)) ∙ flat_map_append made_in (take n h) (drop n h)
 
-take_front : {X : Type 0} (xs ys : List X) → take (length xs) (xs ++ ys) ≡ xs
-take_front [] ys = refl
-take_front (x ∷ xs) ys = ap (λ zs. x ∷ zs) (take_front xs ys)
-
 pub first_chosen : (me n k : ℕ) (h : List Entry) (os : List Opening) → os ≡ chosen me h → k ≡ length (chosen me (take n h)) → take k os ≡ chosen me (take n h)
 first_chosen me n k h os o e =
     ap (λ (xs : List Opening). take k xs) (o ∙ split_chosen me n h) ∙ ap (λ m. take m (chosen me (take n h) ++ chosen me (drop n h))) e ∙ take_front (chosen me (take n h)) (chosen me (drop n h))
 
-none_of_empty : {X : Type 0} (xs : List X) → is_empty xs ≡ true → xs ≡ []
-none_of_empty [] e = refl
-none_of_empty (x ∷ xs) e = absurd (false≢true e)
-
 pub first_made : (n : ℕ) (h : List Entry) → has_no_made (drop n h) ≡ true → made h ≡ made (take n h)
-first_made n h none = split_made n h ∙ ap (λ (fs : List TurnFrame). made (take n h) ++ fs) (none_of_empty (made (drop n h)) none) ∙ append-nil (made (take n h))
+first_made n h none = split_made n h ∙ ap (λ (fs : List TurnFrame). made (take n h) ++ fs) (empty_nil (made (drop n h)) none) ∙ append-nil (made (take n h))
 
 first_tracks : (game : Game) (track : Track) (ms ns : List Move) → take (length ms + 1) (tracks_from game track (ms ++ ns)) ≡ tracks_from game track ms
 first_tracks game track [] [] = refl

@@ -11,3 +11,4 @@ pub mod Replaying
 pub mod MadeFrames
 pub mod Cleared
 pub mod FirstEntries
+pub mod Stepped

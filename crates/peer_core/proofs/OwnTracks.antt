@@ -2,7 +2,7 @@
 use Rattle.std.proofs.Common.{◌≡◌, ℕ, zero, suc, ◌+◌, ◌≤◌, ◌<◌, List, [], ◌∷◌, ◌++◌, length, take, drop, refl, true, sym, ◌∙◌, ap, subst, arith, get_or, inl, inr}
 use Rattle.std.specs.Prelude.{map}
 use Rattle.std.proofs.lemmas.Bool.{and_parts, cases_lt}
-use Rattle.std.proofs.lemmas.List.{take-append-drop, length-map}
+use Rattle.std.proofs.lemmas.List.{take-append-drop, length-map, take-take}
 use Rattle.definitions.specs.declared.world.Move.{Move}
 use Rattle.definitions.specs.declared.world.Track.{Track}
 use Rattle.definitions.specs.declared.logs.Entry.{Entry}
@@ -39,13 +39,6 @@ pub tracks-push : (game : Game) (track : Track) (ms : List Move) (m : Move) → 
 tracks-push game track [] m = refl
 tracks-push game track (k ∷ ms) m = ap (λ ts. track ∷ ts) (tracks-push game (next_track game track k) ms m)
 
-take-take : {X : Type 0} (xs : List X) (i j : ℕ) → i ≤ j → take i (take j xs) ≡ take i xs
-take-take xs zero j h = refl
-take-take [] (suc i) zero h = refl
-take-take [] (suc i) (suc j) h = refl
-take-take (x ∷ xs) (suc i) zero h = absurd (omega arith)
-take-take (x ∷ xs) (suc i) (suc j) h = ap (λ ys. x ∷ ys) (take-take xs i j (omega arith))
-
 own-moves-legal : (game : Game) (me : ℕ) (h : List Entry) → 1 ≤ game.ahead → IsHonest game me h →
     are_legal_from game me (start_track game me) (map (λ o. o.mv) (chosen me h)) ≡ true
 own-moves-legal game me h d i = (own_honest game me h d i).legal
@@ -76,7 +69,7 @@ own_track_at game me t h tracks d a i are le =
     let enough = n.enough in
     let m = length-map (chosen me h) (λ o. o.mv) in
     let ms : List Move = map (λ o. o.mv) (chosen me h) in
-    let front : take t (known game me h me).moves ≡ take t ms = ap (take t) (own_moves game me h a i) ∙ take-take ms t (resolved_count game me h me) le in
+    let front : take t (known game me h me).moves ≡ take t ms = ap (take t) (own_moves game me h a i) ∙ take-take t (resolved_count game me h me) ms le in
     ap (λ (ts : List Track). (get_or ts t d).at) are ∙ ap (λ (t : Track). t.at) (tracks-at game (start_track game me) ms t d (omega arith)) ∙
     ap (λ (xs : List Move). (track_from game (start_track game me) xs).at) (sym front)
 
@@ -85,7 +78,7 @@ pub own_cell_open : (game : Game) (me t : ℕ) (h : List Entry) → 1 ≤ game.a
     t ≤ resolved_count game me h me → is_open game.grid (cell_before game me h me t) ≡ true
 own_cell_open game me t h a i o le =
     let ms : List Move = map (λ o. o.mv) (chosen me h) in
-    let front : take t (known game me h me).moves ≡ take t ms = ap (take t) (own_moves game me h a i) ∙ take-take ms t (resolved_count game me h me) le in
+    let front : take t (known game me h me).moves ≡ take t ms = ap (take t) (own_moves game me h a i) ∙ take-take t (resolved_count game me h me) ms le in
     let P : List Move → Type 0 = λ xs. is_open game.grid (track_from game (start_track game me) xs).at ≡ true in
     subst P (sym front) (moves_open game me (start_track game me) (take t ms) o (legal-front game me (start_track game me) ms t (own-moves-legal game me h a i)))
 

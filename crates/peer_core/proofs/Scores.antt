@@ -30,6 +30,7 @@ use Rattle.playout.specs.Lockstep.{AreLegalMoves, lockstep, moves_of, turn_moves
 use Rattle.playout.proofs.Counting.{missing_turn_alike, own_alike, same_score}
 use Rattle.playout.proofs.Standings.{each_long}
 use Rattle.definitions.proofs.Items.{item_is, map_item}
+use Rattle.dilation.proofs.Items.{item_front}
 use Rattle.peer_core.specs.Scoring.{Completes, moves_in, own_move, score_in, score_to}
 use Rattle.peer_core.specs.Settling.{AreSettled}
 
@@ -53,11 +54,6 @@ item_begun xs zero t d lt = absurd (omega arith)
 item_begun [] (suc n) t d lt = refl
 item_begun (y ∷ xs) (suc n) zero d lt = refl
 item_begun (y ∷ xs) (suc n) (suc t) d lt = item_begun xs n t d (omega arith)
-
-item_front : {X : Type 0} (xs ys : List X) (t : ℕ) (d : X) → t < length xs → item_or (xs ++ ys) t d ≡ item_or xs t d
-item_front [] ys t d lt = absurd (omega arith)
-item_front (x ∷ xs) ys zero d lt = refl
-item_front (x ∷ xs) ys (suc t) d lt = item_front xs ys t d (omega arith)
 
 range_length : (a n : ℕ) → length (range_with_len a n) ≡ n
 range_length a zero = refl

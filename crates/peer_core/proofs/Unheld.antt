@@ -9,7 +9,7 @@ use Rattle.definitions.specs.declared.logs.Entry.{Entry}
 use Rattle.definitions.specs.declared.answers.Need.{Need}
 use Rattle.definitions.specs.Lists.{item_or, is_empty}
 use Rattle.definitions.specs.World.{Game, players_of}
-use Rattle.definitions.specs.Held.{known, resolved, resolved_count}
+use Rattle.definitions.specs.Held.{known, resolved}
 use Rattle.definitions.specs.Meets.{cell_before, meets}
 use Rattle.definitions.specs.Honest.{lets_commit, others}
 use Rattle.dilation.specs.Dilated.{cell_of}
@@ -20,14 +20,11 @@ use Rattle.wait_rule.specs.declared.views.Stage.{Stage}
 use Rattle.wait_rule.specs.declared.views.Stage.TheVariants.{Reveal}
 use Rattle.wait_rule.specs.Shown.{AreLastCells, AreViews, IsView}
 use Rattle.wait_rule.specs.Waiting.{hinders, meets_at, need_in, need_of, needs_of, no_view}
+use Rattle.wait_rule.proofs.Hindering.{meets_is}
+use Rattle.wait_rule.proofs.ForPeers.{item_map}
 use Rattle.peer_core.specs.Settling.{unheld}
 
 -- ---- tables
-
-map_item : {X Y : Type 0} (f : X → Y) (xs : List X) (i : ℕ) (d : X) → item_or (map f xs) i (f d) ≡ f (item_or xs i d)
-map_item f [] i d = refl
-map_item f (x ∷ xs) zero d = refl
-map_item f (x ∷ xs) (suc i) d = map_item f xs i d
 
 map_same : {X Y : Type 0} (f : X → Y) (n : ℕ) (x : X) → map f (replicate n x) ≡ replicate n (f x)
 map_same f zero x = refl
@@ -56,12 +53,6 @@ hinders_unless true true = refl
 hinders_unless true false = refl
 hinders_unless false true = refl
 hinders_unless false false = refl
-
-meets_is : (game : Game) (me q t n : ℕ) (h : List Entry) (at from : Cell) → at ≡ cell_before game me h me t → n ≡ resolved_count game me h q → from ≡ last_cell game me h q → meets_at game me at q n from t ≡ meets game me h q t
-unfolding meets
-meets_is game me q t n h at from a r f =
-    ap (λ (c : Cell). meets_at game me c q n from t) a ∙ ap (λ (k : ℕ). meets_at game me (cell_before game me h me t) q k from t) r
-    ∙ ap (λ (c : Cell). meets_at game me (cell_before game me h me t) q (resolved_count game me h q) c t) f
 
 hinders_is : (game : Game) (me q t : ℕ) (h : List Entry) (at from : Cell) (v : View) → at ≡ cell_before game me h me t → IsView game me h q v → from ≡ last_cell game me h q →
     hinders game me (Reveal t at) q (unheld v) from ≡ not (lets_commit game me h t q)
@@ -105,5 +96,5 @@ unheld_lets game me t h at views unhelds cells needs shown are seen here is =
     ap (λ (ns : List Need). is_empty ns) (is ∙ ap (λ (vs : List View). needs_of game me (Reveal t at) vs cells) are)
     ∙ none_listed game me (Reveal t at) (map unheld views) cells (lets_commit game me h t) (players_of game) 0
     (λ q lt other. let below : q < players_of game = omega arith in
-    ap (λ (v : View). hinders game me (Reveal t at) q v (cell_of cells q)) (map_item unheld views q no_view)
+    ap (λ (v : View). hinders game me (Reveal t at) q v (cell_of cells q)) (item_map unheld views q no_view)
     ∙ hinders_is game me q t h at (cell_of cells q) (item_or views q no_view) here (shown q below other) (seen q below other))

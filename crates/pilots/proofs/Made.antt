@@ -211,7 +211,7 @@ pub record IsDrawnBy (number : ℕ) (walls starts : List Cell) : Type 0 where
   pub made : with_id (plain_game walls starts) ≡ made_session number
   pub reads : IsReadFrom (with_id (plain_game walls starts)) (session_text (plain_game walls starts))
 
-drawn_all : (number : ℕ) → IsDrawnBy number (walls_of CELLS (generator_of number)).0 (starts_of (walls_of CELLS (generator_of number)).0 PLAYERS (walls_of CELLS (generator_of number)).1).0
+pub drawn_all : (number : ℕ) → IsDrawnBy number (walls_of CELLS (generator_of number)).0 (starts_of (walls_of CELLS (generator_of number)).0 PLAYERS (walls_of CELLS (generator_of number)).1).0
 unfolding made_session
 drawn_all number =
     let walls = walls_of CELLS (generator_of number) in

@@ -1,14 +1,12 @@
 -- MoveLines: what the line of a move says, and how it is spelled.
-use Rattle.std.proofs.Common.{◌≡◌, ℕ, ◌+◌, ◌^◌, ◌<◌, ◌≤◌, true, false, List, [], ◌∷◌, ◌++◌, length, take, drop, Option, Some, None, refl, sym, ap, subst, ◌∙◌, arith}
-use Rattle.std.specs.Prelude.{◌&&◌, ◌==◌, nat_le, option_map}
-use Rattle.std.specs.Char.{is_ascii_digit}
-use Rattle.std.specs.Str.{all_ascii_digits}
+use Rattle.std.proofs.Common.{◌≡◌, ℕ, ◌^◌, ◌<◌, true, List, [], ◌∷◌, length, take, drop, Option, Some, None, refl, sym, ap, subst, ◌∙◌, arith}
+use Rattle.std.specs.Prelude.{◌&&◌, nat_le}
 use Rattle.std.specs.Fmt.{decimal}
-use Rattle.std.proofs.lemmas.Bool.{and_parts, le-leb, leb-true, ne_eqb}
+use Rattle.std.proofs.lemmas.Bool.{and_parts, le-leb, leb-true}
 use Rattle.std.proofs.lemmas.List.{drop_at, take_at}
 use Rattle.std.proofs.lemmas.Slice.Eq.{bytes_eq-Decides}
 use Rattle.byte_fields.specs.declared.numbers.Number.{Number}
-use Rattle.byte_fields.specs.Numbers.{digits_len, number_of}
+use Rattle.byte_fields.specs.Numbers.{digits_len}
 use Rattle.byte_fields.specs.Standing.{StandsAt, number_at}
 use Rattle.byte_fields.proofs.Decimals.{number_of-decimal, decimal_digits}
 use Rattle.byte_fields.proofs.Placed.{digits_len-digits, found_of}
@@ -20,18 +18,11 @@ use Rattle.definitions.specs.Openings.{FitsCell, FitsStrike}
 use Rattle.text_lines.specs.Lines.{field_at, fields_of, line_of, one_of, three_of}
 use Rattle.text_lines.proofs.Forms.{one_of-some, one_of-spelled, three_of-some, three_of-spelled}
 use Rattle.text_lines.proofs.Joined.{IsLine, has_no_lf, line_of-line}
+use Rattle.text_fields.proofs.Fields.{number_stands}
+use Rattle.text_fields.proofs.Plain.{number_plain}
 use Rattle.pilots.specs.Scripts.{FitsMove, cell_of, move_behind, move_line, move_of, move_said, step_to, strike_at, strike_numbers}
 
 -- ---- what is spelled is read
-
--- a number's digits, where no digit stands behind them
-number_stands : (n : ℕ) (rest : List ℕ) → n < 2 ^ 32 → digits_len rest ≡ 0 → number_at (decimal n ++ rest) 0 ≡ Some (record { value = n; end = length (decimal n) })
-number_stands n rest small none =
-    let text : List ℕ = decimal n ++ rest in
-    let read : ℕ → Option Number = λ k. option_map (λ v. record { value = v; end = 0 + k }) (number_of (take k text)) in
-    let front = take_at (decimal n) rest (length (decimal n)) refl in
-    let zero_plus : 0 + length (decimal n) ≡ length (decimal n) = omega arith in
-    ap read (digits_len-digits (decimal n) rest (decimal_digits n small) none) ∙ rw (front, number_of-decimal n small, zero_plus) refl
 
 cell_fits : (c : Cell) → FitsCell c → cell_of c.x c.y ≡ Some c
 cell_fits c fits = let x : nat_le c.x 65535 ≡ true = le-leb _ _ (omega (arith, fits.0)) in let y : nat_le c.y 65535 ≡ true = le-leb _ _ (omega (arith, fits.1)) in rw (x, y) refl
@@ -144,19 +135,11 @@ move_said-empty = refl
 
 -- ---- lines of a text
 
-digit_plain : (ds : List ℕ) → all_ascii_digits ds ≡ true → has_no_lf ds ≡ true
-digit_plain [] digits = refl
-digit_plain (d ∷ ds) digits =
-    let both = and_parts (is_ascii_digit d) (all_ascii_digits ds) digits in
-    let low : 48 ≤ d = leb-true 48 d (and_parts _ _ both.0).0 in
-    let other : (d == 10) ≡ false = ne_eqb d 10 (λ is. absurd (omega (arith, is))) in
-    rw other (digit_plain ds both.1)
-
 pub move_is_line : (mv : Move) → FitsMove mv → IsLine (move_line mv)
 move_is_line mv fits = go mv.strike fits.1
   where
     plain : has_no_lf (decimal mv.to.x) ≡ true
-    plain = digit_plain (decimal mv.to.x) (decimal_digits mv.to.x (omega (arith, fits.0.0)))
+    plain = number_plain mv.to.x (omega (arith, fits.0.0))
 
     go : (s : Option Cell) → FitsStrike s → IsLine (move_line (record { to = mv.to; strike = s }))
     go None f = line_of-line (decimal mv.to.x) (mv.to.y ∷ []) plain (omega (arith, fits.0.1), tt)

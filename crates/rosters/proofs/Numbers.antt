@@ -1,28 +1,19 @@
 -- Numbers: a number before a mark is read, and what is read stands there.
-use Rattle.std.proofs.Common.{◌≡◌, ℕ, ◌+◌, ◌<◌, ◌≤◌, ◌^◌, true, false, List, [], ◌∷◌, ◌++◌, length, take, drop, Option, Some, None, refl, sym, ap, subst, ◌∙◌, append_assoc, arith, length-append}
-use Rattle.std.specs.Prelude.{◌&&◌, ◌==◌, nat_le, nat_lt, option_map, slice_index}
+use Rattle.std.proofs.Common.{◌≡◌, ℕ, ◌+◌, ◌<◌, ◌≤◌, ◌^◌, true, false, List, [], ◌∷◌, ◌++◌, length, drop, Option, Some, None, refl, sym, ap, subst, ◌∙◌, append_assoc, arith, length-append}
+use Rattle.std.specs.Prelude.{◌&&◌, ◌==◌, nat_le, nat_lt, slice_index}
 use Rattle.std.specs.Char.{is_ascii_digit}
 use Rattle.std.specs.Fmt.{decimal}
 use Rattle.std.proofs.lemmas.Bool.{and_parts, eqb-true, eq-eqb, leb-true, le-leb, ltb-true, lt-ltb}
-use Rattle.std.proofs.lemmas.List.{drop_at, drop_more, take_at}
+use Rattle.std.proofs.lemmas.List.{drop_at, drop_more}
 use Rattle.std.proofs.lemmas.Option.{same_Some}
 use Rattle.std.proofs.Math.Seq.{get_or-append_seam}
 use Rattle.byte_fields.specs.declared.numbers.Number.{Number}
-use Rattle.byte_fields.specs.Numbers.{digits_len, number_of}
+use Rattle.byte_fields.specs.Numbers.{digits_len}
 use Rattle.byte_fields.specs.Standing.{number_at}
-use Rattle.byte_fields.proofs.Decimals.{decimal_digits, number_of-decimal}
-use Rattle.byte_fields.proofs.Placed.{digits_len-digits, found_of}
+use Rattle.byte_fields.proofs.Placed.{found_of}
 use Rattle.plain_lemmas.proofs.Options.{when_some}
+use Rattle.text_fields.proofs.Fields.{number_stands}
 use Rattle.rosters.specs.Fields.{before_mark, is_marked, number_then}
-
--- a number's digits, where no digit stands behind them
-number_stands : (n : ℕ) (rest : List ℕ) → n < 2 ^ 32 → digits_len rest ≡ 0 → number_at (decimal n ++ rest) 0 ≡ Some (record { value = n; end = length (decimal n) })
-number_stands n rest small none =
-    let text : List ℕ = decimal n ++ rest in
-    let read : ℕ → Option Number = λ k. option_map (λ v. record { value = v; end = 0 + k }) (number_of (take k text)) in
-    let front = take_at (decimal n) rest (length (decimal n)) refl in
-    let zero_plus : 0 + length (decimal n) ≡ length (decimal n) = omega arith in
-    ap read (digits_len-digits (decimal n) rest (decimal_digits n small) none) ∙ rw (front, number_of-decimal n small, zero_plus) refl
 
 pub number_read : (mark limit n : ℕ) (rest : List ℕ) → is_ascii_digit mark ≡ false → n ≤ limit → limit < 2 ^ 32 → number_then mark limit (decimal n ++ mark ∷ rest) ≡ Some (n, rest)
 unfolding number_then

@@ -1,15 +1,11 @@
 -- Plain: the lines of a roster have no LF but their last byte, so they are the lines of the text that they make.
-use Rattle.std.proofs.Common.{◌≡◌, ℕ, suc, ◌^◌, ◌<◌, ◌≤◌, Bool, true, false, List, [], ◌∷◌, ◌++◌, refl, sym, ap, subst, arith, inl, inr}
-use Rattle.std.specs.Prelude.{◌&&◌, ◌==◌, codes, nat_le, not}
-use Rattle.std.specs.List.{list_all}
-use Rattle.std.specs.Char.{is_ascii_digit}
-use Rattle.std.specs.Str.{all_ascii_digits}
+use Rattle.std.proofs.Common.{◌≡◌, ℕ, suc, ◌^◌, ◌<◌, Bool, true, false, List, [], ◌∷◌, ◌++◌, refl, sym, ap, subst, arith}
+use Rattle.std.specs.Prelude.{◌&&◌, ◌==◌, codes, not}
 use Rattle.std.specs.Fmt.{decimal}
-use Rattle.std.proofs.lemmas.Bool.{and_from, and_parts, eqb-true, leb-true, ne_eqb, or_cases}
+use Rattle.std.proofs.lemmas.Bool.{and_from, and_parts, eqb-true}
 use Rattle.hex.specs.Hex.{IsBytes, encode_lower}
-use Rattle.byte_fields.proofs.Decimals.{decimal_digits}
-use Rattle.text_fields.specs.Hexes.{is_lower_digit}
 use Rattle.text_fields.proofs.Digits.{digits_lower}
+use Rattle.text_fields.proofs.Plain.{digits_plain, number_plain}
 use Rattle.text_lines.proofs.Joined.{IsLine, bare_line, has_no_lf}
 use Rattle.rosters.specs.declared.roster.Link.{Link}
 use Rattle.rosters.specs.Addrs.{Addr}
@@ -46,32 +42,8 @@ plain_then (b ∷ c ∷ front) rest plain once =
     let both = and_parts (not (b == 10)) (has_no_lf (c ∷ front)) plain in
     and_from _ _ both.0 (plain_then (c ∷ front) rest both.1 once)
 
-digits_plain : (ds : List ℕ) → all_ascii_digits ds ≡ true → has_no_lf ds ≡ true
-digits_plain [] digits = refl
-digits_plain (d ∷ ds) digits =
-    let both = and_parts (is_ascii_digit d) (all_ascii_digits ds) digits in
-    let low : 48 ≤ d = leb-true 48 d (and_parts _ _ both.0).0 in
-    let other : (d == 10) ≡ false = ne_eqb d 10 (λ is. absurd (omega (arith, is))) in
-    rw other (digits_plain ds both.1)
-
-number_plain : (n : ℕ) → n < 2 ^ 32 → has_no_lf (decimal n) ≡ true
-number_plain n small = digits_plain (decimal n) (decimal_digits n small)
-
-hex_plain : (b : ℕ) → is_lower_digit b ≡ true → (b == 10) ≡ false
-hex_plain b h =
-    elim (or_cases (is_ascii_digit b) (nat_le 97 b && nat_le b 102) h) [
-      | inl low ↦ let least : 48 ≤ b = leb-true 48 b (and_parts _ _ low).0 in ne_eqb b 10 (λ e. absurd (omega arith))
-      | inr high ↦ let least : 97 ≤ b = leb-true 97 b (and_parts (nat_le 97 b) (nat_le b 102) high).0 in ne_eqb b 10 (λ e. absurd (omega arith))
-    ]
-
-hexes_plain : (ds : List ℕ) → list_all is_lower_digit ds ≡ true → has_no_lf ds ≡ true
-hexes_plain [] all = refl
-hexes_plain (d ∷ ds) all =
-    let both = and_parts (is_lower_digit d) (list_all is_lower_digit ds) all in
-    rw (hex_plain d both.0) (hexes_plain ds both.1)
-
 pass_plain : (pass : List ℕ) → FitsPass pass → has_no_lf (encode_lower pass) ≡ true
-pass_plain pass fits = hexes_plain (encode_lower pass) (digits_lower pass fits.1)
+pass_plain pass fits = digits_plain (encode_lower pass) (digits_lower pass fits.1)
 
 -- a mark in front
 mark_then : (mark : ℕ) (rest : List ℕ) → (mark == 10) ≡ false → ends_once rest ≡ true → ends_once (mark ∷ rest) ≡ true

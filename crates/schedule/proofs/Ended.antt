@@ -1,8 +1,8 @@
 -- Ended: what a stand says of the logs: whether one has a finding, and how far the place of a frame that is lacked can be.
-use Rattle.std.proofs.Common.{◌≡◌, ◌*◌, ◌<◌, ◌≤◌, ℕ, Bool, true, false, List, [], ◌∷◌, Option, None, Some, length, refl, sym, ◌∙◌, ap, subst, arith}
-use Rattle.std.specs.Prelude.{find, nat_lt, not, option_map}
+use Rattle.std.proofs.Common.{◌≡◌, ◌*◌, ◌<◌, ◌≤◌, ℕ, true, false, List, [], ◌∷◌, Option, None, Some, length, refl, sym, ◌∙◌, ap, subst, arith}
+use Rattle.std.specs.Prelude.{find, nat_lt, option_map}
 use Rattle.std.specs.Option.{option_or}
-use Rattle.std.proofs.lemmas.Bool.{ltb-true}
+use Rattle.std.proofs.lemmas.Bool.{ltb-true, not-true, not-false}
 use Rattle.definitions.specs.declared.logs.Entry.{Entry}
 use Rattle.definitions.specs.Findings.{is_clean}
 use Rattle.definitions.specs.Held.{next_place}
@@ -61,14 +61,6 @@ module _ (game : Game) (logs : Logs) (ahead : 1 ≤ game.ahead) (honest : AreHon
 
 -- ---- whether a log has a finding
 
-not_true : (b : Bool) → not b ≡ true → b ≡ false
-not_true true f = absurd (let never : false ≡ true = f in cc)
-not_true false f = refl
-
-not_false : (b : Bool) → not b ≡ false → b ≡ true
-not_false true f = refl
-not_false false f = absurd (let never : true ≡ false = f in cc)
-
 caught_there : (a m : Option ℕ) (g : Option Gap) (c : Option ℕ) (p : ℕ) → stand_by a m g c ≡ Caught p → a ≡ Some p
 caught_there (Some q) m g c p e = cc
 caught_there None (Some q) g c p e = cc
@@ -86,7 +78,7 @@ module _ (game : Game) (logs : Logs) where
     where
       go : (o : Option (List Entry)) → log_of logs p ≡ o → has_finding game o ≡ true → (h : List Entry) × (log_of logs p ≡ Some h) × (is_clean game h ≡ false)
       go None at f = absurd (let never : false ≡ true = f in cc)
-      go (Some h) at f = (h, at, not_true (is_clean game h) f)
+      go (Some h) at f = (h, at, not-true (is_clean game h) f)
 
   -- where nobody is caught, no log has
   pub stand_clean : AreFair game logs → ((p : ℕ) → stand game logs ≡ Caught p → ⊥) → (p : ℕ) (h : List Entry) → log_of logs p ≡ Some h → is_clean game h ≡ true
@@ -100,4 +92,4 @@ module _ (game : Game) (logs : Logs) where
       go (Some q) e = absurd (none q (caught q e))
       go None e =
           let lt : p < players_of game = omega (arith, honest_within logs p h at, fair.one_each) in
-          not_false (is_clean game h) (sym (ap (has_finding game) at) ∙ find-range-none (is_caught game logs) 0 (players_of game) p e (omega arith) (omega arith))
+          not-false (is_clean game h) (sym (ap (has_finding game) at) ∙ find-range-none (is_caught game logs) 0 (players_of game) p e (omega arith) (omega arith))

@@ -40,11 +40,6 @@ first_fails {Y = Y} f a (suc n) k e le lt = go (f a) refl e (λ e le lt. first_f
       | inr differs ↦ ih e (omega (arith, differs)) (omega arith)
     ]
 
-pub fails_first : {Y : Type 0} (f : ℕ → Option Y) (a n : ℕ) → ((k : ℕ) → a ≤ k → k < a + n → f k ≡ None) → first_of f (range_with_len a n) ≡ None
-fails_first f a zero none = refl
-fails_first f a (suc n) none =
-    ap (λ o. option_or o (first_of f (range_with_len (a + 1) n))) (none a (omega arith) (omega arith)) ∙ fails_first f (a + 1) n (λ k le lt. none k (omega arith) (omega arith))
-
 pub any_fails : (test : ℕ → Bool) (a n k : ℕ) → list_any test (range_with_len a n) ≡ false → a ≤ k → k < a + n → test k ≡ false
 any_fails test a zero k e le lt = absurd (omega arith)
 any_fails test a (suc n) k e le lt = go (test a) refl e (λ e le lt. any_fails test (a + 1) n k e le lt)

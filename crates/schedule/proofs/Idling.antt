@@ -2,7 +2,7 @@
 use Rattle.std.proofs.Common.{◌≡◌, ℕ, zero, suc, ◌+◌, ◌-◌, ◌*◌, ◌<◌, ◌≤◌, ◌⊎◌, Bool, true, false, List, [], ◌∷◌, length, refl, sym, ap, ◌∙◌, subst, arith, inl, inr, Option, Some, None}
 use Rattle.std.specs.Prelude.{filter, find, map, min, not, option_map, ◌&&◌, ◌||◌, ◌==◌, if◌then◌else◌}
 use Rattle.std.specs.List.{list_any, range_with_len}
-use Rattle.std.proofs.lemmas.Bool.{cases_eq, eq-eqb, false≢true, le-ltb, ltb-false, ne_eqb}
+use Rattle.std.proofs.lemmas.Bool.{cases_eq, eq-eqb, false≢true, le-ltb, ltb-false, ne_eqb, not-false}
 use Rattle.plain_lemmas.proofs.Options.{some_of}
 use Rattle.definitions.specs.declared.answers.Need.{Need}
 use Rattle.definitions.specs.declared.frames.What.TheVariants.{Reveal}
@@ -21,16 +21,17 @@ use Rattle.definition_laws.specs.Groups.{IsStill}
 use Rattle.definition_laws.specs.Advancing.{ExactlyOne, IsDone}
 use Rattle.definition_laws.specs.Stepping.{AreHonest}
 use Rattle.definition_laws.proofs.ForPeers.{own_next}
-use Rattle.definition_laws.proofs.Groups.{needed_is_behind}
+use Rattle.definition_laws.proofs.Groups.{needed_is_behind, done_where_still}
 use Rattle.definition_laws.proofs.Members.{Has_each, Has_filter, Has_range, each_Has, range_Has}
 use Rattle.definition_laws.proofs.Nexts.{known_orderly}
 use Rattle.definitions.proofs.Streams.{find-range-none, slot_at-past}
 use Rattle.definition_laws.proofs.Standing.{made_count_most, stands_one_way}
+use Rattle.definition_laws.proofs.FirstFinding.{first_none_in}
 use Rattle.schedule.specs.declared.stands.Gap.{Gap}
 use Rattle.schedule.specs.declared.stands.Stand.TheVariants.{Finished}
 use Rattle.schedule.specs.Stands.{AreAllDone, gap_in, gap_of, has_choice, has_finding, has_made, is_ahead_of, is_caught, is_holding, is_moving, is_waited_for, players, stand, stand_by, waits_for}
 use Rattle.schedule.specs.Tables.{AreFair}
-use Rattle.schedule.proofs.Firsts.{any_fails, fails_any, fails_find, fails_first, first_fails}
+use Rattle.schedule.proofs.Firsts.{any_fails, fails_any, fails_find, first_fails}
 
 -- no honest player lacks the next frame of another one that this one made
 abbrev pub NoneBehind : Game → Logs → Type 0
@@ -39,14 +40,6 @@ NoneBehind game logs = (p q : ℕ) (h g : List Entry) → log_of logs p ≡ Some
 -- each honest player stands still
 abbrev pub AreStill : Game → Logs → Type 0
 AreStill game logs = (p : ℕ) (h : List Entry) → log_of logs p ≡ Some h → IsStill game logs p h
-
-done_if_none : (game : Game) (logs : Logs) (p : ℕ) (h : List Entry) → 1 ≤ game.ahead → IsHonest game p h → IsStill game logs p h → needs game p h ≡ [] → IsDone game p h
-done_if_none game logs p h d i still none = go (stands_one_way game p h d i still.clean still.makes)
-  where
-    go : ExactlyOne (may_choose game p h ≡ true) (needs game p h ≡ [] → ⊥) (IsDone game p h) → IsDone game p h
-    go (inl w) = absurd (still.chooses w.0)
-    go (inr (inl w)) = absurd (w.1 none)
-    go (inr (inr w)) = w.2
 
 -- no player with fewer made frames than this waits: whom it waits for made fewer, so waits for no one, and has made them all
 none_waits : (game : Game) (logs : Logs) (most p : ℕ) (h : List Entry) → 1 ≤ game.ahead → AreHonest game logs → NoneBehind game logs → AreStill game logs → log_of logs p ≡ Some h → made_count h < most → needs game p h ≡ []
@@ -62,7 +55,7 @@ none_waits game logs (suc most) p h d honest behind still at few =
         let counts = behind p n.player h own.0 at own.1 in
         let next = less.1 in
         let all = made_count_most game p h d (honest p h at) in
-        let done = done_if_none game logs n.player own.0 d (honest n.player own.0 own.1) (still n.player own.0 own.1) (ih n.player own.0 own.1 (omega arith)) in
+        let done = done_where_still game logs n.player own.0 d (honest n.player own.0 own.1) (still n.player own.0 own.1) (ih n.player own.0 own.1 (omega arith)) in
         let whole = done.0 in
         omega arith
 
@@ -73,7 +66,7 @@ none_waits game logs (suc most) p h d honest behind still at few =
 pub done_where_none_is_behind : (game : Game) (logs : Logs) → 1 ≤ game.ahead → AreHonest game logs → NoneBehind game logs → AreStill game logs → AreAllDone game logs
 done_where_none_is_behind game logs d honest behind still p h at =
     let s = still p h at in
-    (s.clean, done_if_none game logs p h d (honest p h at) s (none_waits game logs (made_count h + 1) p h d honest behind still at (omega arith)))
+    (s.clean, done_where_still game logs p h d (honest p h at) s (none_waits game logs (made_count h + 1) p h d honest behind still at (omega arith)))
 
 -- ---- what a finished stand says
 
@@ -112,15 +105,11 @@ none_finished game logs w = go (find (is_caught game logs) (players game)) (find
     go None (Some p) g c x y z w = cc
     go (Some p) b g c x y z w = cc
 
-not_false : (b : Bool) → not b ≡ false → b ≡ true
-not_false true e = refl
-not_false false e = absurd (false≢true (sym e))
-
 -- an honest player is clean and may not choose
 none_caught : (game : Game) (logs : Logs) (p : ℕ) (h : List Entry) → AreFair game logs → NoneThere game logs → log_of logs p ≡ Some h → is_clean game h ≡ true
 none_caught game logs p h a w at =
     let lt : p < players_of game = omega (arith, honest_within logs p h at, a.one_each) in
-    not_false _ (sym (ap (has_finding game) at) ∙ find-range-none (is_caught game logs) 0 (players_of game) p w.caught (omega arith) (omega arith))
+    not-false _ (sym (ap (has_finding game) at) ∙ find-range-none (is_caught game logs) 0 (players_of game) p w.caught (omega arith) (omega arith))
 
 none_moving : (game : Game) (logs : Logs) (p : ℕ) (h : List Entry) → AreFair game logs → NoneThere game logs → log_of logs p ≡ Some h → may_choose game p h ≡ false
 none_moving game logs p h a w at =
@@ -244,7 +233,7 @@ pub done_finished : (game : Game) (logs : Logs) → 1 ≤ game.ahead → AreFair
 done_finished game logs d a all = none_finished game logs (record {
   caught = fails_find (is_caught game logs) 0 (players_of game) (λ p le lt. caught p (log_of logs p) refl);
   moving = fails_find (is_moving game logs) 0 (players_of game) (λ p le lt. moving p (log_of logs p) refl);
-  gap = fails_first (gap_of game logs) 0 (players_of game) (λ p le lt. gap p (log_of logs p) refl);
+  gap = first_none_in (gap_of game logs) 0 (players_of game) (λ p le lt. gap p (log_of logs p) refl);
   holding = fails_find (is_holding game logs) 0 (players_of game) (λ q le lt. unheld (not (has_log logs q)) (is_waited_for game logs q)
       (fails_any (λ p. waits_for game p (log_of logs p) q) 0 (players_of game) (λ p le lt. waits p q (log_of logs p) refl)));
 })

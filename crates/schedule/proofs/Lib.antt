@@ -1,4 +1,3 @@
-pub mod Chosen
 pub mod Sitting
 pub mod Fairness
 pub mod Firsts

@@ -23,7 +23,7 @@ use Rattle.schedule.specs.declared.steps.StepAnswer.{StepAnswer}
 use Rattle.schedule.specs.declared.steps.StepAnswer.TheVariants as A
 use Rattle.schedule.specs.Steps.{answer, choice_answer, chosen_or, frame_answer, if_honest, is_refusal, meant, stop_answer}
 use Rattle.schedule.specs.Tables.{IsStepped, TableState}
-use Rattle.schedule.proofs.Chosen.{choice_kept}
+use Rattle.peer_core.proofs.Stepped.{choice_refused}
 
 -- a log that becomes what it is leaves the logs
 same_log : (logs : Logs) (p : ℕ) (x : Option (List Entry)) → x ≡ log_of logs p → with_log logs p x ≡ logs
@@ -37,7 +37,7 @@ choice_same game p mv nonce (Some h) e = go (choice_fault game p h mv) refl e
   where
     go : (f : Option OwnFault) → choice_fault game p h mv ≡ f → is_refusal (chosen_or (length (chosen p h)) f) ≡ true → Some (after_choice game p h mv nonce) ≡ Some h
     go None k e = absurd (false≢true e)
-    go (Some f) k e = let one : List Entry → Option (List Entry) = λ x. Some x in ap one (choice_kept game p h mv nonce f k)
+    go (Some f) k e = let one : List Entry → Option (List Entry) = λ x. Some x in ap one (choice_refused game p h mv nonce f k)
 
 got_same : (game : Game) (p q : ℕ) (h : List Entry) (f : TurnFrame) → not (is_logged (got_answer game p h q f)) ≡ true → after_got game p h q f ≡ h
 got_same game p q h f e = go (is_taken_in game p h q f) (ap not (sym (logged_is game p h q f)) ∙ e)

@@ -23,7 +23,7 @@ use Rattle.plain_lemmas.proofs.Options.{some_when, when_some}
 -- ---- what is spelled is read
 
 -- a number's digits, where no digit stands behind them
-number_stands : (n : ℕ) (rest : List ℕ) → n < 2 ^ 32 → digits_len rest ≡ 0 →
+pub number_stands : (n : ℕ) (rest : List ℕ) → n < 2 ^ 32 → digits_len rest ≡ 0 →
     number_at (decimal n ++ rest) 0 ≡ Some (record { value = n; end = length (decimal n) })
 number_stands n rest small none =
     let text : List ℕ = decimal n ++ rest in

@@ -14,7 +14,7 @@ use Rattle.dilation.proofs.Items.{item_set, item_set_other}
 use Rattle.definition_laws.specs.Distances.{last_cell}
 use Rattle.wait_rule.specs.Shown.{AreLastCells}
 
-item_map : {X Y : Type 0} (f : X → Y) (xs : List X) (i : ℕ) (d : X) → item_or (map f xs) i (f d) ≡ f (item_or xs i d)
+pub item_map : {X Y : Type 0} (f : X → Y) (xs : List X) (i : ℕ) (d : X) → item_or (map f xs) i (f d) ≡ f (item_or xs i d)
 item_map f [] i d = refl
 item_map f (x ∷ xs) zero d = refl
 item_map f (x ∷ xs) (suc i) d = item_map f xs i d

@@ -37,7 +37,7 @@ some_is (x ∷ xs) (suc t) = let ih = some_is xs t in ih ∙ next t (length xs)
     next m n = grind (arith, nat_tests)
 
 -- a player meets the owner by the cells at which they were last seen
-meets_is : (game : Game) (me q t resolved : ℕ) (h : List Entry) (at from : Cell) → at ≡ cell_before game me h me t → resolved ≡ resolved_count game me h q → from ≡ last_cell game me h q →
+pub meets_is : (game : Game) (me q t resolved : ℕ) (h : List Entry) (at from : Cell) → at ≡ cell_before game me h me t → resolved ≡ resolved_count game me h q → from ≡ last_cell game me h q →
     meets_at game me at q resolved from t ≡ meets game me h q t
 unfolding meets
 meets_is game me q t resolved h at from a r f =

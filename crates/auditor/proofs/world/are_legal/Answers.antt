@@ -1,10 +1,10 @@
-use Rattle.std.proofs.Common.{Bool, ap, arith, false, inl, inr, subst, sym, true, ℕ, ◌<◌, ◌∙◌, ◌≡◌}
+use Rattle.std.proofs.Common.{ap, arith, false, inl, inr, subst, sym, true, ℕ, ◌∙◌, ◌≡◌}
 use Rattle.std.specs.Prelude.{not}
-use Rattle.std.proofs.lemmas.Bool.{cases_lt, false≢true}
+use Rattle.std.proofs.lemmas.Bool.{cases_lt, false≢true, not-false}
 use Rattle.definitions.specs.Moves.{IsLegal, is_legal}
 use Rattle.playout.specs.Hits.{move_of, no_move}
 use Rattle.playout.specs.Playing.{standing_of}
-use Rattle.auditor.proofs.Worlds.{item_any, not_false, refused}
+use Rattle.auditor.proofs.Worlds.{item_any, refused}
 use Rattle.auditor.proofs.world.are_legal.Goals as goal
 
 pub returns-then-is_err-clause-no : goal.returns-then-is_err-clause-no
@@ -35,6 +35,6 @@ loop-player-preserved c = record {
         let kept : not (is_legal game player c.world_at-track.result _) ≡ false =
         refused game player c.world_at-track.result _ c.legal.result c.is_err.result c.legal.ensures c.is_err.ensures.value ∙ c.if-is_err.false in
         subst (λ (p : ℕ). IsLegal game p (standing_of c.args.playout.now p).track (move_of c.args.moves.now p)) (sym is)
-        ((λ i. is_legal game player (sym c.world_at-track.ensures i) (sym item i)) ∙ not_false _ kept)
+        ((λ i. is_legal game player (sym c.world_at-track.ensures i) (sym item i)) ∙ not-false _ kept)
   ];
 }

@@ -1,8 +1,8 @@
-use Rattle.std.proofs.Common.{List, ap, arith, suc, sym, subst, ℕ, ◌+◌, ◌∙◌, ◌≡◌, false, true, map}
+use Rattle.std.proofs.Common.{List, ap, arith, sym, subst, ℕ, ◌+◌, ◌∙◌, ◌≡◌, map}
 use Rattle.std.proofs.lemmas.Bool.{false≢true}
 use Rattle.definitions.specs.declared.world.Move.{Move}
-use Rattle.playout.specs.Lockstep.{AreLegalMoves, turn_moves}
-use Rattle.playout.specs.Playing.{AreLegalNow, IsLockstep, Played, standing_of}
+use Rattle.playout.specs.Lockstep.{turn_moves}
+use Rattle.playout.specs.Playing.{AreLegalNow, Played}
 use Rattle.auditor.specs.Played.{AreOpen, moves_at}
 use Rattle.auditor.proofs.Worlds.{fresh_open, moves_are, turn_open}
 use Rattle.auditor.proofs.world.play.Goals as goal

@@ -1,11 +1,5 @@
-use Rattle.std.proofs.Common.{List, Some, ap, sym, ◌∙◌, ◌≡◌, Bool, Option, map, arith, length}
-use Rattle.std.specs.Prelude.{if◌then◌else◌}
-use Rattle.definitions.specs.Lists.{item_or}
-use Rattle.playout.specs.declared.standing.Standing.{Standing}
-use Rattle.playout.specs.Lockstep.{lockstep}
-use Rattle.playout.specs.Playing.{no_standing}
+use Rattle.std.proofs.Common.{List, ap, sym, ◌∙◌, map, arith}
 use Rattle.auditor.specs.declared.world.WorldLine.{WorldLine}
-use Rattle.auditor.specs.Agreed.{line_of, world_by}
 use Rattle.auditor.specs.Played.{line_at}
 use Rattle.auditor.proofs.Worlds.{line_is, whole_world}
 use Rattle.auditor.proofs.world.world.Goals as goal

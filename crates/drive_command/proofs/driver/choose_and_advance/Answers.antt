@@ -2,7 +2,7 @@ use Rattle.std.proofs.Common.{List, ap, sym, ◌∙◌}
 use Rattle.definitions.specs.declared.logs.Entry.{Entry}
 use Rattle.definitions.specs.Advance.{advance}
 use Rattle.peer_core.specs.Views.{PeerState}
-use Rattle.drive_command.proofs.Choices.{choice_refused, choice_taken}
+use Rattle.peer_core.proofs.Stepped.{choice_refused, choice_taken}
 use Rattle.drive_command.proofs.driver.choose_and_advance.Goals as goal
 
 pub returns-in-Err-clause-after : goal.returns-in-Err-clause-after

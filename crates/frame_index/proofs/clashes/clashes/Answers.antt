@@ -1,9 +1,6 @@
-use Rattle.std.proofs.Common.{◌≡◌, ◌∙◌, ap, cond, Bool, Option, Some, sym}
+use Rattle.std.proofs.Common.{◌∙◌, ap, cond, Bool, Some, sym}
 use Rattle.std.specs.Prelude.{not}
 use Rattle.std.proofs.lemmas.Map.Text.{is_eq-slice_cmp}
-use Rattle.definitions.specs.declared.openings.Digest.{Digest}
-use Rattle.definitions.specs.declared.frames.TurnFrame.{TurnFrame}
-use Rattle.definitions.specs.Logs.{digest_eq}
 use Rattle.frame_index.specs.Clashes.{look}
 use Rattle.frame_index.proofs.Derived.{frame_test}
 use Rattle.frame_index.proofs.Apart.{clash_found, from_new, noted_new}

@@ -1,8 +1,5 @@
-use Rattle.std.proofs.Common.{refl, List, ◌+◌, ap, arith, length, length-append, subst, sym, [], ◌∷◌, ◌∙◌}
-use Rattle.std.specs.Prelude.{IsTrue}
+use Rattle.std.proofs.Common.{refl, List, ◌+◌, ap, arith, length, length-append, [], ◌∷◌, ◌∙◌}
 use Rattle.definitions.specs.declared.world.Move.{Move}
-use Rattle.definitions.specs.declared.world.Track.{Track}
-use Rattle.definitions.specs.World.{is_open}
 use Rattle.frame_index.proofs.Commonly.{all_common, common_none, more_common}
 use Rattle.frame_index.proofs.Plainly.{start_opens}
 use Rattle.frame_index.proofs.common.common_moves.Goals as goal

@@ -1,4 +1,4 @@
-use Rattle.std.proofs.Common.{◌+◌, arith, refl, sym}
+use Rattle.std.proofs.Common.{◌+◌, arith, refl}
 use Rattle.frame_index.proofs.Commonly.{common_commit, front_as}
 use Rattle.frame_index.proofs.common.read_next_commit.Goals as goal
 

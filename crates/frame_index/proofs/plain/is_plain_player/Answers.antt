@@ -1,4 +1,4 @@
-use Rattle.std.proofs.Common.{refl, List, None, Option, Some, [], arith, inl, inr, subst, sym, ◌≡◌, ◌∙◌}
+use Rattle.std.proofs.Common.{refl, List, None, Option, Some, [], arith, inl, inr, subst, ◌≡◌}
 use Rattle.std.proofs.lemmas.Bool.{cases_lt}
 use Rattle.definitions.specs.declared.world.Track.{Track}
 use Rattle.definitions.specs.Findings.{findings_in}

@@ -2,16 +2,16 @@ use Rattle.std.proofs.Common.{List, ap, sym, ◌∙◌}
 use Rattle.definitions.specs.declared.logs.Entry.{Entry}
 use Rattle.definitions.specs.Advance.{advance}
 use Rattle.peer_core.specs.Views.{PeerState}
-use Rattle.schedule.proofs.Chosen.{choice_kept, choice_made}
+use Rattle.peer_core.proofs.Stepped.{choice_refused, choice_taken}
 use Rattle.schedule.proofs.seats.choose_now.Goals as goal
 
 pub returns-in-Err-clause-after : goal.returns-in-Err-clause-after
 returns-in-Err-clause-after c =
     c.in-Err.ensures.refused ∙
-    ap (λ (h : List Entry). record c.args.peer.now { entries = h }) (sym (choice_kept _ _ _ _ c.args.nonce _ (sym c.in-Err.ensures.fault)))
+    ap (λ (h : List Entry). record c.args.peer.now { entries = h }) (sym (choice_refused _ _ _ _ c.args.nonce _ (sym c.in-Err.ensures.fault)))
 
 pub returns-in-Ok-clause-after : goal.returns-in-Ok-clause-after
 returns-in-Ok-clause-after c =
     c.advance.ensures.log ∙
     ap (λ (p : PeerState). record p { entries = advance p.game p.me p.entries }) c.in-Ok.ensures.chosen ∙
-    ap (λ (h : List Entry). record c.args.peer.now { entries = h }) (sym (choice_made _ _ _ _ c.args.nonce (sym c.in-Ok.ensures.fault)))
+    ap (λ (h : List Entry). record c.args.peer.now { entries = h }) (sym (choice_taken _ _ _ _ c.args.nonce (sym c.in-Ok.ensures.fault)))

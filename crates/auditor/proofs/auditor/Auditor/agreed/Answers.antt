@@ -1,6 +1,5 @@
 use Rattle.std.proofs.Common.{Global, List, Vec, [], ap, length, map, rules, sym, vec_len, ℕ, ◌++◌, ◌∙◌, ◌∷◌, ◌≡◌}
 use Rattle.std.proofs.lemmas.List.{map-append}
-use Rattle.std.specs.List.{range_with_len}
 use Rattle.definitions.specs.declared.world.Move.{Move}
 use Rattle.auditor.specs.Agreed.{agreed_moves}
 use Rattle.auditor.proofs.Ranged.{listed_more}

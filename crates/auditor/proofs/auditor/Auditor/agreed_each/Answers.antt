@@ -1,4 +1,4 @@
-use Rattle.std.proofs.Common.{List, [], ap, arith, refl, sym, ℕ, ◌++◌, ◌∙◌, ◌≡◌, Option, length}
+use Rattle.std.proofs.Common.{List, ap, arith, sym, ℕ, ◌++◌, ◌∙◌, ◌≡◌, Option, length}
 use Rattle.std.specs.Prelude.{filter_map, option_to_list}
 use Rattle.std.specs.List.{range_with_len}
 use Rattle.definitions.specs.declared.world.Move.{Move}

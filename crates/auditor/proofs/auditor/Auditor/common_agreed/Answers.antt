@@ -1,4 +1,4 @@
-use Rattle.std.proofs.Common.{List, [], Option, ap, arith, length, subst, sym, ℕ, ◌++◌, ◌≡◌, ◌∙◌}
+use Rattle.std.proofs.Common.{List, Option, ap, arith, length, subst, sym, ℕ, ◌++◌, ◌≡◌, ◌∙◌}
 use Rattle.std.specs.Prelude.{IfSome, filter_map, option_to_list}
 use Rattle.std.specs.List.{range_with_len}
 use Rattle.definitions.specs.declared.world.Move.{Move}

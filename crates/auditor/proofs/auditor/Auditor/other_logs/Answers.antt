@@ -2,9 +2,9 @@ use Rattle.std.proofs.Common.{None, Option, ap, arith, ◌∙◌, ℕ}
 use Rattle.std.specs.Prelude.{not}
 use Rattle.std.proofs.lemmas.List.{length-set}
 use Rattle.definitions.specs.Lists.{item_or}
+use Rattle.definitions.proofs.Items.{item_is}
 use Rattle.frame_index.proofs.Leaving.{told_more}
 use Rattle.auditor.specs.Accords.{is_own}
-use Rattle.auditor.proofs.Owned.{item_same}
 use Rattle.auditor.proofs.auditor.Auditor.other_logs.Goals as goal
 
 pub loop-at-preserved : goal.loop-at-preserved
@@ -15,5 +15,5 @@ loop-at-preserved c =
     record {
       long = length-set c.loop-at.chosen c.loop-at.at _ ∙ long;
       told = told_more (λ i. not (is_own (item_or owners i None) q)) c.loop-at.chosen c.loop-at.at c.ne.result (omega arith)
-          (c.ne.ensures ∙ ap (λ (o : Option ℕ). not (is_own o q)) (item_same owners c.loop-at.at None)) c.loop-at.invariant.told;
+          (c.ne.ensures ∙ ap (λ (o : Option ℕ). not (is_own o q)) (item_is owners c.loop-at.at None)) c.loop-at.invariant.told;
     }

@@ -1,5 +1,4 @@
 use Rattle.std.proofs.Common.{◌≡◌, ◌<◌, None, length, ℕ}
-use Rattle.std.specs.Prelude.{not}
 use Rattle.definitions.specs.Lists.{item_or}
 use Rattle.frame_index.specs.Plain.{is_among}
 use Rattle.auditor.specs.Accords.{is_own}

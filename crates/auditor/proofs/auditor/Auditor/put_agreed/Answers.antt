@@ -1,7 +1,6 @@
-use Rattle.std.proofs.Common.{List, None, [], ap, append-nil, sym, ◌++◌, ◌∷◌, ◌∙◌, ◌≡◌, Option}
+use Rattle.std.proofs.Common.{ap, append-nil, sym, ◌++◌, ◌∙◌, Option}
 use Rattle.std.specs.Prelude.{option_to_list}
 use Rattle.definitions.specs.declared.world.Move.{Move}
-use Rattle.definitions.specs.declared.logs.Entry.{Entry}
 use Rattle.auditor.specs.Audits.{crossed_logs}
 use Rattle.auditor.proofs.auditor.Auditor.put_agreed.Goals as goal
 

@@ -1,4 +1,4 @@
-use Rattle.std.proofs.Common.{List, ap, arith, length, map, subst, sym, ℕ, ◌≤◌, ◌∙◌, ◌≡◌, Option}
+use Rattle.std.proofs.Common.{List, ap, arith, length, map, subst, sym, ℕ, ◌∙◌, ◌≡◌}
 use Rattle.definitions.specs.declared.world.Move.{Move}
 use Rattle.definitions.specs.Lists.{item_or}
 use Rattle.definitions.specs.World.{Game}

@@ -1,6 +1,7 @@
 use Rattle.std.proofs.Common.{Bor, List, None, Some, [], ap, arith, map, slice_index_or, subst, sym, ◌∙◌, ◌≡◌}
 use Rattle.definitions.specs.declared.logs.Entry.{Entry}
 use Rattle.definitions.specs.Lists.{item_or}
+use Rattle.definitions.proofs.Items.{item_is as item_same}
 use Rattle.definition_laws.proofs.Nexts.{some_at}
 use Rattle.frame_index.proofs.Wrong.{item_is}
 use Rattle.auditor.specs.declared.reading.Reading.{Reading}
@@ -8,7 +9,7 @@ use Rattle.auditor.specs.Agreed.{resolved_by}
 use Rattle.auditor.specs.Audits.{crossed, crossed_logs}
 use Rattle.auditor.specs.Reading.{IsReadTurn}
 use Rattle.auditor.proofs.Crossed.{crossed_there}
-use Rattle.auditor.proofs.Owned.{by_got, by_made, item_same, owner_is, owner_isnt}
+use Rattle.auditor.proofs.Owned.{by_got, by_made, owner_is, owner_isnt}
 use Rattle.auditor.proofs.auditor.Auditor.resolved_at.Goals.{else-own, then-own}
 use Rattle.auditor.proofs.auditor.Auditor.resolved_at.Goals as goal
 

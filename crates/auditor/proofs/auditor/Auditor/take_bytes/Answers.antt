@@ -1,11 +1,10 @@
-use Rattle.std.proofs.Common.{List, Some, None, [], ap, append-nil, arith, refl, subst, sym, ℕ, ◌++◌, ◌+◌, ◌<◌, ◌≤◌, ◌∷◌, ◌∙◌, ◌≡◌, Option, IfSome, length, drop}
+use Rattle.std.proofs.Common.{List, None, [], ap, append-nil, arith, refl, subst, sym, ℕ, ◌++◌, ◌+◌, ◌<◌, ◌≤◌, ◌∙◌, ◌≡◌, Option, IfSome, length}
 use Rattle.std.proofs.lemmas.List.{length-drop}
 use Rattle.definitions.specs.declared.logs.Entry.{Entry}
 use Rattle.definitions.specs.World.{Game}
-use Rattle.session_log.specs.Fed.{Fed, IsFeedOf}
+use Rattle.session_log.specs.Fed.{IsFeedOf}
 use Rattle.session_log.specs.Feeding.{LogFeeding, LogGiven, given_of}
-use Rattle.auditor.specs.declared.auditor.Auditor.{Auditor}
-use Rattle.auditor.specs.Taking.{Takes, TakesNext, given_behind}
+use Rattle.auditor.specs.Taking.{Takes, TakesNext}
 use Rattle.auditor.proofs.Fed.{cut_rest, on_err_always, so_on}
 use Rattle.auditor.proofs.auditor.Auditor.take_bytes.Goals as goal
 

@@ -1,4 +1,4 @@
-use Rattle.std.proofs.Common.{◌≡◌, ◌≤◌, ℕ, List, get_or, ap, ◌∙◌, arith}
+use Rattle.std.proofs.Common.{List, get_or, ap, ◌∙◌, arith}
 use Rattle.wire_frames.specs.Reading.{Reading, at_start}
 use Rattle.drive_command.specs.declared.readers.TheConstants.{READERS}
 use Rattle.drive_command.proofs.Fresh.{nothing_came}

@@ -1,4 +1,4 @@
-use Rattle.std.proofs.Common.{rules, ◌≡◌, ℕ, ◌<◌, refl}
+use Rattle.std.proofs.Common.{rules}
 use Rattle.wire_frames.specs.Reading.{at_start}
 use Rattle.drive_command.specs.declared.readers.TheConstants.{READERS}
 use Rattle.drive_command.proofs.Fresh.{all_same}

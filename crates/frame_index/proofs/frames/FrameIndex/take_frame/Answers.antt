@@ -1,4 +1,4 @@
-use Rattle.std.proofs.Common.{◌≡◌, ◌∙◌, ap, cond, refl, rules, sym, List, Option, Some, [], ℕ}
+use Rattle.std.proofs.Common.{◌≡◌, ◌∙◌, ap, cond, refl, rules, sym, List, Option, Some, []}
 use Rattle.std.specs.Prelude.{◌&&◌, ◌==◌}
 use Rattle.std.specs.Option.{option_map_or}
 use Rattle.indexmap.specs.IndexMap.{get}

@@ -1,5 +1,4 @@
-use Rattle.std.proofs.Common.{List, ap, subst, sym, slice_get, ◌∙◌}
-use Rattle.std.proofs.lemmas.Option.{slice_get_within}
+use Rattle.std.proofs.Common.{List, subst}
 use Rattle.frame_index.specs.declared.kept.KeptFrame.{KeptFrame}
 use Rattle.frame_index.specs.Kept.{StandsAt}
 use Rattle.frame_index.proofs.Growing.{added_grows, alike_same, noted_grows, on_err, on_ok, stands_within}

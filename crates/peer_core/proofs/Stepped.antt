@@ -1,4 +1,4 @@
--- Chosen: what a choice and a frame that comes make of a log, by what is answered.
+-- Stepped: what a choice and a frame that comes make of a log, by what is answered.
 use Rattle.std.proofs.Common.{◌≡◌, ℕ, Bool, true, false, List, [], ◌∷◌, ◌++◌, length, refl, sym, ◌∙◌, Option, Some, None}
 use Rattle.std.specs.Prelude.{not, is_none, ◌&&◌, if◌then◌else◌}
 use Rattle.definitions.specs.declared.world.Move.{Move}
@@ -22,10 +22,10 @@ use Rattle.peer_core.specs.Views.{with_got}
 use Rattle.peer_core.proofs.Answering.{logged_is}
 
 -- a choice without a fault is logged, and the owner advances
-pub choice_made : (game : Game) (me : ℕ) (h : List Entry) (m : Move) (n : Nonce) → choice_fault game me h m ≡ None →
+pub choice_taken : (game : Game) (me : ℕ) (h : List Entry) (m : Move) (n : Nonce) → choice_fault game me h m ≡ None →
     after_choice game me h m n ≡ advance game me (h ++ Chose (length (chosen me h)) m n ∷ [])
 unfolding choice_fault is_legal
-choice_made game me h m n e = go (may_choose game me h) (move_fault game me (chosen_track game me h) m) e
+choice_taken game me h m n e = go (may_choose game me h) (move_fault game me (chosen_track game me h) m) e
   where
     go : (b : Bool) (o : Option MoveFault) → (if not b then Some NotNow else own_fault o) ≡ None →
         (if b && is_none o then advance game me (h ++ Chose (length (chosen me h)) m n ∷ []) else h) ≡ advance game me (h ++ Chose (length (chosen me h)) m n ∷ [])
@@ -34,9 +34,9 @@ choice_made game me h m n e = go (may_choose game me h) (move_fault game me (cho
     go false o e = cc
 
 -- a choice with a fault changes nothing
-pub choice_kept : (game : Game) (me : ℕ) (h : List Entry) (m : Move) (n : Nonce) (f : OwnFault) → choice_fault game me h m ≡ Some f → after_choice game me h m n ≡ h
+pub choice_refused : (game : Game) (me : ℕ) (h : List Entry) (m : Move) (n : Nonce) (f : OwnFault) → choice_fault game me h m ≡ Some f → after_choice game me h m n ≡ h
 unfolding choice_fault is_legal
-choice_kept game me h m n f e = go (may_choose game me h) (move_fault game me (chosen_track game me h) m) e
+choice_refused game me h m n f e = go (may_choose game me h) (move_fault game me (chosen_track game me h) m) e
   where
     go : (b : Bool) (o : Option MoveFault) → (if not b then Some NotNow else own_fault o) ≡ Some f →
         (if b && is_none o then advance game me (h ++ Chose (length (chosen me h)) m n ∷ []) else h) ≡ h
@@ -45,17 +45,17 @@ choice_kept game me h m n f e = go (may_choose game me h) (move_fault game me (c
     go false o e = refl
 
 -- a frame that is logged is in the log behind which the owner advances, and one that is not changes nothing
-pub frame_made : (game : Game) (me : ℕ) (h : List Entry) (q : ℕ) (f : TurnFrame) (b : Bool) → b ≡ is_logged (got_answer game me h q f) → b ≡ true →
+pub frame_logged : (game : Game) (me : ℕ) (h : List Entry) (q : ℕ) (f : TurnFrame) (b : Bool) → b ≡ is_logged (got_answer game me h q f) → b ≡ true →
     advance game me (with_got game me h q f) ≡ after_got game me h q f
-frame_made game me h q f b e t = go (is_taken_in game me h q f) (sym (logged_is game me h q f) ∙ sym e ∙ t)
+frame_logged game me h q f b e t = go (is_taken_in game me h q f) (sym (logged_is game me h q f) ∙ sym e ∙ t)
   where
     go : (c : Bool) → c ≡ true → advance game me (if c then h ++ Got q f ∷ [] else h) ≡ (if c then advance game me (h ++ Got q f ∷ []) else h)
     go true e = refl
     go false e = cc
 
-pub frame_kept : (game : Game) (me : ℕ) (h : List Entry) (q : ℕ) (f : TurnFrame) (b : Bool) → b ≡ is_logged (got_answer game me h q f) → b ≡ false →
+pub frame_unlogged : (game : Game) (me : ℕ) (h : List Entry) (q : ℕ) (f : TurnFrame) (b : Bool) → b ≡ is_logged (got_answer game me h q f) → b ≡ false →
     with_got game me h q f ≡ after_got game me h q f
-frame_kept game me h q f b e t = go (is_taken_in game me h q f) (sym (logged_is game me h q f) ∙ sym e ∙ t)
+frame_unlogged game me h q f b e t = go (is_taken_in game me h q f) (sym (logged_is game me h q f) ∙ sym e ∙ t)
   where
     go : (c : Bool) → c ≡ false → (if c then h ++ Got q f ∷ [] else h) ≡ (if c then advance game me (h ++ Got q f ∷ []) else h)
     go false e = refl
