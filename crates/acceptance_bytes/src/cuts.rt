@@ -2,8 +2,8 @@
 
 ghost use Rattle.std.specs.Prelude.{◌<◌};
 
-use crate::logs::{PATH, answers, behind, log_of, part};
-use grid_world::{Session, read_session};
+use crate::logs::{log_of, part, path, tells};
+use grid_world::Session;
 use session_log::Next;
 use std::alloc::{AllocError, Global};
 use std::test::Fail;
@@ -17,33 +17,55 @@ struct Told {
 
 /// What the front of so many bytes tells: the log has the owner's byte, and then entries of 76, 81 and 76 bytes.
 fn told_of_front(bytes: usize) -> Told {
-    let (entries, last) = match bytes {
-        0 => (0, Next::End),
-        1 => (0, Next::Torn(0)),
-        2..=76 => (0, Next::Torn(1)),
-        77 => (1, Next::End),
-        78..=157 => (1, Next::Torn(77)),
-        158 => (2, Next::End),
-        159..=233 => (2, Next::Torn(158)),
-        _ => (3, Next::End),
-    };
-    Told { entries, last }
+    if bytes > 158 {
+        told_behind(2, bytes >= 234, 158)
+    } else if bytes > 77 {
+        told_behind(1, bytes == 158, 77)
+    } else if bytes > 1 {
+        told_behind(0, bytes == 77, 1)
+    } else {
+        torn_or_end(0, bytes == 0, 0)
+    }
+}
+
+/// What is told where the entry behind so many begins at this byte, and is there to its end or isn't.
+fn told_behind(entries: usize, is_whole: bool, begin: u32) -> Told {
+    if is_whole {
+        torn_or_end(entries.saturating_add(1), true, begin)
+    } else {
+        torn_or_end(entries, false, begin)
+    }
+}
+
+/// So many entries, and then the end or an entry from this byte on that isn't there to its end.
+fn torn_or_end(entries: usize, is_end: bool, begin: u32) -> Told {
+    if is_end {
+        Told {
+            entries,
+            last: Next::End,
+        }
+    } else {
+        Told {
+            entries,
+            last: Next::Torn(begin),
+        }
+    }
+}
+
+/// Whether the front of so many bytes tells what it must.
+fn front_tells(session: &Session, log: &[u8], bytes: usize) -> bool {
+    let told = told_of_front(bytes);
+    tells(session, part(log, 0, bytes), told.entries, told.last)
 }
 
 #[test]
 fn each_front_of_a_log_is_read_as_far_as_it_goes(rt: HostRuntime) -> Result<(), Fail> {
     let alloc = rt.alloc();
-    let session = read_session(alloc, PATH).map_err(|_| "refused")?;
+    let session = path(alloc)?;
     let log = log_of(alloc, &session)?;
     assert_eq!(rt; log.len(), 234);
     for bytes in 0..235 {
-        let answers = answers(&session, part(log.as_slice(), 0, bytes));
-        let told = told_of_front(bytes);
-        assert_eq!(rt;
-            answers,
-            behind(&session, told.entries, told.last),
-            "{bytes}"
-        );
+        assert!(rt; front_tells(&session, log.as_slice(), bytes), "{bytes}");
     }
     Ok(())
 }
@@ -110,12 +132,17 @@ fn told_of_change(at: usize, byte: u8) -> Told {
     }
 }
 
+/// Puts the byte there.
+fn put_byte(log: &mut [u8], at: usize, byte: u8) {
+    if at < log.len() {
+        log[at] = byte;
+    }
+}
+
 /// The log with this byte there.
 fn with_byte(alloc: Global, log: &[u8], at: usize, byte: u8) -> Result<Vec<u8>, AllocError> {
     let mut changed = Vec::from_slice(alloc, log)?;
-    if let Some(place) = changed.as_mut_slice().get_mut(at) {
-        *place = byte;
-    }
+    put_byte(changed.as_mut_slice(), at, byte);
     Ok(changed)
 }
 
@@ -131,7 +158,7 @@ fn tells_each_bit(
         let byte = own ^ bit;
         let changed = with_byte(alloc, log, at, byte)?;
         let told = told_of_change(at, byte);
-        if answers(session, changed.as_slice()) != behind(session, told.entries, told.last) {
+        if !tells(session, changed.as_slice(), told.entries, told.last) {
             return Ok(false);
         }
     }
@@ -141,7 +168,7 @@ fn tells_each_bit(
 #[test]
 fn a_turned_bit_is_told_at_its_entry(rt: HostRuntime) -> Result<(), Fail> {
     let alloc = rt.alloc();
-    let session = read_session(alloc, PATH).map_err(|_| "refused")?;
+    let session = path(alloc)?;
     let log = log_of(alloc, &session)?;
     for (at, own) in log.as_slice().iter().enumerate() {
         let tells = tells_each_bit(alloc, &session, log.as_slice(), at, *own)?;

@@ -2,95 +2,114 @@
 
 ghost use Rattle.std.specs.Prelude.{◌≤◌, ◌<◌, ◌+◌, ◌^◌, length, OnOk};
 
-use crate::streams::by_bytes;
+use crate::logs::{add, part};
+use crate::streams::{is_answered, say_by_bytes};
 use definitions::{Cell, Digest, Move, Nonce};
 use std::alloc::{AllocError, Global};
 use std::test::Fail;
 use wire_frames::{Fed, FedWhat, Frame, FrameReader, TurnFrame, put_frame};
 
 /// One frame of each kind, and a reveal with a strike.
-fn frames() -> [Frame; 5] {
-    let to = Cell { x: 1, y: 65535 };
-    [
-        Frame::Hello {
-            id: [9; 32],
-            player: 255,
-            pass: [8; 16],
-            next: 4_294_967_295,
+static FRAMES: [Frame; 5] = [
+    Frame::Hello {
+        id: [9; 32],
+        player: 255,
+        pass: [8; 16],
+        next: 4_294_967_295,
+    },
+    Frame::Turn(TurnFrame::Commit {
+        player: 3,
+        turn: 9,
+        digest: Digest { bytes: [6; 32] },
+    }),
+    Frame::Turn(TurnFrame::Reveal {
+        player: 3,
+        turn: 9,
+        mv: Move {
+            to: TO,
+            strike: None,
         },
-        Frame::Turn(TurnFrame::Commit {
-            player: 3,
-            turn: 9,
-            digest: Digest { bytes: [6; 32] },
-        }),
-        Frame::Turn(TurnFrame::Reveal {
-            player: 3,
-            turn: 9,
-            mv: Move { to, strike: None },
-            nonce: Nonce { bytes: [7; 32] },
-        }),
-        Frame::Turn(TurnFrame::Reveal {
-            player: 3,
-            turn: 4_294_967_295,
-            mv: Move {
-                to,
-                strike: Some(Cell { x: 256, y: 2 }),
-            },
-            nonce: Nonce { bytes: [7; 32] },
-        }),
-        Frame::Want { place: 65536 },
-    ]
-}
+        nonce: Nonce { bytes: [7; 32] },
+    }),
+    Frame::Turn(TurnFrame::Reveal {
+        player: 3,
+        turn: 4_294_967_295,
+        mv: Move {
+            to: TO,
+            strike: Some(Cell { x: 256, y: 2 }),
+        },
+        nonce: Nonce { bytes: [7; 32] },
+    }),
+    Frame::Want { place: 65536 },
+];
+
+/// Where the reveals go.
+const TO: Cell = Cell { x: 1, y: 65535 };
 
 const LENGTHS: [usize; 5] = [56, 40, 45, 49, 7];
 
+/// Writes the frame, and gives its length.
+fn write(frame: &Frame, out: &mut [u8; 64]) -> usize {
+    put_frame(frame, out)
+}
+
+/// Whether a new reader that is fed with the bytes cut there says that the first ones are a part of the frame, and the others all
+/// of its rest, of which there are so many.
+fn is_read_in_two(bytes: &[u8], cut: usize, rest: usize, whole: &FedWhat) -> bool {
+    let front = part(bytes, 0, cut);
+    let back = part(bytes, cut, 64);
+    let mut reader = FrameReader::new();
+    let first = reader.feed(front);
+    let second = reader.feed(back);
+    first.used == cut && first.what == FedWhat::More && second.used == rest && second.what == *whole
+}
+
+/// The same wherever the frame, which has so many bytes, is cut.
+fn is_read_in_any_two(bytes: &[u8], count: usize, whole: &FedWhat) -> bool {
+    for cut in 0..count {
+        if !is_read_in_two(bytes, cut, count.saturating_sub(cut), whole) {
+            return false;
+        }
+    }
+    true
+}
+
+/// Whether the frame, which has so many bytes, is read from its front, at once and byte by byte.
+fn is_read(bytes: &[u8], count: usize, whole: &FedWhat) -> bool {
+    let fed = Fed {
+        used: count,
+        what: *whole,
+    };
+    is_answered(bytes, &fed) && say_by_bytes(bytes, whole)
+}
+
 #[test]
 fn frames_are_read_as_written(rt: HostRuntime) -> Result<(), Fail> {
-    for (frame, length) in frames().iter().zip(LENGTHS.iter()) {
+    for (frame, length) in FRAMES.iter().zip(LENGTHS.iter()) {
         let mut out = [0; 64];
-        let count = put_frame(frame, &mut out);
+        let count = write(frame, &mut out);
         assert_eq!(rt; count, *length);
         let whole = FedWhat::Whole(*frame);
         // what stands behind a frame is left alone
-        assert_eq!(rt;
-            FrameReader::new().feed(&out),
-            Fed {
-                used: count,
-                what: whole
-            }
-        );
-        assert_eq!(rt; by_bytes(&out), whole);
+        assert!(rt; is_read(&out, count, &whole));
         // any bytes of its front are a part, however they are fed
-        for cut in 0..count {
-            let mut reader = FrameReader::new();
-            assert_eq!(rt;
-                reader.feed(&out[..cut]),
-                Fed {
-                    used: cut,
-                    what: FedWhat::More
-                }
-            );
-            assert_eq!(rt;
-                reader.feed(&out[cut..]),
-                Fed {
-                    used: count - cut,
-                    what: whole
-                }
-            );
-        }
+        assert!(rt; is_read_in_any_two(&out, count, &whole));
     }
     Ok(())
+}
+
+/// Adds the bytes of a frame.
+fn add_frame(stream: &mut Vec<u8>, frame: &Frame) -> Result<(), AllocError> {
+    let mut out = [0; 64];
+    let count = write(frame, &mut out);
+    add(stream, part(&out, 0, count))
 }
 
 /// All frames, one behind the other.
 fn stream_of(alloc: Global) -> Result<Vec<u8>, AllocError> {
     let mut stream = Vec::new(alloc);
-    for frame in &frames() {
-        let mut out = [0; 64];
-        let count = put_frame(frame, &mut out);
-        for byte in &out[..count] {
-            stream.push(*byte)?;
-        }
+    for frame in &FRAMES {
+        add_frame(&mut stream, frame)?;
     }
     Ok(stream)
 }
@@ -127,7 +146,7 @@ fn are_read_in_two(alloc: Global, stream: &[u8], cut: usize) -> Result<bool, All
     let cut = cut.min(stream.len());
     let first = read_piece(&mut reader, &stream[..cut], &mut read)?;
     let second = read_piece(&mut reader, &stream[cut..], &mut read)?;
-    Ok(first && second && read.as_slice() == frames().as_slice())
+    Ok(first && second && read.as_slice() == FRAMES.as_slice())
 }
 
 #[test]

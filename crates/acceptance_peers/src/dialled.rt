@@ -2,7 +2,7 @@
 
 ghost use Rattle.std.specs.Prelude.{◌≡◌};
 
-use crate::runs::{Ran, Texts, run_over};
+use crate::runs::{Ran, Texts, Way, run_over};
 use bytes::Bytes;
 use commitment::digest_of;
 use definitions::{Cell, Move, Nonce, Opening, Turn, TurnFrame};
@@ -111,6 +111,7 @@ fn bring(alloc: Global, station: &mut MemoryStation, bytes: &[u8], size: usize) 
 /// Runs player 1, to whom player 0 says this.
 fn run_with(
     alloc: Global,
+    way: Way,
     session: &Session,
     polls: &str,
     turns: Turn,
@@ -126,14 +127,22 @@ fn run_with(
     let mut station = MemoryStation::new(alloc, 10_000, 16_384)?;
     let bytes = said(alloc, session, turns, lies)?;
     bring(alloc, &mut station, bytes.as_slice(), size)?;
-    Ok(run_over(alloc, polls, &texts, &mut station)?)
+    Ok(run_over(alloc, way, polls, &texts, &mut station)?)
 }
 
 #[test]
 fn a_whole_match_is_played(rt: HostRuntime) -> Result<(), Fail> {
     let session = read_session(rt.alloc(), FAR).map_err(|_| "refused")?;
     for size in [4096, 100, 1] {
-        let ran = run_with(rt.alloc(), &session, "peer s r m 1 100 log", 8, false, size)?;
+        let ran = run_with(
+            rt.alloc(),
+            Way::ByClap,
+            &session,
+            "peer s r m 1 100 log",
+            8,
+            false,
+            size,
+        )?;
         let text =
             b"done\nplayer 0 turns 8 at 0 0 charge 2 next 16\nplayer 1 turns 8 at 9 0 charge 2 next 16\nscore turns 8 given 0 taken 0\nend\n";
         assert!(rt; ran.text.as_slice() == text.as_slice());
@@ -149,7 +158,15 @@ fn a_whole_match_is_played(rt: HostRuntime) -> Result<(), Fail> {
 #[test]
 fn a_player_that_falls_silent_is_waited_for(rt: HostRuntime) -> Result<(), Fail> {
     let session = read_session(rt.alloc(), FAR).map_err(|_| "refused")?;
-    let ran = run_with(rt.alloc(), &session, "peer s r m 1 20 log", 2, false, 64)?;
+    let ran = run_with(
+        rt.alloc(),
+        Way::AsTheyStand,
+        &session,
+        "peer s r m 1 20 log",
+        2,
+        false,
+        64,
+    )?;
     let text =
         b"gave up 20\nneed 0 7 commit 4\nplayer 0 turns 2 at 0 0 charge 2 next 4\nplayer 1 turns 7 at 9 0 charge 2 next 15\nscore turns 7 given 0 taken 0\nend\n";
     assert!(rt; ran.text.as_slice() == text.as_slice());
@@ -161,7 +178,15 @@ fn a_player_that_falls_silent_is_waited_for(rt: HostRuntime) -> Result<(), Fail>
 #[test]
 fn a_player_that_told_two_commitments_is_caught(rt: HostRuntime) -> Result<(), Fail> {
     let session = read_session(rt.alloc(), FAR).map_err(|_| "refused")?;
-    let ran = run_with(rt.alloc(), &session, "peer s r m 1 20 log", 3, true, 4096)?;
+    let ran = run_with(
+        rt.alloc(),
+        Way::ByClap,
+        &session,
+        "peer s r m 1 20 log",
+        3,
+        true,
+        4096,
+    )?;
     let text =
         b"caught 0 2 two-commits\nplayer 0 turns 3 at 0 0 charge 2 next 6\nplayer 1 turns 6 at 9 0 charge 2 next 12\nscore turns 6 given 0 taken 0\nend\n";
     assert!(rt; ran.text.as_slice() == text.as_slice());

@@ -3,7 +3,6 @@
 ghost use Rattle.std.specs.Prelude.{◌≡◌, ◌∷◌, [], false, bytes_eq, IfOk};
 
 use memory_station::MemoryStation;
-use peer_cli::run;
 use rand_core::SeedableRng;
 use rand_pcg::Pcg32;
 use run_frame::Status;
@@ -18,6 +17,15 @@ pub struct Texts {
     pub roster: &'static [u8],
     pub moves: &'static [u8],
     pub old: &'static [u8],
+}
+
+/// How a run's words are read.
+#[derive(Clone, Copy, Debug)]
+pub enum Way {
+    /// As clap splits them: so the program does.
+    ByClap,
+    /// Where they stand: so it is done before any proof.
+    AsTheyStand,
 }
 
 /// How a run ended: its status, what it wrote, how many polls it made, what it kept, and how many bytes it gave on its first socket.
@@ -99,9 +107,57 @@ fn given_first(station: &MemoryStation) -> usize {
     station.given(0, 0, &mut out)
 }
 
+/// Runs the words, split by clap, over these objects.
+fn run_by_clap(
+    alloc: Global,
+    words: &[Vec<u8>],
+    out: &mut MemorySink,
+    shelf: &mut MemoryShelf,
+    station: &mut MemoryStation,
+) -> Status
+    requires { ⟦<MemoryStation as Station>⟧.history station.old ≡ [] }
+{
+    let mut input = MemorySource::new(Vec::new(alloc), Vec::new(alloc));
+    let mut chance = Pcg32::seed_from_u64(7);
+    peer_cli::run(alloc, words, &mut input, out, shelf, station, &mut chance)
+}
+
+/// Runs the words, as they stand, over these objects.
+fn run_as_they_stand(
+    alloc: Global,
+    words: &[Vec<u8>],
+    out: &mut MemorySink,
+    shelf: &mut MemoryShelf,
+    station: &mut MemoryStation,
+) -> Status
+    requires { ⟦<MemoryStation as Station>⟧.history station.old ≡ [] }
+{
+    let mut input = MemorySource::new(Vec::new(alloc), Vec::new(alloc));
+    let mut chance = Pcg32::seed_from_u64(7);
+    peer_runs::run(alloc, words, &mut input, out, shelf, station, &mut chance)
+}
+
+/// Runs the words over these objects, as they are read so.
+fn status_of(
+    alloc: Global,
+    way: Way,
+    words: &[Vec<u8>],
+    out: &mut MemorySink,
+    shelf: &mut MemoryShelf,
+    station: &mut MemoryStation,
+) -> Status
+    requires { ⟦<MemoryStation as Station>⟧.history station.old ≡ [] }
+{
+    match way {
+        Way::ByClap => run_by_clap(alloc, words, out, shelf, station),
+        Way::AsTheyStand => run_as_they_stand(alloc, words, out, shelf, station),
+    }
+}
+
 /// Runs the words over a station of which no call was made.
 pub fn run_over(
     alloc: Global,
+    way: Way,
     line: &str,
     texts: &Texts,
     station: &mut MemoryStation,
@@ -110,18 +166,8 @@ pub fn run_over(
 {
     let words = words_of(alloc, line)?;
     let mut shelf = shelf_of(alloc, texts)?;
-    let mut input = MemorySource::new(Vec::new(alloc), Vec::new(alloc));
     let mut out = MemorySink::new(alloc, 65_536, Vec::new(alloc))?;
-    let mut chance = Pcg32::seed_from_u64(7);
-    let status = run(
-        alloc,
-        words.as_slice(),
-        &mut input,
-        &mut out,
-        &mut shelf,
-        station,
-        &mut chance,
-    );
+    let status = status_of(alloc, way, words.as_slice(), &mut out, &mut shelf, station);
     Ok(Ran {
         status,
         text: Vec::from_slice(alloc, out.bytes())?,
@@ -134,6 +180,7 @@ pub fn run_over(
 /// Runs the words over a station with room for so many items, of which call `fails` fails, counted from 1.
 pub fn run_words(
     alloc: Global,
+    way: Way,
     line: &str,
     texts: &Texts,
     events: u32,
@@ -141,5 +188,5 @@ pub fn run_words(
 ) -> Result<Ran, AllocError> {
     let mut station = MemoryStation::new(alloc, events, 16_384)?;
     station.fail_call(fails);
-    run_over(alloc, line, texts, &mut station)
+    run_over(alloc, way, line, texts, &mut station)
 }

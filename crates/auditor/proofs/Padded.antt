@@ -198,6 +198,7 @@ module _ (game : Game) (owners : List (Option ℕ)) (logs : List (List Entry)) (
     found = is.found ∙ findings_as game logs (MOST_LOGS - length logs);
     agreed = λ owned q lt. is.agreed (all_owned owned) q lt ∙ ap length (moves_as game logs (MOST_LOGS - length logs) a.owners owners stands.owners_are past q);
     world = λ owned q lt. is.world (all_owned owned) q lt ∙ ap (λ ms. world_by game ms q) (all_moves_as game logs (MOST_LOGS - length logs) a.owners owners stands.owners_are past);
+    beyond = is.beyond;
   }
 
   pub finding_stands : (f : Finding) → Has (findings game logs) f → Has (findings game all) f

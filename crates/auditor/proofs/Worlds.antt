@@ -1,5 +1,5 @@
 -- Worlds: the play of agreed moves over all turns.
-use Rattle.std.proofs.Common.{Bool, Global, List, Vec, None, Some, [], add-zero, ap, arith, refl, subst, suc, sym, true, zero, zero-add, ℕ, ◌+◌, ◌<◌, ◌∙◌, ◌∷◌, ◌≡◌, Option, length, map, slice_index_or, IsTrue}
+use Rattle.std.proofs.Common.{Bool, Global, List, Vec, None, Some, [], add-zero, ap, arith, refl, subst, suc, sym, true, zero, zero-add, ℕ, ◌+◌, ◌<◌, ◌≤◌, ◌∙◌, ◌∷◌, ◌≡◌, Option, length, map, slice_index_or, IsTrue}
 use Rattle.std.specs.Prelude.{◌==◌, Result, if◌then◌else◌, is_err, not}
 use Rattle.std.specs.List.{cons_option, list_all, range_with_len}
 use Rattle.std.proofs.lemmas.Bool.{and_parts, eqb-true}
@@ -25,6 +25,7 @@ use Rattle.playout.proofs.Standings.{after_item}
 use Rattle.playout.proofs.Items.{item_other}
 use Rattle.streams.proofs.Opened.{refused_illegal}
 use Rattle.evidence.proofs.Showing.{item_there}
+use Rattle.auditor.specs.declared.world.WorldLine.{WorldLine}
 use Rattle.auditor.specs.Agreed.{agreed_moves, all_agreed_moves, are_whole, line_of, world_by}
 use Rattle.auditor.specs.Played.{AreLegalIfWhole, AreOpen, line_at, moves_at}
 use Rattle.auditor.proofs.Agreeing.{whole_legal}
@@ -51,6 +52,17 @@ whole_each n (x ∷ xs) all = let p = and_parts (length x == n) (list_all (λ ow
 -- the moves of each player
 pub agreed_item : (game : Game) (owners : List (Option ℕ)) (logs : List (List Entry)) (q : ℕ) → q < players_of game → item_or (all_agreed_moves game owners logs) q [] ≡ agreed_moves game owners logs q
 agreed_item game owners logs q lt = item_range (agreed_moves game owners logs) 0 (players_of game) q [] lt ∙ ap (agreed_moves game owners logs) (zero-add q)
+
+-- nothing stands past the end
+pub item_past : {X : Type 0} (xs : List X) (q : ℕ) (d : X) → length xs ≤ q → item_or xs q d ≡ d
+item_past [] q d few = refl
+item_past (x ∷ xs) zero d few = absurd (omega arith)
+item_past (x ∷ xs) (suc q) d few = item_past xs q d (omega arith)
+
+pub line_past : (lines : List WorldLine) (q : ℕ) → length lines ≤ q → line_at lines q ≡ None
+line_past [] q few = refl
+line_past (line ∷ lines) zero few = absurd (omega arith)
+line_past (line ∷ lines) (suc q) few = line_past lines q (omega arith)
 
 pub item_length : {X : Type 0} (xs : List (List X)) (q : ℕ) → item_or (map length xs) q 0 ≡ length (item_or xs q [])
 item_length [] q = refl

@@ -1,5 +1,5 @@
 -- Reports: what a report tells of logs.
-use Rattle.std.specs.Prelude.{◌≡◌, ◌<◌, ℕ, List, Option}
+use Rattle.std.specs.Prelude.{◌≡◌, ◌<◌, ◌≤◌, ℕ, List, None, Option}
 use Rattle.definitions.specs.declared.logs.Entry.{Entry}
 use Rattle.definitions.specs.declared.findings.Finding.{Finding}
 use Rattle.definitions.specs.Lists.{item_or}
@@ -22,8 +22,9 @@ agreed_by r q = item_or r.agreed.items q 0
 abbrev pub world_by : Report → ℕ → Option WorldLine
 world_by r q = line_at r.lines.items q
 
--- it tells what these logs show, each of which is its owner's
+-- it tells what these logs show, each of which is its owner's, and nothing of players that the session lacks
 pub record IsReportOf (game : Game) (owners : List (Option ℕ)) (logs : List (List Entry)) (r : Report) : Type 0 where
   pub found : found_in r ≡ findings game logs
   pub agreed : AreOwned game owners logs → (q : ℕ) → q < players_of game → agreed_by r q ≡ agreed_count game owners logs q
   pub world : AreOwned game owners logs → (q : ℕ) → q < players_of game → world_by r q ≡ world game owners logs q
+  pub beyond : (q : ℕ) → players_of game ≤ q → (agreed_by r q ≡ 0) × (world_by r q ≡ None)

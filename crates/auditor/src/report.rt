@@ -2,7 +2,7 @@
 
 ghost use Rattle.std.specs.Prelude.{◌≡◌, ℕ, List, Option, IfOk, length, map};
 ghost use Rattle.definitions.specs.declared.logs.Entry.{Entry};
-ghost use Rattle.definitions.specs.World.{Game};
+ghost use Rattle.definitions.specs.World.{Game, players_of};
 ghost use Rattle.auditor.specs.Agreed as A;
 ghost use Rattle.auditor.specs.Audits.{IsAuditOf, StandsFor};
 ghost use Rattle.auditor.specs.Reading.{IsReadable};
@@ -60,6 +60,7 @@ struct Agreed {
 impl Auditor {
     /// The moves of each player's agreed turns.
     fn agreed(&self, alloc: Global, walker: &mut Walker) -> Result<Agreed, AllocError>
+        ensures many { IfOk result (λ a. length a.counts.items ≡ players_of self.now.session) }
         ensures counts { IfOk result (λ a. a.counts.items ≡ map (λ own. length own.items) a.moves.items) }
         ensures moves { IfOk result (λ a. (logs : List (List Entry)) → IsReadable self.now logs → map (λ own. own.items) a.moves.items ≡ A.all_agreed_moves self.now.session self.now.owners logs) }
     {

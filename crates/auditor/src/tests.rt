@@ -3,14 +3,14 @@
 ghost use Rattle.std.specs.Prelude.{IsTrue};
 ghost use Rattle.auditor.specs.Audits.{is_of_its_sender};
 
-use crate::{Auditor, Entry, Finding, MOST_LOGS, PlayerId};
+use crate::{Auditor, Entry, Exhibit, Finding, MOST_LOGS, PlayerId, Report};
 use commitment::digest_of;
 use definitions::limits::LONGEST_LOG;
 use definitions::{Cell, Kind, Move, Nonce, Opening, Spot, Turn, TurnFrame};
 use evidence::judge;
 use grid_world::{Session, read_session};
 use move_rules::Walker;
-use std::alloc::Global;
+use std::alloc::{AllocError, Global};
 use std::test::Fail;
 
 const CORRIDOR: &[u8] =
@@ -18,6 +18,13 @@ const CORRIDOR: &[u8] =
 
 /// The player of whom the logs have frames.
 const PLAYER: PlayerId = 2;
+
+fn corridor(alloc: Global) -> Result<Session, Fail> {
+    match read_session(alloc, CORRIDOR) {
+        Err(_) => Err("refused".into()),
+        Ok(session) => Ok(session),
+    }
+}
 
 /// The opening of a player who goes to the column.
 fn opening(turn: Turn, x: u16) -> Opening {
@@ -63,6 +70,18 @@ fn reveal(turn: Turn, x: u16) -> Entry
     )
 }
 
+/// The entry of a choice in turn 0.
+fn chose() -> Entry
+    ensures { IsTrue (is_of_its_sender result) }
+{
+    let own = opening(0, 0);
+    Entry::Chose {
+        turn: 0,
+        mv: own.mv,
+        nonce: own.nonce,
+    }
+}
+
 /// What a log's next entry is.
 #[derive(Clone, Copy)]
 enum Step {
@@ -81,33 +100,42 @@ fn entry(session: &Session, step: Step) -> Entry
     match step {
         Step::Commit(turn, x) => commit(session, turn, x),
         Step::Reveal(turn, x) => reveal(turn, x),
-        Step::Chose => Entry::Chose {
-            turn: 0,
-            mv: opening(0, 0).mv,
-            nonce: opening(0, 0).nonce,
-        },
+        Step::Chose => chose(),
     }
 }
 
-/// Takes the entry of the step, of a log that is there and not too long.
-fn take(auditor: &mut Auditor, session: &Session, log: u32, step: Step) -> Result<(), Fail> {
+/// Takes the entry, of a log that is there and not too long. False where it isn't.
+fn takes(auditor: &mut Auditor, log: u32, entry: &Entry) -> Result<bool, AllocError>
+    requires { IsTrue (is_of_its_sender entry.now) }
+{
     if log >= MOST_LOGS || auditor.count(log) as usize >= LONGEST_LOG {
-        return Err("no such log".into());
+        return Ok(false);
     }
-    auditor.take(log, &entry(session, step))?;
-    Ok(())
+    auditor.take(log, entry)?;
+    Ok(true)
+}
+
+/// Takes the entry of the step.
+fn take(auditor: &mut Auditor, session: &Session, log: u32, step: Step) -> Result<(), Fail> {
+    let entry = entry(session, step);
+    let takes = takes(auditor, log, &entry)?;
+    if takes {
+        Ok(())
+    } else {
+        Err("no such log".into())
+    }
 }
 
 /// Takes the entries of the steps, each of the log of its number.
 fn take_all(auditor: &mut Auditor, session: &Session, steps: &[(u32, Step)]) -> Result<(), Fail> {
-    for (log, step) in steps {
-        take(auditor, session, *log, *step)?;
+    for row in steps {
+        take(auditor, session, row.0, row.1)?;
     }
     Ok(())
 }
 
 /// Two moves, of which the second is too far, in one log; another move of the first turn in another log.
-const ODD: [(u32, Step); 7] = [
+static ODD: [(u32, Step); 7] = [
     (0, Step::Commit(0, 11)),
     (1, Step::Chose),
     (0, Step::Reveal(0, 11)),
@@ -117,7 +145,7 @@ const ODD: [(u32, Step); 7] = [
     (0, Step::Commit(1, 5)),
 ];
 
-const FOUND: [Finding; 3] = [
+static FOUND: [Finding; 3] = [
     Finding {
         player: PLAYER,
         turn: 0,
@@ -141,6 +169,10 @@ const FOUND: [Finding; 3] = [
     },
 ];
 
+fn exhibit_of(alloc: Global, auditor: &Auditor, finding: &Finding) -> Result<Exhibit, AllocError> {
+    auditor.exhibit(alloc, finding)
+}
+
 /// Whether the auditor's exhibit of the finding shows it.
 fn is_shown(
     alloc: Global,
@@ -148,40 +180,69 @@ fn is_shown(
     session: &Session,
     finding: &Finding,
 ) -> Result<bool, Fail> {
-    let exhibit = auditor.exhibit(alloc, finding)?;
+    let exhibit = exhibit_of(alloc, auditor, finding)?;
     let mut walker = Walker::new(alloc, session.grid())?;
     Ok(judge(session, &mut walker, &exhibit))
 }
 
-/// An auditor of the corridor that took the entries of the steps.
-fn audited(alloc: Global, session: &Session, steps: &[(u32, Step)]) -> Result<Auditor, Fail> {
+/// Whether the auditor's exhibit of each finding shows it.
+fn are_shown(alloc: Global, auditor: &Auditor, session: &Session) -> Result<bool, Fail> {
+    for finding in &FOUND {
+        let is_shown = is_shown(alloc, auditor, session, finding)?;
+        if !is_shown {
+            return Ok(false);
+        }
+    }
+    Ok(true)
+}
+
+/// An auditor of logs of the players 0 and 1, which took no entries.
+fn owned(alloc: Global, session: &Session) -> Result<Auditor, AllocError> {
     let mut auditor = Auditor::new(alloc, session)?;
     auditor.owner(0, 0);
     auditor.owner(1, 1);
+    Ok(auditor)
+}
+
+/// An auditor of the corridor that took the entries of the steps.
+fn audited(alloc: Global, session: &Session, steps: &[(u32, Step)]) -> Result<Auditor, Fail> {
+    let mut auditor = owned(alloc, session)?;
     take_all(&mut auditor, session, steps)?;
     Ok(auditor)
+}
+
+fn report_of(alloc: Global, auditor: &Auditor) -> Result<Report, AllocError> {
+    auditor.report(alloc)
+}
+
+/// Whether the report lists the findings, in their order.
+fn finds_all(report: &Report) -> bool {
+    report.findings() == FOUND.as_slice()
+}
+
+fn has_agreed(report: &Report, player: PlayerId, turns: Turn) -> bool {
+    report.agreed(player) == turns
 }
 
 #[test]
 fn findings_are_reported_and_shown(rt: HostRuntime) -> Result<(), Fail> {
     let alloc = rt.alloc();
-    let session = read_session(alloc, CORRIDOR).map_err(|_| "refused")?;
+    let session = corridor(alloc)?;
     let auditor = audited(alloc, &session, &ODD)?;
-    let report = auditor.report(alloc)?;
-    assert!(rt; report.findings() == FOUND.as_slice());
-    for finding in &FOUND {
-        assert!(rt; is_shown(alloc, &auditor, &session, finding)?);
-    }
+    let report = report_of(alloc, &auditor)?;
+    assert!(rt; finds_all(&report));
+    let are_shown = are_shown(alloc, &auditor, &session)?;
+    assert!(rt; are_shown);
     // the first turn is resolved in one log alone, and the illegal one in none
-    assert!(rt; report.agreed(0) == 0);
-    assert!(rt; report.agreed(PLAYER) == 1);
-    assert!(rt; report.agreed(3) == 0);
+    assert!(rt; has_agreed(&report, 0, 0));
+    assert!(rt; has_agreed(&report, PLAYER, 1));
+    assert!(rt; has_agreed(&report, 3, 0));
     assert!(rt; report.world(PLAYER).is_none());
     Ok(())
 }
 
 /// The same turn in both logs, by another move in each.
-const SPLIT: [(u32, Step); 4] = [
+static SPLIT: [(u32, Step); 4] = [
     (0, Step::Commit(0, 11)),
     (0, Step::Reveal(0, 11)),
     (1, Step::Reveal(0, 10)),
@@ -191,9 +252,9 @@ const SPLIT: [(u32, Step); 4] = [
 #[test]
 fn a_turn_of_two_moves_is_not_agreed(rt: HostRuntime) -> Result<(), Fail> {
     let alloc = rt.alloc();
-    let session = read_session(alloc, CORRIDOR).map_err(|_| "refused")?;
+    let session = corridor(alloc)?;
     let auditor = audited(alloc, &session, &SPLIT)?;
-    let report = auditor.report(alloc)?;
+    let report = report_of(alloc, &auditor)?;
     assert!(rt; report.findings().len() == 2);
     assert!(rt; report.agreed(PLAYER) == 0);
     Ok(())

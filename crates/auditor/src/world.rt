@@ -126,7 +126,8 @@ pub(crate) fn world(
     walker: &mut Walker,
     moves: &[Vec<Move>],
 ) -> Result<Vec<WorldLine>, AllocError>
-    ensures { IfOk result (λ lines. P.AreLegalIfWhole session.now (map (λ own. own.items) moves.now) → (q : ℕ) → q < players_of session.now → P.line_at lines.items q ≡ A.world_by session.now (map (λ own. own.items) moves.now) q) }
+    ensures few { IfOk result (λ lines. length lines.items ≤ players_of session.now) }
+    ensures lines { IfOk result (λ lines. P.AreLegalIfWhole session.now (map (λ own. own.items) moves.now) → (q : ℕ) → q < players_of session.now → P.line_at lines.items q ≡ A.world_by session.now (map (λ own. own.items) moves.now) q) }
 {
     if !are_whole(session, moves) {
         return Ok(Vec::new(alloc));

@@ -1,5 +1,4 @@
 pub mod Names
-pub mod Words
 pub mod Commands
 pub mod Lines
 pub mod Found

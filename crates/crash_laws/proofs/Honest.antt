@@ -2,6 +2,7 @@
 use Rattle.std.proofs.Common.{◌≡◌, ℕ, ◌<◌, true, sym, subst, List, [], ◌∷◌, ◌++◌}
 use Rattle.std.specs.Prelude.{Some, ◌==◌}
 use Rattle.std.proofs.lemmas.Bool.{and_from, and_parts, eqb-true, lt-ltb, ltb-true}
+use Rattle.plain_lemmas.proofs.Each.{each_append}
 use Rattle.definitions.specs.Lists.{EachIs}
 use Rattle.definitions.specs.declared.openings.Opening.{Opening}
 use Rattle.definitions.specs.declared.frames.TurnFrame.TheVariants.{Commit, Reveal}
@@ -14,7 +15,7 @@ use Rattle.definitions.specs.Logs.{chosen, chosen_in}
 use Rattle.definitions.specs.World.{Game}
 use Rattle.definition_laws.proofs.Alike.{commits_to_some, reveals_of_some}
 use Rattle.definition_laws.proofs.Chosen.{chosen_push}
-use Rattle.definition_laws.proofs.Listing.{EachIs_append, each_at, find_stands}
+use Rattle.definition_laws.proofs.Listing.{each_at, find_stands}
 use Rattle.definition_laws.proofs.WellFormed.{new_turn}
 
 -- the turn chosen for is one of the session's
@@ -58,7 +59,7 @@ well_from game me g [] below h = tt
 well_from game me g (e ∷ es) below h =
     let both = and_parts _ _ h in
     let well = well_next game me g e below both.0 in
-    let further = EachIs_append (IsBelow game) (chosen me g) (chosen_in me e ++ []) below (below_next game me e well) in
+    let further = each_append (IsBelow game) (chosen me g) (chosen_in me e ++ []) below (below_next game me e well) in
     (well, well_from game me (g ++ e ∷ []) es (subst (EachIs (IsBelow game)) (sym (chosen_push me g e)) further) both.1)
 
 none_below : (game : Game) (me : ℕ) → AreBelow game me []

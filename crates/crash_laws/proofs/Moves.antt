@@ -1,7 +1,7 @@
 -- Moves: what an item does to the log kept and to the place of the last sync.
 use Rattle.std.proofs.Common.{◌≡◌, ◌⊎◌, inl, inr, ℕ, ◌-◌, true, false, refl, sym, ap, ◌∙◌, List, ◌++◌, arith, length, take, drop, length-append}
 use Rattle.std.specs.Prelude.{Bool, ◌&&◌, ◌||◌, Option, Some, None}
-use Rattle.std.proofs.lemmas.Bool.{and_parts, false≢true}
+use Rattle.std.proofs.lemmas.Bool.{and_parts, false≢true, or_left}
 use Rattle.std.proofs.lemmas.List.{take_at, drop_at}
 use Rattle.std.proofs.lemmas.Slice.Eq.{bytes_eq-Decides}
 use Rattle.definitions.specs.declared.logs.Entry.{Entry}
@@ -12,13 +12,13 @@ use Rattle.session_log.proofs.Found.{length-sha256}
 use Rattle.socket_station.specs.Items.{Item, ListenCall, LogCall, DialCall, PollCall, ReadCall, WriteCall, KeepCall, SyncCall, Listening, LogBegun, Dialled, Polled, Took, Gave, ReadNotYet, WriteNotYet, Ended, Failed, Shut, Kept, Synced}
 use Rattle.socket_station.specs.Moved.{Log, log_after}
 use Rattle.loop_rules.specs.declared.phases.Phase.{Phase}
-use Rattle.loop_rules.specs.declared.phases.Phase.TheVariants.{Fresh, Logged, Running, KeepFault, PollFault}
+use Rattle.loop_rules.specs.declared.phases.Phase.TheVariants.{Logged, Running, KeepFault, PollFault}
 use Rattle.loop_rules.specs.Tables.{Table}
 use Rattle.loop_rules.specs.Views.{View}
 use Rattle.loop_rules.specs.Keeping.{entry_in, may_keep_in, may_keep_as, with_entry, kept_entry}
 use Rattle.loop_rules.specs.After.{after, with_table}
 use Rattle.loop_rules.specs.Licence.{is_running}
-use Rattle.loop_rules.specs.Rules.{is_fresh, is_logged, is_over_kept, is_allowed}
+use Rattle.loop_rules.specs.Rules.{is_logged, is_over_kept, is_allowed}
 use Rattle.loop_rules.proofs.Fair.{is_early}
 use Rattle.loop_rules.proofs.Kept.{Keeps, keeps_took, keeps_sorted}
 
@@ -82,13 +82,6 @@ rests_table v item t log = inl (record { kept = refl; writer = refl; setting = r
 rests_phase : (v : View) (item : Item) (p : Phase) → (is_early p ≡ true → is_early v.phase ≡ true) → (is_running p ≡ true → HasOver v) → ((l : Log) → log_after l item ≡ l) → Moves v item (record v { phase = p })
 rests_phase v item p early running log = inl (record { kept = refl; writer = refl; setting = refl; synced = refl; early = early; running = running; log = log })
 
-fresh_early : (p : Phase) → is_fresh p ≡ true → is_early p ≡ true
-fresh_early Fresh h = refl
-fresh_early Logged h = refl
-fresh_early Running h = h
-fresh_early KeepFault h = h
-fresh_early PollFault h = h
-
 pub adds_entry : (v : View) (bytes : List ℕ) (o : Option Entry) → entry_in v.writer bytes ≡ o → may_keep_as v bytes o ≡ true → Adds v (Kept bytes) (kept_entry v o)
 adds_entry v bytes None is h = absurd (false≢true h)
 adds_entry v bytes (Some e) is h =
@@ -104,7 +97,7 @@ adds_entry v bytes (Some e) is h =
 
 -- each item that is allowed moves so
 pub moves : (v : View) (item : Item) → is_allowed v item ≡ true → Moves v item (after v item)
-moves v (LogBegun name) h = rests_phase v (LogBegun name) Logged (λ e. fresh_early v.phase h) (λ e. absurd (false≢true e)) (λ l. refl)
+moves v (LogBegun name) h = rests_phase v (LogBegun name) Logged (λ e. or_left _ _ h) (λ e. absurd (false≢true e)) (λ l. refl)
 moves v (Listening addr) h = rests_phase v (Listening addr) Running (λ e. absurd (false≢true e)) (λ e. either (is_running v.phase) _ (and_parts _ _ (and_parts _ _ h).0).0) (λ l. refl)
 moves v (Dialled s q addr) h = rests_table v (Dialled s q addr) _ (λ l. refl)
 moves v (Polled list) h = rests_table v (Polled list) _ (λ l. refl)

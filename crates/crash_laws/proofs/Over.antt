@@ -1,15 +1,13 @@
 -- Over: from the first sync on, the entries taken over are the first ones that a sync found.
 use Rattle.std.proofs.Common.{◌≡◌, ◌⊎◌, inl, inr, ℕ, ◌≤◌, true, false, refl, sym, ap, subst, ◌∙◌, List, [], ◌∷◌, ◌++◌, arith, length, take, length-append, append_assoc, append-nil}
 use Rattle.std.specs.Prelude.{Bool, ◌&&◌, ◌||◌}
-use Rattle.std.proofs.lemmas.Bool.{and_parts, eqb-true, false≢true}
+use Rattle.std.proofs.lemmas.Bool.{and_parts, eqb-true, false≢true, or_right}
 use Rattle.std.proofs.lemmas.List.{take-append-le, take_all}
 use Rattle.definitions.specs.declared.logs.Entry.{Entry}
 use Rattle.definitions.specs.Honest.{IsHonest}
 use Rattle.session_log.specs.Spelling.{log_bytes}
 use Rattle.socket_station.specs.Items.{Item}
 use Rattle.socket_station.specs.Moved.{synced_in}
-use Rattle.loop_rules.specs.declared.phases.Phase.{Phase}
-use Rattle.loop_rules.specs.declared.phases.Phase.TheVariants.{Fresh, Logged, Running, KeepFault, PollFault}
 use Rattle.loop_rules.specs.Settings.{Setting}
 use Rattle.loop_rules.specs.Views.{View, start}
 use Rattle.loop_rules.specs.Licence.{is_running}
@@ -18,7 +16,7 @@ use Rattle.loop_rules.specs.After.{after, view_after, view_of}
 use Rattle.loop_rules.specs.Histories.{are_allowed, IsHistory}
 use Rattle.crash_laws.proofs.Moves.{Moves, moves}
 use Rattle.crash_laws.proofs.Synced.{safe, synced_bytes}
-use Rattle.loop_rules.proofs.Fair.{is_early, Fair, fair_item, fair_first}
+use Rattle.loop_rules.proofs.Fair.{Fair, fair_item, fair_first}
 
 -- these entries begin with those taken over
 abbrev pub Begins : Setting → List Entry → Type 0
@@ -36,13 +34,6 @@ begins_same s es fs same b = (b.0, same ∙ b.1)
 begins_more : (s : Setting) (es : List Entry) (e : Entry) → Begins s es → Begins s (es ++ e ∷ [])
 begins_more s es e b = (b.0 ++ e ∷ [], ap (λ (x : List Entry). x ++ e ∷ []) b.1 ∙ append_assoc s.over b.0 (e ∷ []))
 
-logged_early : (p : Phase) → is_logged p ≡ true → is_early p ≡ true
-logged_early Fresh h = refl
-logged_early Logged h = refl
-logged_early Running h = h
-logged_early KeepFault h = h
-logged_early PollFault h = h
-
 -- as many entries are kept as are taken over, and these go on with them
 all_kept : (kept over rest : List Entry) → over ≡ kept ++ rest → length kept ≡ length over → kept ≡ over ++ []
 all_kept kept over [] same many = sym (same ∙ append-nil kept) ∙ sym (append-nil over)
@@ -51,7 +42,7 @@ all_kept kept over (e ∷ rest) same many = (let long = ap length same in let bo
 begins_logged : (s : Setting) (v : View) → (is_logged v.phase && is_over_kept v) ≡ true → Fair s v → Begins s v.kept
 begins_logged s v h fair =
     let both = and_parts _ _ h in
-    let early = fair.2 (logged_early v.phase both.0) in
+    let early = fair.2 (or_right _ _ both.0) in
     let many : length v.kept ≡ length s.over = eqb-true _ _ both.1 ∙ ap (λ (x : Setting). length x.over) fair.0 in
     ([], all_kept v.kept s.over early.0 early.1 many)
 

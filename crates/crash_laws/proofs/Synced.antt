@@ -3,9 +3,9 @@ use Rattle.std.proofs.Common.{◌≡◌, inl, inr, ℕ, ◌≤◌, true, refl, s
 use Rattle.std.specs.List.{fold}
 use Rattle.std.proofs.lemmas.Bool.{and_parts}
 use Rattle.std.proofs.lemmas.List.{take-append-le, take-append-drop, take_all}
+use Rattle.plain_lemmas.proofs.Each.{each_append}
 use Rattle.definitions.specs.Lists.{EachIs}
 use Rattle.definitions.specs.declared.logs.Entry.{Entry}
-use Rattle.definition_laws.proofs.Listing.{EachIs_append}
 use Rattle.session_log.specs.Spelling.{log_bytes}
 use Rattle.session_log.specs.Writing.{Writing, fresh, written, all_written}
 use Rattle.session_log.specs.Writing as W
@@ -89,7 +89,7 @@ goes_adds w v behind item log r s =
         kept = all ∙ ap (all_written w) (sym k.kept);
         synced = s.synced ∙ ap (all_written w) (sym same);
         within = omega arith;
-        read = subst (EachIs IsRead) (sym k.kept) (EachIs_append IsRead v.kept (e ∷ []) s.read (r.read, tt));
+        read = subst (EachIs IsRead) (sym k.kept) (each_append IsRead v.kept (e ∷ []) s.read (r.read, tt));
       }),
       grows_same v behind same,
     )

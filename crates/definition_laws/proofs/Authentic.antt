@@ -3,6 +3,7 @@ use Rattle.std.proofs.Common.{List, None, Some, [], ap, refl, subst, sym, zero, 
 use Rattle.std.specs.Prelude.{map, ◌==◌}
 use Rattle.std.proofs.lemmas.Bool.{cond-false, ne_eqb}
 use Rattle.std.proofs.lemmas.Option.{slice_get_within}
+use Rattle.plain_lemmas.proofs.Each.{each_kept}
 use Rattle.definitions.specs.declared.world.Move.{Move}
 use Rattle.definitions.specs.declared.openings.Opening.{Opening}
 use Rattle.definitions.specs.declared.frames.TurnFrame.{TurnFrame}
@@ -19,7 +20,7 @@ use Rattle.definitions.specs.Steps.{IsMadeIn}
 use Rattle.definition_laws.proofs.Deliveries.{made_in_Has}
 use Rattle.definition_laws.proofs.Innocent.{Conforms, conform_honest, innocent, known_chosen}
 use Rattle.definition_laws.proofs.Least.{findings_Has}
-use Rattle.definition_laws.proofs.Listing.{EachIs_kept, slice_get_take}
+use Rattle.definition_laws.proofs.Listing.{slice_get_take}
 use Rattle.definition_laws.proofs.Members.{Has_each}
 use Rattle.definition_laws.proofs.OwnLog.{own_honest}
 
@@ -27,7 +28,7 @@ use Rattle.definition_laws.proofs.OwnLog.{own_honest}
 pub got_conform : (game : Game) (q : ℕ) (own h : List Entry) → 1 ≤ game.ahead → IsHonest game q own → EachIs (IsMadeIn own) (got_of q h) →
     EachIs (Conforms game (chosen q own)) (got_of q h)
 got_conform game q own h d honest all =
-    EachIs_kept _ _ (got_of q h) (λ f at. Has_each (Conforms game (chosen q own)) (made own) f (conform_honest game q own d honest) (made_in_Has own f at)) all
+    each_kept _ _ (got_of q h) (λ f at. Has_each (Conforms game (chosen q own)) (made own) f (conform_honest game q own d honest) (made_in_Has own f at)) all
 
 -- a player of whom the logs got only what its own honest log made is never named
 pub never_named : (game : Game) (q : ℕ) (own : List Entry) (logs : List (List Entry)) (f : Finding) → 1 ≤ game.ahead → IsHonest game q own →
@@ -35,7 +36,7 @@ pub never_named : (game : Game) (q : ℕ) (own : List Entry) (logs : List (List 
 never_named game q own logs f d honest all m player =
     let w = own_honest game q own d honest in
     let there = findings_Has game logs f m in
-    let none = innocent game q f.turn (chosen q own) logs f.kind w.legal (EachIs_kept _ _ logs (λ g h. got_conform game q own g d honest h) all) in
+    let none = innocent game q f.turn (chosen q own) logs f.kind w.legal (each_kept _ _ logs (λ g h. got_conform game q own g d honest h) all) in
     let some : finding_at game logs q f.turn f.kind ≡ Some f = subst (λ (n : ℕ). finding_at game logs n f.turn f.kind ≡ Some f) player there.2 in
     let e : None ≡ Some f = sym none ∙ some in
     cc

@@ -3,6 +3,7 @@ use Rattle.std.proofs.Common.{Bool, List, None, Some, [], ap, append_assoc, arit
 use Rattle.std.specs.Prelude.{Option, find, flat_map, if◌then◌else◌, map, min, nat_le, nat_lt, option_map, slice_get, take, ◌&&◌, ◌==◌}
 use Rattle.std.specs.Option.{option_or}
 use Rattle.std.proofs.lemmas.Bool.{and_parts, and_right, cond-false, eqb-true, false≢true, leb-true}
+use Rattle.plain_lemmas.proofs.Each.{each_append, each_kept}
 use Rattle.definitions.specs.declared.findings.Kind.TheVariants.{BadOpening, Collision, Illegal, TwoCommits}
 use Rattle.definitions.specs.Findings.{Sighting, are_bad_opening, are_collision, are_illegal, are_two_commits, finding_at, finding_of, first_pair, got_known, is_illegal_at, is_reveal, same_digest, show_kind, sightings, sightings_from}
 use Rattle.definitions.specs.declared.openings.Opening.{Opening}
@@ -20,7 +21,7 @@ use Rattle.definitions.specs.declared.openings.Digest.{Digest}
 use Rattle.definitions.specs.Openings.{commitment}
 use Rattle.definitions.specs.declared.world.Move.{Move}
 use Rattle.definitions.specs.World.{Game}
-use Rattle.definition_laws.proofs.Listing.{EachIs_append, EachIs_kept, append_nil, each_at, map_take_more, slice_get_front}
+use Rattle.definition_laws.proofs.Listing.{append_nil, each_at, map_take_more, slice_get_front}
 use Rattle.definition_laws.proofs.OwnStream.{IsOwn, own_empty}
 use Rattle.definition_laws.proofs.Alike.{commits_to_some, digest_eq_same, frame_eq_same, reveal_from, reveal_move, reveals_of_some}
 use Rattle.definition_laws.proofs.Headline.{first_opening_opens}
@@ -49,14 +50,14 @@ conform_step game me g (Got q f) w all h =
     conform_at game _ _ _ _ (sym (append_nil (made g)) ∙ sym (made_push g (Got q f))) (sym (append_nil (chosen me g)) ∙ sym (chosen_push me g (Got q f))) all
 conform_step game me g (Chose t m n) w all h =
     conform_at game _ _ _ _ (sym (append_nil (made g)) ∙ sym (made_push g (Chose t m n))) (sym (chosen_push me g (Chose t m n)))
-    (EachIs_kept _ _ (made g) (λ f c. Conforms_more game (chosen me g) (record { player = me; turn = t; mv = m; nonce = n } ∷ []) f c) all)
+    (each_kept _ _ (made g) (λ f c. Conforms_more game (chosen me g) (record { player = me; turn = t; mv = m; nonce = n } ∷ []) f c) all)
 conform_step game me g (Made (Commit p t k)) w all h =
     let a = and_parts _ _ (and_parts _ _ h).1 in
     let b = and_parts _ _ a.0 in
     let o = commits_to_some game (chosen_for me g t) k b.1 in
     let there = sym (find_chosen me 0 t (chosen me g) w.chosen_are) ∙ ap (λ n. find (λ o. o.turn == n) (chosen me g)) (zero-add t) ∙ o.1 in
     conform_at game _ _ _ _ (sym (made_push g (Made (Commit p t k)))) (sym (append_nil (chosen me g)) ∙ sym (chosen_push me g (Made (Commit p t k))))
-    (EachIs_append _ (made g) (Commit p t k ∷ []) all ((o.0, there, o.2), tt))
+    (each_append _ (made g) (Commit p t k ∷ []) all ((o.0, there, o.2), tt))
 conform_step game me g (Made (Reveal p t m n)) w all h =
     let a = and_parts _ _ (and_parts _ _ h).1 in
     let b = and_parts _ _ a.0 in
@@ -67,7 +68,7 @@ conform_step game me g (Made (Reveal p t m n)) w all h =
     let turn : o.0.turn ≡ t = who.1 ∙ zero-add t in
     let same = reveal_from p o.0.player t o.0.turn m o.0.mv n o.0.nonce (eqb-true _ _ c.0 ∙ sym who.0) (sym turn) o.2 o.3 in
     conform_at game _ _ _ _ (sym (made_push g (Made (Reveal p t m n)))) (sym (append_nil (chosen me g)) ∙ sym (chosen_push me g (Made (Reveal p t m n))))
-    (EachIs_append _ (made g) (Reveal p t m n ∷ []) all ((o.0, there, same), tt))
+    (each_append _ (made g) (Reveal p t m n ∷ []) all ((o.0, there, same), tt))
 
 conform_from : (game : Game) (me : ℕ) (g es : List Entry) → 1 ≤ game.ahead → IsOwn game me (made g) (chosen me g) → AllConform game me g → honest_from game me g es ≡ true → AllConform game me (g ++ es)
 unfolding honest_from
@@ -209,7 +210,7 @@ fine_from game q t log i os (Got p g ∷ h) all = go (p == q) (turn_of g == t) r
 fine_among : (game : Game) (q t n : ℕ) (os : List Opening) (logs : List (List Entry)) → AllGotConform game q os logs → EachIs (IsFine game os t) (sightings q t n logs)
 unfolding sightings got_of
 fine_among game q t n os [] all = tt
-fine_among game q t n os (g ∷ logs) all = EachIs_append _ (sightings_from q t n 0 g) _ (fine_from game q t n 0 os g all.0) (fine_among game q t (n + 1) os logs all.1)
+fine_among game q t n os (g ∷ logs) all = each_append _ (sightings_from q t n 0 g) _ (fine_from game q t n 0 os g all.0) (fine_among game q t (n + 1) os logs all.1)
 
 no_pair : {X : Type 0} (test : X → X → Bool) (P : X → Type 0) → ((x y : X) → P x → P y → test x y ≡ false) → (xs : List X) → EachIs P xs → first_pair test xs ≡ None
 unfolding first_pair

@@ -3,32 +3,33 @@ use Rattle.std.proofs.Common.{Bool, List, None, Some, [], ap, arith, inl, inr, r
 use Rattle.std.specs.Option.{option_or}
 use Rattle.std.specs.Prelude.{Option, filter_map, find, flat_map, option_map}
 use Rattle.std.specs.List.{range_with_len}
+use Rattle.plain_lemmas.proofs.Each.{each_append, each_kept}
 use Rattle.definitions.specs.Findings.{ComesBefore, IsOrdered, IsShown, Sighting, finding_at, finding_of, findings, findings_in, first_pair, kind_rank, kinds, show_kind, sightings}
 use Rattle.definitions.specs.declared.findings.Kind.{Kind}
 use Rattle.definitions.specs.declared.findings.Finding.{Finding}
 use Rattle.definitions.specs.World.{Game, players_of}
 use Rattle.definitions.specs.Lists.{EachIs}
 use Rattle.definitions.specs.declared.logs.Entry.{Entry}
-use Rattle.definition_laws.proofs.Listing.{EachIs_append, EachIs_kept, EachIs_filter_map, find_stands, EachIs_flat_map}
+use Rattle.definition_laws.proofs.Listing.{EachIs_filter_map, find_stands, EachIs_flat_map}
 
 IsOrdered_append : (xs ys : List Finding) → IsOrdered xs → IsOrdered ys → EachIs (λ f. EachIs (ComesBefore f) ys) xs → IsOrdered (xs ++ ys)
 IsOrdered_append [] ys h k b = k
-IsOrdered_append (x ∷ xs) ys h k b = (EachIs_append (ComesBefore x) xs ys h.0 b.0, IsOrdered_append xs ys h.1 k b.1)
+IsOrdered_append (x ∷ xs) ys h k b = (each_append (ComesBefore x) xs ys h.0 b.0, IsOrdered_append xs ys h.1 k b.1)
 
 -- lists by rising number, each with its number, make a list with numbers from the first on
 range_each : (At : ℕ → Finding → Type 0) (f : ℕ → List Finding) (a n : ℕ) → ((i : ℕ) → EachIs (At i) (f i)) →
     EachIs (λ x. (i : ℕ) × (a ≤ i) × At i x) (flat_map f (range_with_len a n))
 range_each At f a zero e = tt
 range_each At f a (suc n) e =
-    EachIs_append _ (f a) _ (EachIs_kept _ _ (f a) (λ x h. (a, omega arith, h)) (e a))
-    (EachIs_kept _ _ _ (λ x h. (h.0, omega arith, h.2)) (range_each At f (a + 1) n e))
+    each_append _ (f a) _ (each_kept _ _ (f a) (λ x h. (a, omega arith, h)) (e a))
+    (each_kept _ _ _ (λ x h. (h.0, omega arith, h.2)) (range_each At f (a + 1) n e))
 
 range_ordered : (At : ℕ → Finding → Type 0) (f : ℕ → List Finding) (a n : ℕ) → ((i : ℕ) → EachIs (At i) (f i)) → ((i : ℕ) → IsOrdered (f i)) →
     ((i j : ℕ) (x y : Finding) → i < j → At i x → At j y → ComesBefore x y) → IsOrdered (flat_map f (range_with_len a n))
 range_ordered At f a zero e o b = tt
 range_ordered At f a (suc n) e o b =
     IsOrdered_append (f a) (flat_map f (range_with_len (a + 1) n)) (o a) (range_ordered At f (a + 1) n e o b)
-    (EachIs_kept _ _ (f a) (λ x h. EachIs_kept _ _ _ (λ y k. b a k.0 x y (omega arith) h k.2) (range_each At f (a + 1) n e)) (e a))
+    (each_kept _ _ (f a) (λ x h. each_kept _ _ _ (λ y k. b a k.0 x y (omega arith) h k.2) (range_each At f (a + 1) n e)) (e a))
 
 -- the finding is of this player and turn
 abbrev IsOf : ℕ → ℕ → Finding → Type 0
@@ -83,7 +84,7 @@ filter_map_ordered q t g is low (k ∷ ks) h =
         let of = is k f e in
         let rank : kind_rank f.kind ≡ kind_rank k = ap kind_rank of.2 in
         rw e (
-          EachIs_kept _ (ComesBefore f) (filter_map g ks)
+          each_kept _ (ComesBefore f) (filter_map g ks)
               (λ x h. inr (of.0 ∙ sym h.0, inr (of.1 ∙ sym h.1, let above = h.2 in omega arith))) each,
           ih,
         )
@@ -91,7 +92,7 @@ filter_map_ordered q t g is low (k ∷ ks) h =
 findings_in_each : (game : Game) (logs : List (List Entry)) (q t : ℕ) → EachIs (IsOf q t) (findings_in game logs q t)
 unfolding findings_in
 findings_in_each game logs q t =
-    EachIs_kept _ (IsOf q t) _ (λ x h. (h.0, h.1))
+    each_kept _ (IsOf q t) _ (λ x h. (h.0, h.1))
     (filter_map_each q t (finding_at game logs q t) (finding_at_kind game logs q t) 0 kinds (omega arith, (omega arith, (omega arith, (omega arith, tt)))))
 
 findings_in_ordered : (game : Game) (logs : List (List Entry)) (q t : ℕ) → IsOrdered (findings_in game logs q t)
@@ -105,7 +106,7 @@ pub findings_ordered : (game : Game) (logs : List (List Entry)) → IsOrdered (f
 unfolding findings
 findings_ordered game logs =
     range_ordered (λ q f. f.player ≡ q) (λ q. flat_map (findings_in game logs q) (range_with_len 0 game.turns)) 0 (players_of game)
-    (λ q. EachIs_kept _ (λ f. f.player ≡ q) _ (λ x h. h.2.0)
+    (λ q. each_kept _ (λ f. f.player ≡ q) _ (λ x h. h.2.0)
     (range_each (IsOf q) (findings_in game logs q) 0 game.turns (findings_in_each game logs q)))
     (λ q. range_ordered (IsOf q) (findings_in game logs q) 0 game.turns (findings_in_each game logs q) (findings_in_ordered game logs q)
     (λ i j x y lt h k. inr (h.0 ∙ sym k.0, inl (let a = h.1 in let b = k.1 in omega arith))))

@@ -2,18 +2,11 @@
 use Rattle.std.proofs.Common.{Bool, List, None, Some, [], ap, append_assoc, arith, false, inl, inr, length, length-append, refl, subst, suc, sym, true, zero, ℕ, ◌++◌, ◌+◌, ◌<◌, ◌∙◌, ◌∷◌, ◌≡◌, ◌≤◌, ◌⊎◌}
 use Rattle.std.specs.Option.{option_or}
 use Rattle.std.proofs.lemmas.List.{map-append}
-use Rattle.std.specs.Prelude.{Option, cond, filter_map, find, flat_map, if◌then◌else◌, is_none, is_some, map, not, slice_get, take, ◌||◌}
+use Rattle.std.specs.Prelude.{Option, cond, filter_map, find, flat_map, if◌then◌else◌, is_none, is_some, map, slice_get, take, ◌||◌}
 use Rattle.std.proofs.lemmas.Bool.{and_from, and_parts, false≢true, or_left, or_right}
 use Rattle.std.specs.List.{list_all}
+use Rattle.plain_lemmas.proofs.Each.{each_append}
 use Rattle.definitions.specs.Lists.{EachIs, is_empty}
-
-pub EachIs_append : {X : Type 0} (P : X → Type 0) (xs ys : List X) → EachIs P xs → EachIs P ys → EachIs P (xs ++ ys)
-EachIs_append P [] ys h k = k
-EachIs_append P (x ∷ xs) ys h k = (h.0, EachIs_append P xs ys h.1 k)
-
-pub EachIs_kept : {X : Type 0} (P Q : X → Type 0) (xs : List X) → ((x : X) → P x → Q x) → EachIs P xs → EachIs Q xs
-EachIs_kept P Q [] f h = tt
-EachIs_kept P Q (x ∷ xs) f h = (f x h.0, EachIs_kept P Q xs f h.1)
 
 pub each_at : {X : Type 0} (P : X → Type 0) (front back : List X) (x : X) → EachIs P (front ++ x ∷ back) → P x
 each_at P [] back x h = h.0
@@ -126,10 +119,6 @@ pub either_kept : (a b a' b' : Bool) → (a ≡ true → a' ≡ true) → (b ≡
 either_kept true b a' b' f g h = or_left _ _ (f refl)
 either_kept false b a' b' f g h = or_right a' b' (g h)
 
-pub not_kept : (a b : Bool) → (b ≡ true → a ≡ true) → not a ≡ true → not b ≡ true
-not_kept a true f h = let e = f refl in grind arith
-not_kept a false f h = refl
-
 -- of two places of a list one is the other, or stands before it
 pub split_two : {X : Type 0} (xs xs' : List X) (a b : X) (ys ys' : List X) → xs ++ a ∷ ys ≡ xs' ++ b ∷ ys' →
     (a ≡ b) ⊎ (((between : List X) × (ys ≡ between ++ b ∷ ys')) ⊎ ((between : List X) × (ys' ≡ between ++ a ∷ ys)))
@@ -148,7 +137,7 @@ EachIs_filter_map {Y = Y} P g (x ∷ xs) h = go (g x) refl (EachIs_filter_map P 
 
 pub EachIs_flat_map : {X Y : Type 0} (P : Y → Type 0) (f : X → List Y) (xs : List X) → ((x : X) → EachIs P (f x)) → EachIs P (flat_map f xs)
 EachIs_flat_map P f [] h = tt
-EachIs_flat_map P f (x ∷ xs) h = EachIs_append P (f x) (flat_map f xs) (h x) (EachIs_flat_map P f xs h)
+EachIs_flat_map P f (x ∷ xs) h = each_append P (f x) (flat_map f xs) (h x) (EachIs_flat_map P f xs h)
 
 -- an empty list, by its test
 pub empty_nil : {X : Type 0} (xs : List X) → is_empty xs ≡ true → xs ≡ []

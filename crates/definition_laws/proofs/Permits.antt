@@ -3,6 +3,7 @@ use Rattle.std.proofs.Common.{Bool, List, Some, [], ap, append_assoc, arith, fal
 use Rattle.std.specs.Prelude.{cond, filter, if◌then◌else◌, is_some, map, nat_lt, not, ◌&&◌, ◌||◌}
 use Rattle.std.specs.List.{list_all}
 use Rattle.std.proofs.lemmas.Bool.{and_parts}
+use Rattle.plain_lemmas.proofs.Tests.{not_kept}
 use Rattle.definitions.specs.Needs.{need_of, needs, needs_unless}
 use Rattle.definitions.specs.Honest.{IsHonest, allowed, honest_from, lets_commit, lets_reveal, made_count, may_commit, may_reveal, others}
 use Rattle.definitions.specs.Lists.{is_empty}
@@ -12,7 +13,7 @@ use Rattle.definitions.specs.Held.{held, resolved, resolved_count}
 use Rattle.definitions.specs.Places.{slot_at}
 use Rattle.definitions.specs.World.{Game}
 use Rattle.definitions.specs.declared.logs.Entry.{Entry}
-use Rattle.definition_laws.proofs.Listing.{append_nil, either_kept, list_all_kept, not_kept, some_along}
+use Rattle.definition_laws.proofs.Listing.{append_nil, either_kept, list_all_kept, some_along}
 use Rattle.definition_laws.proofs.Grows.{known_grows}
 use Rattle.definition_laws.proofs.Meetings.{meets_before}
 

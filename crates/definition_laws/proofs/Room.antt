@@ -1,11 +1,12 @@
 -- Room: the received frames of a clean honest log have places that all differ, so there are few of them.
 use Rattle.std.proofs.Common.{◌≡◌, ℕ, zero, suc, ◌+◌, ◌-◌, ◌*◌, ◌/◌, ◌≤◌, ◌<◌, List, [], ◌∷◌, ◌++◌, length, length-append, append_assoc, refl, true, false, sym, ◌∙◌, ap, subst, arith, inl, inr, ◌⊎◌}
 use Rattle.std.specs.Prelude.{◌==◌, not, flat_map, nat_lt, if◌then◌else◌}
-use Rattle.std.specs.List.{list_any, IsDistinct, AllByRecursion}
+use Rattle.std.specs.List.{list_any, IsDistinct}
 use Rattle.std.proofs.lemmas.Bool.{and_parts, cases_lt, cond-true, cond-false, lt-ltb, le-ltb, ltb-true, eq-eqb, eqb-true, ne_eqb, or_cases, false≢true}
 use Rattle.std.proofs.lemmas.Nat.{div-mul-add}
 use Rattle.std.proofs.Math.Nat.{mul-le-mul_right}
 use Rattle.std.proofs.lemmas.Map.Steps.{length-le_from_distinct_below}
+use Rattle.plain_lemmas.proofs.Each.{each_push}
 use Rattle.definitions.specs.declared.frames.TurnFrame.{TurnFrame}
 use Rattle.definitions.specs.declared.frames.TurnFrame.TheVariants.{Commit, Reveal}
 use Rattle.definitions.specs.declared.logs.Entry.{Entry}
@@ -119,15 +120,11 @@ code_taken game me q h f ahead all another lt m = go at.0 at.1 at.2
         let player = rank_same me p q (other_player game me p g well.1).1 (other_player game me q f another).1 same.0 in
         (g, subst (λ (n : ℕ). Has h (Got n g)) player there, same.1)
 
-all_push : (P : ℕ → Type 0) (xs : List ℕ) (y : ℕ) → AllByRecursion P xs → P y → AllByRecursion P (xs ++ y ∷ [])
-all_push P [] y h k = (k, tt)
-all_push P (x ∷ xs) y h k = (h.0, all_push P xs y h.1 k)
-
 distinct_push : (xs : List ℕ) (y : ℕ) → IsDistinct (λ a b. a == b) xs → (Has xs y → ⊥) → IsDistinct (λ a b. a == b) (xs ++ y ∷ [])
 unfolding IsDistinct
 distinct_push [] y d none = (tt, tt)
 distinct_push (x ∷ xs) y d none =
-    (all_push (λ z. (x == z) ≡ false) xs y d.0 (ne_eqb x y (λ e. none (inl e))), distinct_push xs y d.1 (λ m. none (inr m)))
+    (each_push (λ z. (x == z) ≡ false) xs y d.0 (ne_eqb x y (λ e. none (inl e))), distinct_push xs y d.1 (λ m. none (inr m)))
 
 pub clean_none : (game : Game) (h : List Entry) → is_clean game h ≡ true → findings game (h ∷ []) ≡ []
 unfolding is_clean

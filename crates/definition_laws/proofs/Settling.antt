@@ -4,6 +4,7 @@ use Rattle.std.specs.List.{list_any}
 use Rattle.std.proofs.lemmas.Bool.{and_from, and_parts, eqb-true, false≢true, or_cases, or_left}
 use Rattle.std.proofs.lemmas.List.Folds.{list_any-append}
 use Rattle.std.proofs.lemmas.Option.{slice_get_within}
+use Rattle.plain_lemmas.proofs.Tests.{not_kept}
 use Rattle.definitions.specs.declared.frames.TurnFrame.{TurnFrame}
 use Rattle.definitions.specs.declared.frames.TurnFrame.TheVariants.{Commit, Reveal}
 use Rattle.definitions.specs.declared.logs.Entry.{Entry}
@@ -16,7 +17,7 @@ use Rattle.definitions.specs.Honest.{IsHonest, lets_commit, others}
 use Rattle.definitions.specs.Settled.{is_reveal_of, is_settled}
 use Rattle.definition_laws.specs.Members.{Has}
 use Rattle.definition_laws.proofs.ForPeers.{made_item_place, own_next}
-use Rattle.definition_laws.proofs.Listing.{either_kept, flat_map_append, list_all_kept, not_kept}
+use Rattle.definition_laws.proofs.Listing.{either_kept, flat_map_append, list_all_kept}
 use Rattle.definition_laws.proofs.Meetings.{meets_before}
 use Rattle.definition_laws.proofs.Members.{Has_slice_get}
 use Rattle.definition_laws.proofs.Nexts.{known_orderly}

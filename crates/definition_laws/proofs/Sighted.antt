@@ -2,6 +2,7 @@
 use Rattle.std.proofs.Common.{Bool, List, None, Some, [], ap, arith, false, inl, inr, refl, subst, suc, sym, true, zero, zero-add, ℕ, ◌++◌, ◌+◌, ◌-◌, ◌∙◌, ◌∷◌, ◌≡◌, ◌≤◌, ◌⊎◌, slice_get}
 use Rattle.std.specs.Prelude.{if◌then◌else◌, ◌&&◌, ◌==◌}
 use Rattle.std.proofs.lemmas.Bool.{and_from, eq-eqb, eqb-true}
+use Rattle.plain_lemmas.proofs.Each.{each_append}
 use Rattle.definitions.specs.declared.frames.TurnFrame.{TurnFrame}
 use Rattle.definitions.specs.declared.findings.Spot.{Spot}
 use Rattle.definitions.specs.declared.logs.Entry.{Entry}
@@ -11,7 +12,6 @@ use Rattle.definitions.specs.Logs.{turn_of}
 use Rattle.definitions.specs.Findings.{Sighting, sightings, sightings_from}
 use Rattle.definition_laws.specs.Members.{Has}
 use Rattle.definition_laws.specs.Spots.{IsSighting, SpotBefore}
-use Rattle.definition_laws.proofs.Listing.{EachIs_append}
 use Rattle.definition_laws.proofs.Members.{Has_append, Has_back, Has_front, each_Has}
 
 -- a spot by its log and its entry
@@ -125,7 +125,7 @@ IsSorted R (x ∷ xs) = EachIs (R x) xs × IsSorted R xs
 sorted_append : {X : Type 0} (R : X → X → Type 0) (xs ys : List X) → IsSorted R xs → IsSorted R ys → EachIs (λ x. EachIs (R x) ys) xs → IsSorted R (xs ++ ys)
 unfolding IsSorted
 sorted_append R [] ys a b c = b
-sorted_append R (x ∷ xs) ys a b c = (EachIs_append (R x) xs ys a.0 c.0, sorted_append R xs ys a.1 b c.1)
+sorted_append R (x ∷ xs) ys a b c = (each_append (R x) xs ys a.0 c.0, sorted_append R xs ys a.1 b c.1)
 
 -- of the sightings the lower stands first
 abbrev pub SeenBefore : Sighting → Sighting → Type 0

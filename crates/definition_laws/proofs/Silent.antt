@@ -75,7 +75,7 @@ unfolding sightings_from
 sights_push q t log i [] e none = ap (λ (ss : List Sighting). ss ++ []) (none i)
 sights_push q t log i (x ∷ h) e none = ap (λ (ss : List Sighting). sighting_at q t log i x ++ ss) (sights_push q t log (i + 1) h e none)
 
-got_push : (q : ℕ) (h : List Entry) (e : Entry) → got_in q e ≡ [] → got_of q (h ++ e ∷ []) ≡ got_of q h
+pub got_push : (q : ℕ) (h : List Entry) (e : Entry) → got_in q e ≡ [] → got_of q (h ++ e ∷ []) ≡ got_of q h
 unfolding got_of
 got_push q h e none = flat_map_append (got_in q) h (e ∷ []) ∙ ap (λ (fs : List TurnFrame). flat_map (got_in q) h ++ (fs ++ [])) none ∙ append_nil (flat_map (got_in q) h)
 

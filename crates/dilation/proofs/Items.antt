@@ -2,7 +2,7 @@
 use Rattle.std.proofs.Common.{◌≡◌, ℕ, zero, suc, ◌<◌, List, [], ◌∷◌, ◌++◌, length, refl, ap, arith, sym, ◌∙◌}
 use Rattle.std.proofs.lemmas.List.{get_or-set_same}
 use Rattle.std.specs.Prelude.{map, slice_set}
-use Rattle.definitions.specs.Lists.{EachIs, item_or}
+use Rattle.definitions.specs.Lists.{item_or}
 use Rattle.definitions.proofs.Items.{item_is}
 
 -- what is read of each item, where one of them is another
@@ -10,12 +10,6 @@ pub map_set : {X Y : Type 0} (f : X → Y) (xs : List X) (i : ℕ) (x : X) → m
 map_set f [] i x = refl
 map_set f (y ∷ xs) zero x = refl
 map_set f (y ∷ xs) (suc i) x = ap (λ ys. f y ∷ ys) (map_set f xs i x)
-
--- what holds of each item still does, where it holds of the one that was written
-pub each_set : {X : Type 0} (P : X → Type 0) (xs : List X) (i : ℕ) (x : X) → EachIs P xs → P x → EachIs P (slice_set xs i x)
-each_set P [] i x each new = tt
-each_set P (y ∷ xs) zero x each new = (new, each.1)
-each_set P (y ∷ xs) (suc i) x each new = (each.0, each_set P xs i x each.1 new)
 
 pub map_more : {X Y : Type 0} (f : X → Y) (xs : List X) (x : X) → map f (xs ++ x ∷ []) ≡ map f xs ++ f x ∷ []
 map_more f [] x = refl

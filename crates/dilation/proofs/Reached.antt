@@ -3,6 +3,7 @@ use Rattle.std.proofs.Common.{◌≡◌, ℕ, ◌+◌, ◌<◌, List, [], ◌∷
 use Rattle.std.proofs.lemmas.Bool.{cases_eq, cases_lt}
 use Rattle.std.proofs.lemmas.List.{length-map, length-set}
 use Rattle.std.specs.Prelude.{IsTrue, map, slice_set}
+use Rattle.plain_lemmas.proofs.Each.{each_set, each_map}
 use Rattle.definitions.specs.declared.world.Cell.{Cell}
 use Rattle.definitions.specs.declared.world.Seat.{Seat}
 use Rattle.definitions.specs.Lists.{item_or}
@@ -14,8 +15,8 @@ use Rattle.cell_set.specs.Regions.{Region}
 use Rattle.dilation.specs.declared.growth.Kept.{Kept}
 use Rattle.dilation.specs.Dilated.{Dilated, starts_of, cell_of, kept_of, none_kept, kept_set}
 use Rattle.dilation.specs.Following.{IsKept, AreKept, IsDilated, AreFresh, no_kept}
-use Rattle.dilation.proofs.Seats.{first_starts, first_length, start_more, item_read, starts_open}
-use Rattle.dilation.proofs.Items.{map_set, map_more, item_before, item_last, item_set, item_set_other, each_set}
+use Rattle.dilation.proofs.Seats.{first_starts, first_length, start_more, item_read}
+use Rattle.dilation.proofs.Items.{map_set, map_more, item_before, item_last, item_set, item_set_other}
 
 -- for how many turns each player was followed
 abbrev pub turns_of : List Kept → List ℕ
@@ -172,7 +173,7 @@ fresh_more game n kept after k lt fresh new none more =
 pub dilated_starts : (game copy : Game) (cells : List Cell) (kept : List Kept) → IsSession game → copy ≡ game → cells ≡ starts_of game → AreFresh game (starts_of game) kept → IsDilated copy cells kept
 dilated_starts game copy cells kept facts same starts fresh =
     subst (λ (g : Game). IsDilated g cells kept) (sym same) (subst (λ (cs : List Cell). IsDilated game cs kept) (sym starts) (record {
-      seen = record { session = facts; one_each = length-map game.seats (λ (s : Seat). s.start); each_open = starts_open (λ c. IsTrue (is_open game.grid c)) game.seats facts.starts };
+      seen = record { session = facts; one_each = length-map game.seats (λ (s : Seat). s.start); each_open = (each_map (λ c. IsTrue (is_open game.grid c)) (λ (s : Seat). s.start) game.seats).1 facts.starts };
       one_each = fresh.one_each ∙ length-map game.seats (λ (s : Seat). s.start);
       each_kept = fresh.each_kept;
     }))

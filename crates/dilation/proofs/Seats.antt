@@ -4,7 +4,7 @@ use Rattle.std.specs.Prelude.{map}
 use Rattle.std.proofs.lemmas.List.{take_all}
 use Rattle.definitions.specs.declared.world.Cell.{Cell}
 use Rattle.definitions.specs.declared.world.Seat.{Seat}
-use Rattle.definitions.specs.Lists.{EachIs, item_or}
+use Rattle.definitions.specs.Lists.{item_or}
 use Rattle.definitions.specs.World.{Game, no_seat, seat_of, players_of}
 use Rattle.dilation.specs.Dilated.{starts_of}
 
@@ -35,11 +35,6 @@ start_more game n start before after lt is so_far more =
 
 pub starts_all : (game : Game) (n : ℕ) → n ≡ players_of game → first_starts game n ≡ starts_of game
 starts_all game n e = ap (first_starts game) e ∙ ap (map (λ (s : Seat). s.start)) (take_all (length game.seats) game.seats (omega arith))
-
--- each start is an open cell
-pub starts_open : (P : Cell → Type 0) (seats : List Seat) → EachIs (λ s. P s.start) seats → EachIs P (map (λ s. s.start) seats)
-starts_open P [] each = tt
-starts_open P (s ∷ seats) each = (each.0, starts_open P seats each.1)
 
 -- an item as it is read
 pub item_read : {X : Type 0} (xs : List X) (i : ℕ) (x d : X) → i < length xs → x ≡ get_or xs i x → x ≡ item_or xs i d

@@ -2,6 +2,7 @@
 use Rattle.std.proofs.Common.{◌≡◌, ℕ, Bool, true, false, List, [], ◌∷◌, Option, Some, None, refl, sym, ap, subst, ◌∙◌, slice_get, take}
 use Rattle.std.specs.Prelude.{find, is_some, if◌then◌else◌}
 use Rattle.std.specs.List.{range_with_len}
+use Rattle.plain_lemmas.proofs.Each.{each_append}
 use Rattle.definitions.specs.declared.openings.Digest.{Digest}
 use Rattle.definitions.specs.declared.frames.TurnFrame.{TurnFrame}
 use Rattle.definitions.specs.declared.logs.Entry.{Entry}
@@ -18,7 +19,7 @@ use Rattle.definitions.specs.Findings.{Sighting, findings, got_known, is_commit}
 use Rattle.definition_laws.specs.Members.{Has}
 use Rattle.definition_laws.specs.Spots.{IsSighting}
 use Rattle.definition_laws.proofs.Least.{finding_is_least, findings_Has}
-use Rattle.definition_laws.proofs.Listing.{EachIs_append, EachIs_flat_map, find_stands}
+use Rattle.definition_laws.proofs.Listing.{EachIs_flat_map, find_stands}
 use Rattle.definition_laws.proofs.Members.{Has_middle, slice_get_Has}
 use Rattle.definition_laws.proofs.WellFormed.{got_entry}
 use Rattle.evidence.specs.Laws.{StandsIn}
@@ -61,7 +62,7 @@ turns_stand : (game : Game) (logs : List (List Entry)) (h : List Entry) (q t : �
 unfolding turns_shown
 turns_stand game logs h q t among =
     EachIs_flat_map (StandsIn logs q) (turn_shown game q (got_known game q h) (got_of q h)) (range_with_len 0 t)
-    (λ u. EachIs_append (StandsIn logs q) _ _ (found_stands logs h q (λ f. is_some (commit_of u f)) among) (resolving_stands game logs h q u (got_known game q h) (slice_get (got_known game q h).digests u) among))
+    (λ u. each_append (StandsIn logs q) _ _ (found_stands logs h q (λ f. is_some (commit_of u f)) among) (resolving_stands game logs h q u (got_known game q h) (slice_get (got_known game q h).digests u) among))
 
 -- ---- all of them
 
@@ -69,7 +70,7 @@ frames_stand : (game : Game) (logs : List (List Entry)) (f : Finding) (k : Kind)
 frames_stand game logs f TwoCommits pair among = pair
 frames_stand game logs f BadOpening pair among = pair
 frames_stand game logs f Collision pair among = pair
-frames_stand game logs f Illegal pair among = EachIs_append (StandsIn logs f.player) _ _ (turns_stand game logs (item_or logs f.first.log []) f.player f.turn among) (turned_stand logs f.player (pair_at logs f) pair)
+frames_stand game logs f Illegal pair among = each_append (StandsIn logs f.player) _ _ (turns_stand game logs (item_or logs f.first.log []) f.player f.turn among) (turned_stand logs f.player (pair_at logs f) pair)
 
 pub findings_stand : (game : Game) (logs : List (List Entry)) (f : Finding) → Has (findings game logs) f → EachIs (StandsIn logs f.player) (frames_of_finding game logs f)
 unfolding frames_of_finding
@@ -79,5 +80,5 @@ findings_stand game logs f m =
     let seen = w.lower_seen in
     let log : item_or logs f.first.log [] ≡ seen.log = ap (λ (s : Spot). item_or logs s.log []) w.first_is ∙ item_there logs w.lower.spot.log seen.log [] seen.there in
     let among : Has logs (item_or logs f.first.log []) = subst (Has logs) (sym log) (slice_get_Has logs w.lower.spot.log seen.log seen.there) in
-    let pair = EachIs_append (StandsIn logs f.player) _ _ (spot_stands logs f.player f.turn w.lower f.first w.first_is w.lower_seen) (spot_stands logs f.player f.turn w.higher f.second w.second_is w.higher_seen) in
+    let pair = each_append (StandsIn logs f.player) _ _ (spot_stands logs f.player f.turn w.lower f.first w.first_is w.lower_seen) (spot_stands logs f.player f.turn w.higher f.second w.second_is w.higher_seen) in
     frames_stand game logs f f.kind pair among

@@ -15,11 +15,7 @@ slice-kept at len xs ys h =
 slice-last : {A : Type 0} (xs ys : List A) → take (length ys) (drop (length xs) (xs ++ ys)) ≡ ys
 slice-last xs ys = ap (take (length ys)) (drop-append_seam xs ys) ∙ take-length ys
 
--- parts stay within more bytes
-within-more : (n m : ℕ) (parts : List Part) → AreWithin n parts → n ≤ m → AreWithin m parts
-within-more n m [] w h = tt
-within-more n m (p ∷ parts) w h = (omega (arith, w.0), within-more n m parts w.1 h)
-
+-- parts stay within more bytes, and so does one more there
 pub within-push : (n m : ℕ) (parts : List Part) (p : Part) → AreWithin n parts → n ≤ m → p.at + p.len ≤ m → AreWithin m (parts ++ p ∷ [])
 within-push n m [] p w h e = (e, tt)
 within-push n m (x ∷ parts) p w h e = (omega (arith, w.0), within-push n m parts p w.1 h e)

@@ -5,6 +5,7 @@ use Rattle.std.proofs.lemmas.Bool.Decides.{nat_tests}
 use Rattle.std.proofs.lemmas.Grind.{fold-append}
 use Rattle.std.proofs.lemmas.List.{take-append-le}
 use Rattle.std.proofs.Math.Seq.{take-length}
+use Rattle.plain_lemmas.proofs.Each.{each_kept, each_push}
 use Rattle.socket_station.specs.Items.{Item}
 use Rattle.socket_station.specs.Items as I
 use Rattle.socket_station.specs.Moved.{Log, log_after, kept_in, kept_at, synced_in}
@@ -12,12 +13,7 @@ use Rattle.history_book.specs.declared.journal.SyncMark.{SyncMark}
 use Rattle.history_book.specs.Journals.{AreMarks, Marking, marking_after, marking_in, mark_at, synced_at, with_mark}
 
 pub AreMarks-more : (n m : ℕ) (marks : List SyncMark) → AreMarks n marks → n ≤ m → AreMarks m marks
-AreMarks-more n m [] a h = tt
-AreMarks-more n m (k ∷ marks) a h = (omega (arith, a.0), AreMarks-more n m marks a.1 h)
-
-pub AreMarks-push : (n : ℕ) (marks : List SyncMark) (k : SyncMark) → AreMarks n marks → k.kept ≤ n → AreMarks n (marks ++ k ∷ [])
-AreMarks-push n [] k a h = (h, tt)
-AreMarks-push n (m ∷ marks) k a h = (a.0, AreMarks-push n marks k a.1 h)
+AreMarks-more n m marks a h = each_kept (λ k. k.kept ≤ n) (λ k. k.kept ≤ m) marks (λ k lt. omega (arith, lt)) a
 
 -- no more was synced than was kept
 synced-within : (n items until : ℕ) (marks : List SyncMark) → until ≤ n → AreMarks n marks → fold (mark_at items) until marks ≤ n
@@ -91,7 +87,7 @@ agrees-after k log m I.Synced a h =
       told = omega (arith, h);
       kept = a.kept;
       synced = sym (ap (λ (n : ℕ). take n log.kept) (within-later k (min (m.told + 1) (2 ^ 64 - 1)) m.kept m.marks (omega (arith, h)) ∙ a.kept) ∙ take-length log.kept);
-      within = AreMarks-push m.kept m.marks _ a.within (omega arith);
+      within = each_push (λ k. k.kept ≤ m.kept) m.marks _ a.within (omega arith);
     }
 agrees-after k log m (I.Listening x) a h = plain-agrees k log m a h
 agrees-after k log m (I.LogBegun x) a h = plain-agrees k log m a h

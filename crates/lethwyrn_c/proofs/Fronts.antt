@@ -2,26 +2,18 @@
 use Rattle.std.proofs.Common.{◌≡◌, ℕ, zero, suc, ◌+◌, ◌≤◌, ◌<◌, List, [], ◌∷◌, ◌++◌, length, take, refl, sym, ap, ◌∙◌, append_assoc, arith, get_or, length-append}
 use Rattle.std.specs.Prelude.{Some, slice_get}
 use Rattle.std.proofs.lemmas.List.{take-append-le}
+use Rattle.std.proofs.lemmas.Option.{slice_get_within, slice_get-get_or}
+use Rattle.std.proofs.lemmas.List.Sums.{fold_push}
 use Rattle.definitions.specs.declared.logs.Entry.{Entry}
-use Rattle.definition_laws.proofs.Listing.{append_nil, nothing_some, take_more}
+use Rattle.definition_laws.proofs.Listing.{append_nil, take_more}
 use Rattle.session_log.specs.Spelling.{log_bytes}
 use Rattle.session_log.specs.Writing.{Writing, after, all_written, fresh, written}
 use Rattle.session_log.proofs.Logs.{log_written}
 use Rattle.lethwyrn_c.specs.Fronts.{behind, front, GoesOn, StandsAt}
 
--- one entry more
-behind_more : (w : Writing) (es : List Entry) (e : Entry) → behind w (es ++ e ∷ []) ≡ after (behind w es) e
-behind_more w [] e = refl
-behind_more w (d ∷ es) e = behind_more (after w d) es e
-
 written_more : (w : Writing) (es : List Entry) (e : Entry) → all_written w (es ++ e ∷ []) ≡ all_written w es ++ written (behind w es) e
 written_more w [] e = append_nil (written w e)
 written_more w (d ∷ es) e = ap (λ xs. written w d ++ xs) (written_more (after w d) es e) ∙ sym (append_assoc (written w d) (all_written (after w d) es) (written (behind (after w d) es) e))
-
-some_within : {X : Type 0} (xs : List X) (n : ℕ) (x : X) → slice_get xs n ≡ Some x → n < length xs
-some_within [] n x h = absurd (nothing_some x h)
-some_within (y ∷ xs) zero x h = omega arith
-some_within (y ∷ xs) (suc n) x h = let ih = some_within xs n x h in omega arith
 
 -- the bytes of the first entries and of the next one
 front_next : (id : List ℕ) (me : ℕ) (es : List Entry) (n : ℕ) (e : Entry) → slice_get es n ≡ Some e →
@@ -45,13 +37,13 @@ pub goes_on : (id : List ℕ) (me : ℕ) (es : List Entry) (n : ℕ) (w : Writin
     StandsAt id me es (n + 1) (after w e) (count + length (written w e))
 goes_on id me es n w count e s at =
     let v : Writing = fresh id me in
-    let lt = some_within es n e at in
+    let lt = slice_get_within es n e at in
     let sized = length-append (front id me es n) (written w e) in
     let long : length (front id me es (n + 1)) ≡ length (front id me es n ++ written w e) = ap length (next_bytes id me es n w count e s at) in
     let was = s.count_is in
     record {
       within = omega arith;
-      writer_is = ap (λ u. after u e) s.writer_is ∙ (sym (behind_more v (take n es) e) ∙ ap (behind v) (sym (take_more n es e at)));
+      writer_is = ap (λ u. after u e) s.writer_is ∙ (sym (fold_push after v (take n es) e) ∙ ap (behind v) (sym (take_more n es e at)));
       count_is = omega arith;
     }
 
@@ -71,17 +63,12 @@ stays id me es more n w count s =
       count_is = s.count_is ∙ ap (λ xs. length (log_bytes id me xs)) (sym same);
     }
 
-slice_get-at : {X : Type 0} (xs : List X) (n : ℕ) (d : X) → n < length xs → slice_get xs n ≡ Some (get_or xs n d)
-slice_get-at [] n d lt = absurd (omega (arith, lt))
-slice_get-at (x ∷ xs) zero d lt = refl
-slice_get-at (x ∷ xs) (suc n) d lt = slice_get-at xs n d (omega (arith, lt))
-
 -- a writer that wrote the entry of this number stands behind it
 pub stepped : (id : List ℕ) (me : ℕ) (es : List Entry) (n m k : ℕ) (w v : Writing) (count more size : ℕ) (d : Entry) → k < length es → n ≡ k → v ≡ after w (get_or es k d) →
     size ≡ length (written w (get_or es k d)) → m ≡ n + 1 → more ≡ count + size → StandsAt id me es n w count → StandsAt id me es m v more
 stepped id me es n m k w v count more size d lt same writer sized next longer s =
     let e : Entry = get_or es k d in
-    let on = goes_on id me es n w count e s (ap (slice_get es) same ∙ slice_get-at es k d lt) in
+    let on = goes_on id me es n w count e s (ap (slice_get es) same ∙ slice_get-get_or es k d lt) in
     let within = on.within in record {
       within = omega arith;
       writer_is = writer ∙ (on.writer_is ∙ ap (λ i. behind (fresh id me) (take i es)) (sym next));
@@ -94,7 +81,7 @@ pub went_on : (id : List ℕ) (me : ℕ) (es : List Entry) (n m : ℕ) (w v : Wr
 went_on id me es n m w v count more size bytes d lt writer is sized next longer s =
     let e : Entry = get_or es n d in record {
       stands = stepped id me es n m n w v count more size d lt refl writer sized next longer s;
-      bytes_are = next_bytes id me es n w count e s (slice_get-at es n d lt) ∙ ap (λ xs. front id me es n ++ xs) (sym is);
+      bytes_are = next_bytes id me es n w count e s (slice_get-get_or es n d lt) ∙ ap (λ xs. front id me es n ++ xs) (sym is);
     }
 
 -- fewer entries have no more bytes

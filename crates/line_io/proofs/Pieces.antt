@@ -4,6 +4,7 @@ use Rattle.std.specs.Prelude.{Err, Ok}
 use Rattle.std.specs.List.{AllByRecursion}
 use Rattle.std.proofs.Math.Seq.{take-add}
 use Rattle.std.proofs.lemmas.List.{take-append-drop, drop_all}
+use Rattle.plain_lemmas.proofs.Each.{each_append}
 use Rattle.station.specs.Outside.{one_more}
 use Rattle.station.specs.Pieces.{Piece, GivesAt, AllGive}
 use Rattle.station.specs.Shelves.{ShelfState, GivesShown}
@@ -14,24 +15,16 @@ use Rattle.line_io.specs.declared.fronts.FrontFault.{FrontFault}
 use Rattle.line_io.specs.declared.fronts.FrontFault.TheVariants.{NoMemory, Failed}
 
 -- Facts of all pieces, call by call.
-pub all_append : {A : Type 0} (P : A → Type 0) (xs ys : List A) → AllByRecursion P xs → AllByRecursion P ys → AllByRecursion P (xs ++ ys)
-all_append P [] ys p q = q
-all_append P (x ∷ xs) ys p q = (p.0, all_append P xs ys p.1 q)
-
 pub all_split : {A : Type 0} (P : A → Type 0) (xs ys : List A) → AllByRecursion P (xs ++ ys) → AllByRecursion P xs × AllByRecursion P ys
 all_split P [] ys h = (tt, h)
 all_split P (x ∷ xs) ys h = let r = all_split P xs ys h.1 in ((h.0, r.0), r.1)
-
-pub all_map : {A : Type 0} (P Q : A → Type 0) (xs : List A) → ((x : A) → P x → Q x) → AllByRecursion P xs → AllByRecursion Q xs
-all_map P Q [] f h = tt
-all_map P Q (x ∷ xs) f h = (f x h.0, all_map P Q xs f h.1)
 
 -- the same of what was added in one stretch and the next
 pub pieces_split : (P : Piece → Type 0) (a b c : List Piece) → Grows a b → Grows b c → AllByRecursion P (since a c) → AllByRecursion P (since a b) × AllByRecursion P (since b c)
 pieces_split P a b c g h all = all_split P (since a b) (since b c) (subst (AllByRecursion P) (since_on a b c g h) all)
 
 pub pieces_on : (P : Piece → Type 0) (a b c : List Piece) → Grows a b → Grows b c → AllByRecursion P (since a b) → AllByRecursion P (since b c) → AllByRecursion P (since a c)
-pieces_on P a b c g h x y = subst (AllByRecursion P) (sym (since_on a b c g h)) (all_append P (since a b) (since b c) x y)
+pieces_on P a b c g h x y = subst (AllByRecursion P) (sym (since_on a b c g h)) (each_append P (since a b) (since b c) x y)
 
 pub pieces_none : (P : Piece → Type 0) (a : List Piece) → AllByRecursion P (since a a)
 pieces_none P a = subst (AllByRecursion P) (sym (since_none a)) tt
@@ -111,7 +104,7 @@ module _ (a b c : ShelfState) (name : List ℕ) (next : ℕ) (gave : Option (Lis
   shown_more = go a.files f.same f.shown
     where
       go : (files : Option (List ℕ → Option (List ℕ))) → b.files ≡ files → AllShown files name (since a.pieces b.pieces) → AllShown files name (since a.pieces b.pieces ++ piece ∷ [])
-      go (Some fs) same shown = all_append (λ (p : Piece). GivesAt (fs name) p.at p.gave) (since a.pieces b.pieces) (piece ∷ []) shown (subst (λ (o : Option (List ℕ → Option (List ℕ))). GivesShown o name next gave) same call.shown, tt)
+      go (Some fs) same shown = each_append (λ (p : Piece). GivesAt (fs name) p.at p.gave) (since a.pieces b.pieces) (piece ∷ []) shown (subst (λ (o : Option (List ℕ → Option (List ℕ))). GivesShown o name next gave) same call.shown, tt)
       go None same shown = tt
 
   now_shown : AllShown a.files name (since a.pieces c.pieces)

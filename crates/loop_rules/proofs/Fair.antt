@@ -1,7 +1,7 @@
 -- Fair: the log kept is one that an honest peer may have.
-use Rattle.std.proofs.Common.{◌≡◌, ℕ, Bool, true, false, refl, sym, ap, ◌∙◌, List, [], ◌∷◌, ◌++◌, append_assoc}
-use Rattle.std.specs.Prelude.{Option, Some, None, length, slice_get}
-use Rattle.std.proofs.lemmas.Bool.{and_parts, eqb-true, false≢true}
+use Rattle.std.proofs.Common.{◌≡◌, ℕ, Bool, true, refl, sym, ap, ◌∙◌, List, [], ◌∷◌, ◌++◌, append_assoc}
+use Rattle.std.specs.Prelude.{Option, Some, None, length, slice_get, ◌||◌}
+use Rattle.std.proofs.lemmas.Bool.{and_parts, eqb-true, false≢true, or_left}
 use Rattle.definitions.specs.declared.logs.Entry.{Entry}
 use Rattle.definitions.specs.declared.logs.Entry.TheVariants.{Chose, Made, Got}
 use Rattle.definitions.specs.Logs.{entry_eq}
@@ -17,18 +17,14 @@ use Rattle.loop_rules.specs.declared.phases.Phase.TheVariants.{Fresh, Logged, Ru
 use Rattle.loop_rules.specs.Views.{View, start}
 use Rattle.loop_rules.specs.Keeping.{entry_in, is_entry, may_keep_in, may_keep_as, with_entry, kept_entry}
 use Rattle.loop_rules.specs.After.{after, view_after}
-use Rattle.loop_rules.specs.Rules.{is_fresh, is_allowed}
+use Rattle.loop_rules.specs.Rules.{is_fresh, is_logged, is_allowed}
 use Rattle.loop_rules.specs.Histories.{are_allowed}
 use Rattle.loop_rules.specs.Laws.{KeptIsHonest, RevealsKeptStandBehind}
 use Rattle.loop_rules.proofs.Kept.{Keeps, keeps_same, keeps_took, keeps_sorted}
 
 -- before the loop listens
 abbrev pub is_early : Phase → Bool
-is_early Fresh = true
-is_early Logged = true
-is_early Running = false
-is_early KeepFault = false
-is_early PollFault = false
+is_early p = is_fresh p || is_logged p
 
 -- the log is honest, and before the loop listens it is a front of the entries taken over
 abbrev pub Fair : Setting → View → Type 0
@@ -105,15 +101,8 @@ fair_kept s v bytes (Some e) over h r =
     let w = with_entry e v in
     fair_keeps s w (kept_entry v (Some e)) (keeps_sorted w.table.waiting w) (fair_entry s v e v.phase over refl (and_parts _ _ h).1 r)
 
-fresh_early : (p : Phase) → is_fresh p ≡ true → is_early p ≡ true
-fresh_early Fresh e = refl
-fresh_early Logged e = refl
-fresh_early Running e = e
-fresh_early KeepFault e = e
-fresh_early PollFault e = e
-
 pub fair_item : (s : Setting) (v : View) (item : Item) → IsHonest s.game s.me s.over → is_allowed v item ≡ true → Fair s v → Fair s (after v item)
-fair_item s v (LogBegun name) over h r = (r.0, r.1, λ early. r.2 (fresh_early v.phase h))
+fair_item s v (LogBegun name) over h r = (r.0, r.1, λ early. r.2 (or_left _ _ h))
 fair_item s v (Listening addr) over h r = (r.0, r.1, λ early. absurd (false≢true early))
 fair_item s v (Dialled n q addr) over h r = fair_keeps s v (after v (Dialled n q addr)) (keeps_same v (after v (Dialled n q addr)) refl refl refl refl refl) r
 fair_item s v (Polled list) over h r = fair_keeps s v (after v (Polled list)) (keeps_same v (after v (Polled list)) refl refl refl refl refl) r

@@ -3,6 +3,7 @@ use Rattle.std.proofs.Common.{◌≡◌, ◌⊎◌, inl, inr, ℕ, zero, suc, Bo
 use Rattle.std.specs.Prelude.{Option, Some, None, ◌==◌, not, length, slice_get, if◌then◌else◌}
 use Rattle.std.specs.List.{fold}
 use Rattle.std.proofs.lemmas.Bool.{and_parts, false≢true}
+use Rattle.plain_lemmas.proofs.Each.{each_push}
 use Rattle.definitions.specs.declared.frames.TurnFrame.{TurnFrame}
 use Rattle.definitions.specs.declared.logs.Entry.{Entry}
 use Rattle.definitions.specs.declared.logs.Entry.TheVariants.{Chose, Made, Got}
@@ -57,10 +58,6 @@ waits_sorted P (a ∷ more) v w =
     waits_view P (not (is_clean v.setting.game v.kept)) (with_waiting [] v) (if is_new_to v a then with_waiting (a ∷ more) v else sorted more (passed v a)) tt
     (waits_view P (is_new_to v a) (with_waiting (a ∷ more) v) (sorted more (passed v a)) w (waits_sorted P more (passed v a) w.1))
 
-waits_more : (P : TurnFrame → Type 0) (xs : List Arrival) (a : Arrival) → Waits P xs → P a.frame → Waits P (xs ++ a ∷ [])
-waits_more P [] a w p = (p, tt)
-waits_more P (x ∷ xs) a w p = (w.0, waits_more P xs a w.1 p)
-
 -- the frame, if it is one of a turn, is such a one
 abbrev pub IsSuch : (TurnFrame → Type 0) → Frame → Type 0
 IsSuch P (Hello id q pass next) = Unit {0}
@@ -79,7 +76,7 @@ waits_obeyed P t s q place (Some c) w = waits_either P (may_want c) (at_seat q o
 waits_named : (P : TurnFrame → Type 0) (t : Table) (s q : ℕ) (f : Frame) → IsSuch P f → Waits P t.waiting → Waits P (heard_named t s q f).waiting
 waits_named P t s q (Hello id p pass next) such w = w
 waits_named P t s q (Turn f) such w =
-    waits_either P (player_of f == q) (arrived t q f) (at_line s doomed t) (waits_more P t.waiting (record { player = q; frame = f }) w such) w
+    waits_either P (player_of f == q) (arrived t q f) (at_line s doomed t) (each_push (λ a. P a.frame) t.waiting (record { player = q; frame = f }) w such) w
 waits_named P t s q (Want place) such w = waits_obeyed P t s q place (seat_of t q) w
 
 waits_by : (P : TurnFrame → Type 0) (h : Hearer) (t : Table) (s : ℕ) (l : Line) (o : Option ℕ) (f : Frame) → IsSuch P f → Waits P t.waiting → Waits P (heard_by h t s l o f).waiting

@@ -1,5 +1,5 @@
 -- Revealed: a reveal that may be given stands behind what its turn needed.
-use Rattle.std.proofs.Common.{◌≡◌, inl, inr, ℕ, zero, suc, sym, ap, subst, List, [], ◌∷◌, ◌++◌}
+use Rattle.std.proofs.Common.{◌≡◌, ℕ, zero, suc, sym, ap, subst, List, [], ◌∷◌, ◌++◌}
 use Rattle.std.specs.Prelude.{Some, take, slice_get}
 use Rattle.definitions.specs.declared.frames.TurnFrame.{TurnFrame}
 use Rattle.definitions.specs.declared.frames.TurnFrame.TheVariants as F
@@ -7,6 +7,7 @@ use Rattle.definitions.specs.declared.logs.Entry.{Entry}
 use Rattle.definitions.specs.declared.logs.Entry.TheVariants.{Chose, Made, Got}
 use Rattle.definitions.specs.Logs.{made}
 use Rattle.definition_laws.specs.Members.{Has}
+use Rattle.definition_laws.proofs.Members.{Has_front}
 use Rattle.loop_rules.specs.After.{view_of}
 use Rattle.loop_rules.specs.Laws.{RevealsGivenAreFair}
 use Rattle.loop_rules.proofs.Fair.{reveals_kept_stand_behind}
@@ -28,11 +29,6 @@ stands (suc n) (Made g ∷ h) zero f e = ([], h, ap (λ (x : TurnFrame). Made x 
 stands (suc n) (Made g ∷ h) (suc place) f e = stands_behind (Made g) h f (stands n h place f e)
 stands (suc n) (Got q g ∷ h) place f e = stands_behind (Got q g) h f (stands n h place f e)
 
-has_front : (xs ys : List Entry) (x : Entry) → Has xs x → Has (xs ++ ys) x
-has_front [] ys x m = absurd m
-has_front (z ∷ xs) ys x (inl e) = inl e
-has_front (z ∷ xs) ys x (inr m) = inr (has_front xs ys x m)
-
 has_same : (xs ys : List Entry) (x : Entry) → xs ≡ ys → Has xs x → Has ys x
 has_same xs ys x e m = subst (λ (z : List Entry). Has z x) e m
 
@@ -49,6 +45,6 @@ reveals_given_are_fair s items place t m n ahead over h safe =
             y.0,
             y.1,
             receipts_stand_behind s items q (F.Commit q t y.0) h
-                (has_same (x.0 ++ Made (F.Reveal s.me t m n) ∷ x.1) v.kept (Got q (F.Commit q t y.0)) (sym x.2) (has_front x.0 (Made (F.Reveal s.me t m n) ∷ x.1) (Got q (F.Commit q t y.0)) y.2)),
+                (has_same (x.0 ++ Made (F.Reveal s.me t m n) ∷ x.1) v.kept (Got q (F.Commit q t y.0)) (sym x.2) (Has_front x.0 (Made (F.Reveal s.me t m n) ∷ x.1) (Got q (F.Commit q t y.0)) y.2)),
           );
     }

@@ -2,6 +2,7 @@
 use Rattle.std.proofs.Common.{◌≡◌, ℕ, ◌≤◌, Bool, true, refl, sym, ap, subst, ◌∙◌, List, [], ◌∷◌, ◌++◌, append_assoc, append-nil, arith, length, length-append}
 use Rattle.std.specs.Prelude.{Option, Some, None, ◌&&◌, is_none, if◌then◌else◌}
 use Rattle.std.proofs.lemmas.Bool.{and_from, and_parts, eqb-true, false≢true}
+use Rattle.plain_lemmas.proofs.Options.{none_of}
 use Rattle.definitions.specs.declared.world.Move.{Move}
 use Rattle.definitions.specs.declared.openings.Nonce.{Nonce}
 use Rattle.definitions.specs.declared.frames.TurnFrame.{TurnFrame}
@@ -44,10 +45,6 @@ run_more : (game : Game) (me : ℕ) (h : List Entry) (ss more : List LogStep) �
 run_more game me h [] more = refl
 run_more game me h (s ∷ ss) more = run_more game me (log_after game me h s) ss more
 
-none_is : (o : Option TurnFrame) → is_none o ≡ true → o ≡ None
-none_is None e = refl
-none_is (Some f) e = absurd (false≢true e)
-
 frame_is : (o : Option TurnFrame) (f : TurnFrame) → is_frame o f ≡ true → o ≡ Some f
 frame_is None f e = absurd (false≢true e)
 frame_is (Some g) f e = ap (λ (x : TurnFrame). Some x) (frame_eq_true g f e)
@@ -88,7 +85,7 @@ goes_by s log e r more = record {
 }
 
 stays : (s : Setting) (log : List Entry) → is_none (next_made s.game s.me log) ≡ true → log ≡ advance s.game s.me log
-stays s log none = sym (advance_still s.game s.me log (none_is (next_made s.game s.me log) none))
+stays s log none = sym (advance_still s.game s.me log (none_of (next_made s.game s.me log) none))
 
 goes_next : (s : Setting) (v : View) (e : Entry) → v.setting ≡ s → 1 ≤ s.game.ahead → IsHonest s.game s.me v.kept → allowed s.game s.me v.kept e ≡ true → is_next v e ≡ true → GoesAsRun s v.kept → GoesAsRun s (v.kept ++ e ∷ [])
 goes_next s v (Made f) same d i a n r =

@@ -2,7 +2,8 @@
 use Rattle.std.proofs.Common.{◌≡◌, ℕ, Bool, true, false, refl, sym, ap, subst, ◌∙◌, List, [], ◌∷◌, ◌++◌}
 use Rattle.std.specs.Prelude.{Option, Some, None, ◌==◌, ◌||◌, not, nat_lt, filter, length, if◌then◌else◌}
 use Rattle.std.specs.List.{fold}
-use Rattle.std.proofs.lemmas.Bool.{eqb-true, eq-eqb, false≢true}
+use Rattle.std.proofs.lemmas.Bool.{eqb-true, eq-eqb, false≢true, or_parts}
+use Rattle.plain_lemmas.proofs.Each.{each_push}
 use Rattle.definitions.specs.Lists.{EachIs}
 use Rattle.socket_station.specs.declared.answers.Ready.{Ready}
 use Rattle.socket_station.specs.declared.answers.Ready.TheVariants.{Opened, Socket as Seems}
@@ -126,13 +127,9 @@ pub not_in_fresh : (items : List Item) (s : ℕ) (ls : List Line) → standing_i
 not_in_fresh items s [] f e = tt
 not_in_fresh items s (l ∷ ls) f e = (λ q. e.0.used (ap (standing_in items) q ∙ f), not_in_fresh items s ls f e.1)
 
-pub not_in_last : (s : ℕ) (ls : List Line) (m : Line) → IsNotIn s ls → (m.socket ≡ s → ⊥) → IsNotIn s (ls ++ m ∷ [])
-not_in_last s [] m n k = (k, tt)
-not_in_last s (l ∷ ls) m n k = (n.0, not_in_last s ls m n.1 k)
-
 pub differ_last : (ls : List Line) (m : Line) → IsNotIn m.socket ls → Differ ls → Differ (ls ++ m ∷ [])
 differ_last [] m n d = (tt, tt)
-differ_last (l ∷ ls) m n d = (not_in_last l.socket ls m d.0 (λ e. n.0 (sym e)), differ_last ls m n.1 d.1)
+differ_last (l ∷ ls) m n d = (each_push (λ x. x.socket ≡ l.socket → ⊥) ls m d.0 (λ e. n.0 (sym e)), differ_last ls m n.1 d.1)
 
 -- ---- polls
 
@@ -176,14 +173,10 @@ opened_then s list standing n = go (s == n) (opens list n)
     go false true = refl
     go false false = refl
 
-pub or_false : (a b : Bool) → (a || b) ≡ false → (a ≡ false) × (b ≡ false)
-or_false true b e = absurd (false≢true (sym e))
-or_false false b e = (refl, e)
-
 new_behind : (standing : ℕ → Standing) (s : ℕ) (list : List Ready) → opens list s ≡ false → AreNew standing list → AreNew (with_open s standing) list
 new_behind standing s [] o e = tt
 new_behind standing s (Opened n ∷ list) o e =
-    let p = or_false (n == s) (opens list s) o in
+    let p = or_parts (n == s) (opens list s) o in
     (ap (λ (b : Bool). if b then Open else standing n) (eqb-sym s n ∙ p.0) ∙ e.0, e.1, new_behind standing s list p.1 e.2)
 new_behind standing s (Seems n ∷ list) o e = new_behind standing s list o e
 

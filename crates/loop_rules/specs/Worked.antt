@@ -211,18 +211,21 @@ PollsForAReason = (is_licensed (finished 3) ≡ true) × (is_licensed (finished 
 
 -- ---- crashes
 
--- the first entry synced, and the second one kept
+-- the match up to where the other's commitment is kept and not synced yet
 abbrev pub stopped : List Item
-stopped = LogBegun name ∷ Kept (kept_for [] chose) ∷ Synced ∷ Kept (kept_for (chose ∷ []) committed) ∷ []
+stopped = beginning ++ greeting ++ exchange
+
+abbrev pub synced_then : List ℕ
+synced_then = kept_for [] chose ++ kept_for (chose ∷ []) committed
 
 -- an image has all that was synced, and may have a part of what was not; that is no lucky tail, but an entry that was never kept is one
 unfoldable pub LeavesWhatWasSynced : Type 0
 LeavesWhatWasSynced =
-    (is_image stopped (kept_for [] chose) ≡ true) × (is_image stopped (0 ∷ []) ≡ false) ×
-    (is_image stopped (kept_for [] chose ++ take 50 (kept_for (chose ∷ []) committed)) ≡ true) ×
-    (has_lucky_tail (setting []) (handed_in stopped None) (kept_for [] chose ++ take 50 (kept_for (chose ∷ []) committed)) ≡ false) ×
-    (has_lucky_tail (setting []) (handed_in stopped None) (kept_for [] chose ++ kept_for (chose ∷ []) committed) ≡ false) ×
-    (has_lucky_tail (setting []) (handed_in stopped None) (kept_for [] chose ++ kept_for (chose ∷ []) got_commit) ≡ true)
+    (is_image stopped synced_then ≡ true) × (is_image stopped (kept_for [] chose) ≡ false) ×
+    (is_image stopped (synced_then ++ take 50 (kept_for (chose ∷ committed ∷ []) got_commit)) ≡ true) ×
+    (has_lucky_tail (setting []) (handed_in stopped None) (synced_then ++ take 50 (kept_for (chose ∷ committed ∷ []) got_commit)) ≡ false) ×
+    (has_lucky_tail (setting []) (handed_in stopped None) (synced_then ++ kept_for (chose ∷ committed ∷ []) got_commit) ≡ false) ×
+    (has_lucky_tail (setting []) (handed_in stopped None) (synced_then ++ kept_for (chose ∷ committed ∷ []) revealed) ≡ true)
 
 -- ---- beginning from an older log, and what is said on a socket
 

@@ -1,23 +1,15 @@
 -- Decimals: a word says a number exactly where it is spelled so.
-use Rattle.std.proofs.Common.{◌≡◌, ℕ, ◌+◌, ◌-◌, ◌*◌, ◌^◌, ◌≤◌, ◌<◌, Bool, true, false, cond, eqb, ltb, List, [], ◌∷◌, length, get_or, Some, None, refl, sym, ap, ◌∙◌, arith, rules, inl, inr}
+use Rattle.std.proofs.Common.{◌≡◌, ℕ, ◌+◌, ◌-◌, ◌*◌, ◌^◌, ◌<◌, Bool, true, false, cond, eqb, ltb, List, [], ◌∷◌, length, get_or, Some, None, refl, sym, ap, ◌∙◌, arith, inl, inr}
 use Rattle.std.specs.Prelude.{◌↔◌}
 use Rattle.std.specs.Char.{is_ascii_digit}
 use Rattle.std.specs.Str.{all_ascii_digits}
 use Rattle.std.specs.Fmt.{decimal}
 use Rattle.std.proofs.lemmas.Bool.{cases_eq, eqb-true, eqb-false, ne_eqb, ltb-true, lt-ltb, and_parts, and_from}
 use Rattle.std.proofs.lemmas.List.{nil_from_length}
-use Rattle.std.proofs.lemmas.Str.Parse.{IsNumeralModel, numerals_by_fold}
 use Rattle.std.proofs.lemmas.Fmt.{decimal_digit, first_decimal, digits_decimal, digits_value-decimal, decimal-digits_value}
+use Rattle.plain_lemmas.proofs.Digits.{read_on, numeral_model, read_on-ge}
 use Rattle.make_command.specs.Words.{making_in, number_said, value_from}
 use Rattle.plain_lemmas.proofs.Options.{when_some, some_when}
-
--- the number that the digits go on to spell after this one
-abbrev read_on : ℕ → List ℕ → ℕ
-read_on n [] = n
-read_on n (d ∷ ds) = read_on (n * 10 + (d - 48)) ds
-
-own : IsNumeralModel (λ ds. all_ascii_digits ds ≡ true) (read_on 0)
-own = numerals_by_fold _ (search rules) read_on (search rules)
 
 -- what the digits spell, and that it is below 2 ^ 64
 record Spells (n : ℕ) (ds : List ℕ) (v : ℕ) : Type 0 where
@@ -33,11 +25,6 @@ value_from-some (d ∷ ds) n v small e =
     let both = and_parts (is_ascii_digit d) (ltb next 18446744073709551616) kept.0 in
     let rest = value_from-some ds next v (ltb-true next 18446744073709551616 both.1) kept.1 in
     record { digits = and_from (is_ascii_digit d) (all_ascii_digits ds) both.0 rest.digits; value = rest.value; below = rest.below }
-
--- more digits make no smaller number
-read_on-ge : (ds : List ℕ) (n : ℕ) → n ≤ read_on n ds
-read_on-ge [] n = omega arith
-read_on-ge (d ∷ ds) n = omega (arith, read_on-ge ds (n * 10 + (d - 48)))
 
 value_from-all : (ds : List ℕ) (n : ℕ) → all_ascii_digits ds ≡ true → read_on n ds < 2 ^ 64 → value_from n ds ≡ Some (read_on n ds)
 value_from-all [] n digits small = refl
@@ -60,7 +47,7 @@ number_said-some (d ∷ ds) n e = go (eqb d 48) refl e
     go false t h =
         let spelled = value_from-some (d ∷ ds) 0 n (omega arith) h in
         let first : get_or (d ∷ ds) 0 0 ≡ 48 → length (d ∷ ds) ≡ 1 = λ is. absurd (eqb-false d 48 t is) in
-        (sym (decimal-digits_value own (d ∷ ds) spelled.digits (omega arith) first (omega (arith, spelled.value, spelled.below))) ∙ ap decimal spelled.value, spelled.below)
+        (sym (decimal-digits_value numeral_model (d ∷ ds) spelled.digits (omega arith) first (omega (arith, spelled.value, spelled.below))) ∙ ap decimal spelled.value, spelled.below)
 
 number_said-digits : (ds : List ℕ) (n : ℕ) → all_ascii_digits ds ≡ true → read_on 0 ds ≡ n → n < 2 ^ 64 → 48 < get_or ds 0 0 → number_said ds ≡ Some n
 number_said-digits [] n digits value below first = absurd (omega arith)
@@ -72,7 +59,7 @@ number_said-decimal : (n : ℕ) → n < 2 ^ 64 → number_said (decimal n) ≡ S
 number_said-decimal n small =
     elim (cases_eq n 0) [
       | inl none ↦ rw none (ap number_said (decimal_digit 0 (omega arith)))
-      | inr some ↦ number_said-digits (decimal n) n (digits_decimal own n (omega arith)) (digits_value-decimal own n (omega arith)) small (first_decimal n (omega arith) (omega arith))
+      | inr some ↦ number_said-digits (decimal n) n (digits_decimal numeral_model n (omega arith)) (digits_value-decimal numeral_model n (omega arith)) small (first_decimal n (omega arith) (omega arith))
     ]
 
 -- and so do the words of the command

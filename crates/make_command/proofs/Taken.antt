@@ -6,6 +6,7 @@ use Rattle.std.specs.List.{range_with_len}
 use Rattle.std.proofs.lemmas.Bool.{cases_lt}
 use Rattle.std.proofs.lemmas.List.FromFn.{length-map-range_with_len, map-range_with_len_more}
 use Rattle.std.proofs.lemmas.List.{get_or_past}
+use Rattle.plain_lemmas.proofs.Each.{each_kept}
 use Rattle.definitions.specs.declared.logs.Entry.{Entry}
 use Rattle.definitions.specs.declared.logs.Entry.TheVariants.{Chose}
 use Rattle.definitions.specs.Entries.{AreWellFormed, is_well_formed}
@@ -15,7 +16,7 @@ use Rattle.definitions.specs.World.{Game, players_of}
 use Rattle.definitions.specs.declared.limits.TheConstants.{LONGEST_LOG}
 use Rattle.definitions.proofs.Items.{item_is}
 use Rattle.definition_laws.specs.Stepping.{AreHonest}
-use Rattle.definition_laws.proofs.Listing.{EachIs_kept, take_more}
+use Rattle.definition_laws.proofs.Listing.{take_more}
 use Rattle.definition_laws.proofs.Room.{logs_fit, room_small}
 use Rattle.definition_laws.proofs.WellFormed.{honest_well_formed}
 use Rattle.grid_world.specs.Sessions.{IsSession}
@@ -65,7 +66,7 @@ owner_past : (owners : List (Option ℕ)) (i : ℕ) → length owners ≤ i → 
 owner_past owners i le = sym (item_is owners i None) ∙ get_or_past owners i None le
 
 pub all_sent : (game : Game) (me : ℕ) (h : List Entry) → AreWellFormed game me h → EachIs (λ e. is_of_its_sender e ≡ true) h
-all_sent game me h w = EachIs_kept (λ e. is_well_formed game me e ≡ true) (λ e. is_of_its_sender e ≡ true) h (well_sent game me) w
+all_sent game me h w = each_kept (λ e. is_well_formed game me e ≡ true) (λ e. is_of_its_sender e ≡ true) h (well_sent game me) w
 
 -- ---- the players one behind the other
 module _ (game : Game) (logs : Logs) (p : ℕ) (below : p < MOST_LOGS) where

@@ -12,11 +12,11 @@ use Rattle.station.specs.Since.{since}
 use Rattle.run_frame.specs.Ends.{Finished}
 use Rattle.line_io.specs.Inputs.{AtEnd, AtFault, MayFollow, input_of}
 use Rattle.run_frame.specs.declared.statuses.Status.{Status}
-use Rattle.peer_cli.specs.Commands.{ReadsFor, answer_of, contents_of, names_of, takes_late}
+use Rattle.peer_runs.specs.Commands.{ReadsFor, answer_of, contents_of, names_of, takes_late}
 use Rattle.line_io.specs.Files.{AreContents, AreReadings, Calls}
 use Rattle.peer_cli.specs.Memory.{WritesInMemory}
-use Rattle.peer_cli.specs.Runs.{ReadsOn, Runs}
-use Rattle.peer_cli.specs.Words.{Command}
+use Rattle.peer_runs.specs.Runs.{ReadsOn, Runs}
+use Rattle.peer_runs.specs.Words.{Command}
 
 -- what was left is what was read and what is left
 left_is : (s t : HeldSource) → ReadsOn (source_state s) (source_state t) → bytes_left s.left ≡ since s.seen t.seen ++ bytes_left t.left

@@ -8,7 +8,7 @@ use Rattle.command_line.specs.declared.names.Name.{Name}
 use Rattle.command_line.specs.declared.names.Name.TheVariants as N
 use Rattle.command_line.specs.Names.{named, takes, text_of}
 use Rattle.command_line.specs.Lines.{Line, line_of_words, line_with, split_of}
-use Rattle.command_line.specs.Words.{is_word}
+use Rattle.program_words.specs.Words.{is_word}
 use Rattle.command_line.proofs.Finding.{named-Some}
 use Rattle.drive_command.specs.Words.{driving_in}
 use Rattle.upgrade_command.specs.Words.{upgrading_in}
@@ -18,8 +18,9 @@ use Rattle.make_command.specs.Words.{making_in}
 use Rattle.audit_command.specs.declared.limits.TheConstants.{MOST_AUDITED}
 use Rattle.audit_command.specs.Words.{Auditing, are_few, auditing_in}
 use Rattle.peer_command.specs.Words.{peering_in}
-use Rattle.peer_cli.specs.Peers.{peering_behind, peering_named, peering_of, peering_on}
-use Rattle.peer_cli.specs.Words.{Audit, Drive, Judge, Make, Schedule, Upgrade, command_in, command_named, command_of, command_on}
+use Rattle.peer_runs.specs.Peers.{peering_behind, peering_named, peering_of}
+use Rattle.peer_runs.specs.Words.{Audit, Drive, Judge, Make, Schedule, Upgrade, command_in, command_named, command_of}
+use Rattle.peer_cli.specs.Lines.{command_on, peering_on}
 
 -- ---- fewer words or more than a command takes say nothing
 

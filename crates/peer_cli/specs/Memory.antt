@@ -6,8 +6,8 @@ use Rattle.station.specs.Plans.{HeldShelf, HeldSink, HeldSource, bytes_left, sin
 use Rattle.run_frame.specs.Ends.{Finished}
 use Rattle.line_io.specs.Inputs.{AtEnd, AtFault, input_of}
 use Rattle.run_frame.specs.declared.statuses.Status.{Status}
-use Rattle.peer_cli.specs.Words.{Command}
-use Rattle.peer_cli.specs.Commands.{answer_of, contents_of, takes_late}
+use Rattle.peer_runs.specs.Words.{Command}
+use Rattle.peer_runs.specs.Commands.{answer_of, contents_of, takes_late}
 
 -- What a run over objects in memory wrote is due by what the files and the input held, whatever it read of them.
 pub record WritesInMemory (command : Option Command) (input input' : HeldSource) (out out' : HeldSink) (shelf shelf' : HeldShelf) (status : Status) : Type 0 where

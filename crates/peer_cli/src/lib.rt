@@ -1,31 +1,15 @@
-//! The program as one call: the words as a command, the session and perhaps a log from the shelf, and the command over them.
+//! The program as one call: its words, split by clap, as a command, and what `peer_runs` does for that.
 //!
 //! `run` carries the promises of the whole: what is written for these words, files and input, why each status comes, that
-//! nothing but memory can be wanting where all is good, and that the log behind the text is one of fair play. The crate
-//! touches the source, the sink and the shelf that it is handed, and takes its memory before the first byte is written. Only `peer`
-//! touches the station and the generator: what `run` promises of it is a record of its own (`specs/Peers.antt`), and of all other
-//! commands `specs/Runs.antt` is the one.
-//!
-//! A further command is a case of `Command` and of `obey`, and in `specs/` of `Words`, `Commands` and `Causes`: its crate has its words, its
-//! answer, its causes, one function and its laws, as `drive_command` does. What `run` promises (`specs/Runs.antt`) names none of them.
+//! nothing but memory can be wanting where all is good, and that the log behind the text is one of fair play. They are those of `peer_runs`
+//! (`specs/Runs.antt` there, and of `peer` `specs/Peers.antt`), for words that clap splits. Words that are no command are told so before clap
+//! is asked, which takes memory. The crate touches the objects that it is handed and nothing else.
 #![tactic(auto)]
 
-mod auditing;
-mod audits;
-mod driving;
-mod exhibits;
-mod judging;
-mod matches;
 mod memory;
-mod old_logs;
 mod peering;
-mod peers;
 mod program;
-mod scheduling;
-mod seats;
-mod sessions;
-mod upgrading;
 mod words;
 
 pub use memory::run_in_memory;
-pub use program::{run, run_plainly};
+pub use program::run;

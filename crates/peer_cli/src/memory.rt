@@ -2,7 +2,7 @@
 
 ghost use Rattle.std.specs.Prelude.{map};
 ghost use Rattle.peer_cli.specs.Memory.{WritesInMemory};
-ghost use Rattle.peer_cli.specs.Words.{command_of};
+ghost use Rattle.peer_runs.specs.Words.{command_of};
 
 use crate::program::run_offline;
 use run_frame::Status;

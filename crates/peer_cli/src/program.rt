@@ -4,52 +4,20 @@ ghost use Rattle.std.specs.Prelude.{◌≡◌, [], IfSome, None, Some, map, opti
 ghost use Rattle.command_line.specs.Lines.{owned};
 ghost use Rattle.drive_command.specs.Laws.{DrivesAreRuns, LinesAreOneStream};
 ghost use Rattle.peer_command.specs.Words.{Peering};
-ghost use Rattle.peer_cli.specs.Peers.{RunsPeer, peering_of};
-ghost use Rattle.peer_cli.specs.Words.{HasRoom, command_of, command_on, command_said};
-ghost use Rattle.peer_cli.specs.Runs.{Runs, Works};
+ghost use Rattle.peer_runs.specs.Peers.{RunsPeer, peering_of};
+ghost use Rattle.peer_runs.specs.Words.{HasRoom, command_of};
+ghost use Rattle.peer_cli.specs.Lines.{command_on};
+ghost use Rattle.peer_runs.specs.Runs.{Runs, Works};
 
-use crate::auditing::audit_for;
-use crate::driving::drive_for;
-use crate::judging::judge_for;
-use crate::matches::make_for;
-use crate::peering::{peer_for, peer_plainly};
-use crate::scheduling::schedule_for;
-use crate::upgrading::upgrade_for;
+use crate::peering::peer_for;
 use crate::words;
-use crate::words::{Command, is_command, is_peering, read_command, read_peering};
 use command_line::{OwnLine, split_words};
+use peer_runs::{is_command, is_peering, obey};
 use rand_core::Rng;
 use run_frame::{Status, refuse};
 use socket_station::Station;
 use station::{Shelf, Sink, Source};
 use std::alloc::Global;
-
-/// Does what the command asks for. Each command is handed only what it uses.
-fn obey<I: Source, O: Sink, H: Shelf>(
-    alloc: Global,
-    command: Command<'_>,
-    input: &mut I,
-    out: &mut O,
-    shelf: &mut H,
-) -> Status
-    requires room { HasRoom (command_said command) }
-    ensures { Works
-        (record {
-          command = Some (command_said command.entry);
-          before = record { input = I.state input.old; output = O.state out.old; shelf = H.state shelf.old };
-          after = record { input = I.state input.new; output = O.state out.new; shelf = H.state shelf.new };
-        })
-        (input.new ≡ input.old) result }
-{
-    match command {
-        Command::Drive(words) => drive_for(alloc, words, input, out, shelf),
-        Command::Upgrade(session) => upgrade_for(alloc, session, input, out, shelf),
-        Command::Judge(words) => judge_for(alloc, words, input, out, shelf),
-        Command::Audit(words) => audit_for(alloc, words, input, out, shelf),
-        Command::Schedule(session) => schedule_for(alloc, session, input, out, shelf),
-        Command::Make(number) => make_for(alloc, number, input, out, shelf),
-    }
-}
 
 /// Does what a command line asks for, but for the last line of a refusal.
 fn obey_line<I: Source, O: Sink, H: Shelf>(
@@ -98,48 +66,6 @@ fn work<I: Source, O: Sink, H: Shelf>(
         Err(_) => Status::NoMemory,
         Ok(line) => obey_line(alloc, &line, input, out, shelf),
     }
-}
-
-/// Does what the words ask for, but for the last line of a refusal. Clap isn't asked.
-fn work_plainly<I: Source, O: Sink, H: Shelf>(
-    alloc: Global,
-    words: &[Vec<u8>],
-    input: &mut I,
-    out: &mut O,
-    shelf: &mut H,
-) -> Status
-    ensures { Works
-        (record {
-          command = command_of (map (λ w. w.items) words.now);
-          before = record { input = I.state input.old; output = O.state out.old; shelf = H.state shelf.old };
-          after = record { input = I.state input.new; output = O.state out.new; shelf = H.state shelf.new };
-        })
-        (input.new ≡ input.old) result }
-{
-    match read_command(words) {
-        None => Status::Usage,
-        Some(command) => obey(alloc, command, input, out, shelf),
-    }
-}
-
-/// Does what the words ask for, where they ask for no sockets. Clap isn't asked.
-fn run_offline_plainly<I: Source, O: Sink, H: Shelf>(
-    alloc: Global,
-    words: &[Vec<u8>],
-    input: &mut I,
-    out: &mut O,
-    shelf: &mut H,
-) -> Status
-    ensures { Runs
-        (record {
-          command = command_of (map (λ w. w.items) words.now);
-          before = record { input = I.state input.old; output = O.state out.old; shelf = H.state shelf.old };
-          after = record { input = I.state input.new; output = O.state out.new; shelf = H.state shelf.new };
-        })
-        (input.new ≡ input.old) result }
-{
-    let status = work_plainly(alloc, words, input, out, shelf);
-    refuse(status, out)
 }
 
 /// Does what the words ask for, where they ask for no sockets.
@@ -215,44 +141,5 @@ pub fn run<I: Source, O: Sink, H: Shelf, S: Station, R: Rng>(
         peer_for(alloc, words, input, out, shelf, station, chance)
     } else {
         run_offline(alloc, words, input, out, shelf)
-    }
-}
-
-/// Does what [`run`] does, by words that are read without clap: for a program that is to be compiled quickly. It takes less memory.
-pub fn run_plainly<I: Source, O: Sink, H: Shelf, S: Station, R: Rng>(
-    alloc: Global,
-    words: &[Vec<u8>],
-    input: &mut I,
-    out: &mut O,
-    shelf: &mut H,
-    station: &mut S,
-    chance: &mut R,
-) -> Status
-    requires first { S.history station.old ≡ [] }
-
-    // As of `run`.
-    ensures offline { peering_of (map (λ w. w.items) words.now) ≡ None → Runs
-        (record {
-          command = command_of (map (λ w. w.items) words.now);
-          before = record { input = I.state input.old; output = O.state out.old; shelf = H.state shelf.old };
-          after = record { input = I.state input.new; output = O.state out.new; shelf = H.state shelf.new };
-        })
-        (input.new ≡ input.old) result }
-    ensures apart { peering_of (map (λ w. w.items) words.now) ≡ None → (station.new ≡ station.old) × (chance.new ≡ chance.old) }
-    ensures online { (p : Peering) → peering_of (map (λ w. w.items) words.now) ≡ Some p → RunsPeer
-        (record {
-          peering = p;
-          before = record { input = I.state input.old; output = O.state out.old; shelf = H.state shelf.old };
-          after = record { input = I.state input.new; output = O.state out.new; shelf = H.state shelf.new };
-          items = S.history station.old;
-          items' = S.history station.new;
-          chance = R.stream chance.old;
-          later = R.stream chance.new;
-        })
-        (input.new ≡ input.old) result }
-{
-    match read_peering(words) {
-        None => run_offline_plainly(alloc, words, input, out, shelf),
-        Some(peer) => peer_plainly(alloc, peer, input, out, shelf, station, chance),
     }
 }

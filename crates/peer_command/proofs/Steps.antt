@@ -3,6 +3,7 @@ use Rattle.std.proofs.Common.{◌≡◌, ℕ, ◌≤◌, Bool, true, false, refl
 use Rattle.std.specs.Prelude.{◌&&◌, is_none, if◌then◌else◌}
 use Rattle.std.proofs.lemmas.Bool.{and_parts, false≢true}
 use Rattle.std.proofs.lemmas.List.Sums.{fold-append}
+use Rattle.plain_lemmas.proofs.Options.{none_of}
 use Rattle.definitions.specs.declared.frames.TurnFrame.{TurnFrame}
 use Rattle.definitions.specs.declared.frames.What.{What}
 use Rattle.definitions.specs.declared.frames.What.TheVariants.{Commit, Reveal}
@@ -51,10 +52,6 @@ use Rattle.peer_command.specs.Steps.{IsLogRun}
 
 -- ---- where no own frame may be made
 
-none_is : (o : Option TurnFrame) → is_none o ≡ true → o ≡ None
-none_is None e = refl
-none_is (Some f) e = absurd (false≢true e)
-
 -- behind a finding
 unclean : (game : Game) (me : ℕ) (h : List Entry) → is_clean game h ≡ false → next_made game me h ≡ None
 unfolding next_made
@@ -86,7 +83,7 @@ choosing game me h e = ap (if_allowed game me h) (unchosen game me h (slot_at ga
 
 -- where a poll is licensed
 licensed : (v : View) → is_licensed v ≡ true → own_next v ≡ None
-licensed v e = none_is (own_next v) (and_parts _ _ (and_parts _ _ (and_parts _ _ (and_parts _ _ e).1).0).0).1
+licensed v e = none_of (own_next v) (and_parts _ _ (and_parts _ _ (and_parts _ _ (and_parts _ _ e).1).0).0).1
 
 -- ---- at the end of a run
 

@@ -37,13 +37,9 @@ pairs_agree game q t ss at is h clean lt =
     (or_none _ _ (sym (turn_value game q t ss at is h) ∙ range_none (clash_in game q (in_order ss)) 0 game.turns t clean (omega arith) (omega arith))).0
 
 -- the turn of a frame by its place
-pub turn_low : (f : TurnFrame) → 2 * turn_of f ≤ slot_of f
-turn_low (Commit p t d) = omega arith
-turn_low (Reveal p t m n) = omega arith
-
-pub turn_high : (f : TurnFrame) → slot_of f ≤ 2 * turn_of f + 1
-turn_high (Commit p t d) = omega arith
-turn_high (Reveal p t m n) = omega arith
+pub turn_at : (f : TurnFrame) → (2 * turn_of f ≤ slot_of f) × (slot_of f ≤ 2 * turn_of f + 1)
+turn_at (Commit p t d) = (omega arith, omega arith)
+turn_at (Reveal p t m n) = (omega arith, omega arith)
 
 pair_opening : (game : Game) (t : ℕ) (c g : Received) (x : Clash) (y : Clash) (a b : Bool) → a ≡ b → x ≡ y → (if a then None else Some x) ≡ (if b then None else Some y)
 pair_opening game t c g x y a b e f = ap (λ (s : Bool). if s then None else Some x) e ∙ ap (λ (z : Clash). if b then None else Some z) f
@@ -107,8 +103,9 @@ illegal_turn game q ss at x w h = revealed (slot ss (2 * at.resolved + 1)) refl 
     revealed : (o : Option Received) → slot ss (2 * at.resolved + 1) ≡ o → illegal_in (slot_step game at.track (slot ss (2 * at.resolved)) o) ≡ Some x → (x.turn ≡ at.resolved) × (2 * at.resolved + 1 < length ss)
     revealed None i e = absurd (let no : None ≡ Some x = e in cc)
     revealed (Some g) i e =
-        let low = turn_low g.frame in
-        let high = turn_high g.frame in
+        let near = turn_at g.frame in
+        let low = near.0 in
+        let high = near.1 in
         let own = (w.own (2 * at.resolved + 1) g i).0 in
         let turn = framed g g.frame e in
         (omega arith, slot_within ss (2 * at.resolved + 1) g i)
@@ -131,8 +128,9 @@ held_clash game q ss at to r is h clean lt later all = go (opening_clash game (s
     -- other turns are as they were
     elsewhere : (t : ℕ) → t < game.turns → (t ≡ turn_of r.frame → ⊥) → pair_clash game t (slot (set ss (slot_of r.frame) (Some r)) (2 * t)) (slot (set ss (slot_of r.frame) (Some r)) (2 * t + 1)) ≡ None
     elsewhere t le apart =
-        let low = turn_low r.frame in
-        let high = turn_high r.frame in
+        let near = turn_at r.frame in
+        let low = near.0 in
+        let high = near.1 in
         ap (λ (o : Option Received). pair_clash game t o (slot (set ss (slot_of r.frame) (Some r)) (2 * t + 1))) (slot_other ss (slot_of r.frame) (2 * t) r (λ e. apart (omega arith)))
         ∙ ap (pair_clash game t (slot ss (2 * t))) (slot_other ss (slot_of r.frame) (2 * t + 1) r (λ e. apart (omega arith)))
         ∙ pairs_agree game q t ss at is h clean le
@@ -152,7 +150,7 @@ held_clash game q ss at to r is h clean lt later all = go (opening_clash game (s
         ∙ sym (end_none t to.resolved (illegal_at game (set ss (slot_of r.frame) (Some r)) to) end)
 
     turn_within : turn_of r.frame < game.turns
-    turn_within = let low = turn_low r.frame in let places = h.places in omega arith
+    turn_within = let low = (turn_at r.frame).0 in let places = h.places in omega arith
 
     by_opening : (y : Clash) → opening_clash game (slot ss (other_slot r.frame)) r ≡ Some y → ((t : ℕ) → t < turn_of r.frame → t ≡ to.resolved → illegal_at game (set ss (slot_of r.frame) (Some r)) to ≡ None) →
         Some y ≡ first_of (clash_in game q (in_order (set ss (slot_of r.frame) (Some r)))) (range_with_len 0 game.turns)

@@ -2,6 +2,7 @@
 use Rattle.std.proofs.Common.{◌≡◌, ℕ, zero, suc, ◌+◌, ◌*◌, ◌<◌, ◌≤◌, List, [], ◌∷◌, refl, Bool, true, false, sym, ◌∙◌, ap, arith, Option, Some, None}
 use Rattle.std.specs.Prelude.{◌==◌, cond, filter, nat_lt, if◌then◌else◌}
 use Rattle.std.proofs.lemmas.Bool.{cond-true, eq-eqb, lt-ltb, ltb-false, ltb-true, ne_eqb}
+use Rattle.plain_lemmas.proofs.Each.{each_kept}
 use Rattle.definitions.specs.declared.frames.TurnFrame.{TurnFrame}
 use Rattle.definitions.specs.declared.frames.TurnFrame.TheVariants.{Commit, Reveal}
 use Rattle.definitions.specs.Lists.{EachIs}
@@ -16,17 +17,13 @@ unfoldable IsRising : List Received → Type 0
 IsRising [] = Unit {0}
 IsRising (x ∷ xs) = EachIs (λ y. x.entry ≤ y.entry) xs × IsRising xs
 
-each_more : (P Q : Received → Type 0) (xs : List Received) → ((x : Received) → P x → Q x) → EachIs P xs → EachIs Q xs
-each_more P Q [] f h = tt
-each_more P Q (x ∷ xs) f h = (f x h.0, each_more P Q xs f h.1)
-
 insert_rising : (r : Received) (xs : List Received) → IsRising xs → IsRising (insert r xs)
 unfolding IsRising
 insert_rising r [] h = (tt, tt)
 insert_rising r (x ∷ xs) h = go (nat_lt r.entry x.entry) refl (insert_rising r xs h.1)
   where
     go : (b : Bool) → nat_lt r.entry x.entry ≡ b → IsRising (insert r xs) → IsRising (if b then r ∷ x ∷ xs else x ∷ insert r xs)
-    go true e ih = let lt = ltb-true r.entry x.entry e in ((omega arith, each_more _ _ xs (λ y k. omega arith) h.0), h)
+    go true e ih = let lt = ltb-true r.entry x.entry e in ((omega arith, each_kept _ _ xs (λ y k. omega arith) h.0), h)
     go false e ih = let ge = ltb-false r.entry x.entry e in (insert_each (λ y. x.entry ≤ y.entry) r xs (omega arith) h.0, ih)
 
 in_order_rising : (ss : List (Option Received)) → IsRising (in_order ss)
@@ -67,7 +64,7 @@ filter_keeps p r (x ∷ xs) h w = go (nat_lt r.entry x.entry) refl (filter_keeps
     go : (b : Bool) → nat_lt r.entry x.entry ≡ b → filter p (insert r xs) ≡ insert r (filter p xs) → filter p (if b then r ∷ x ∷ xs else x ∷ insert r xs) ≡ insert r (filter p (x ∷ xs))
     go true e ih =
         let lt = ltb-true r.entry x.entry e in
-        let all : EachIs (λ y. r.entry < y.entry) (x ∷ xs) = (lt, each_more _ _ xs (λ y k. omega arith) w.0) in
+        let all : EachIs (λ y. r.entry < y.entry) (x ∷ xs) = (lt, each_kept _ _ xs (λ y k. omega arith) w.0) in
         ap (λ (b : Bool). cond b (r ∷ filter p (x ∷ xs)) (filter p (x ∷ xs))) h ∙ sym (insert_front r (filter p (x ∷ xs)) (filter_each _ p (x ∷ xs) all))
     go false e ih = ap (λ (ys : List Received). cond (p x) (x ∷ ys) ys) ih ∙ sym (later (p x) e)
 

@@ -24,7 +24,7 @@ use Rattle.peer_window.specs.Clashes.{clash_among, clash_in, clash_of, first_cla
 use Rattle.peer_window.specs.Slots.{in_order, other_slot, slot_of, shown, slot}
 use Rattle.peer_window.specs.Windows.{IsHeld}
 use Rattle.peer_window.proofs.Clashing.{pair_same}
-use Rattle.peer_window.proofs.Holding.{pairs_agree, turn_low}
+use Rattle.peer_window.proofs.Holding.{pairs_agree, turn_at}
 use Rattle.peer_window.proofs.OfTurns.{turn_slots}
 use Rattle.peer_window.proofs.Pairs.{among_three, among_two, digest_swap, digest_sym, range_at, range_none}
 use Rattle.peer_window.proofs.Rivals.{rival_known}
@@ -187,7 +187,7 @@ rival_first_clash game q ss at r h is w clean own lt e apart = go r.frame refl
 
     found : (x : Clash) → first_of (clash_among game q (turn_of r.frame) (shown ss at.commits at.resolved) (in_order (slot ss (2 * turn_of r.frame) ∷ slot ss (2 * turn_of r.frame + 1) ∷ []) ++ r ∷ [])) kinds ≡ Some x → Some x ≡ first_of (clash_in game q (in_order ss ++ r ∷ [])) (range_with_len 0 game.turns)
     found x f =
-        let low = turn_low r.frame in
+        let low = (turn_at r.frame).0 in
         let places = w.places in
         sym (range_at (clash_in game q (in_order ss ++ r ∷ [])) 0 game.turns (turn_of r.frame) x (omega arith) (omega arith) (λ t le lower. before t lower (omega arith))
         (among (turn_of r.frame)

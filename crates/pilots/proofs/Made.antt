@@ -3,10 +3,10 @@ use Rattle.std.proofs.Common.{◌≡◌, ◌⊎◌, inl, inr, ℕ, zero, suc, �
 use Rattle.std.specs.Prelude.{◌&&◌, ◌==◌, if◌then◌else◌, not}
 use Rattle.std.proofs.lemmas.List.{length-map}
 use Rattle.std.proofs.lemmas.Bool.{and_parts, and_from, cases_order, eq-eqb, eqb-true, false≢true, lt-ltb, or_left, or_right}
+use Rattle.plain_lemmas.proofs.Each.{each_push, each_kept, each_map}
 use Rattle.sha2.specs.Sha256.{sha256}
 use Rattle.rand_pcg.specs.Lcg.{Lcg}
 use Rattle.definitions.specs.declared.world.Cell.{Cell}
-use Rattle.definitions.specs.declared.world.Seat.{Seat}
 use Rattle.definitions.specs.Lists.{EachIs}
 use Rattle.definitions.specs.World.{Ground, cell_eq, has_cell, in_row_order, is_before, is_inside, is_open}
 use Rattle.definitions.proofs.Cells.{has-append}
@@ -20,14 +20,6 @@ use Rattle.pilots.specs.Draws.{draw, generator_of}
 use Rattle.pilots.specs.Making.{cell_at, made_rules, made_session, open_place, place_behind, plain_game, seat_at, starts_of, walls_of, with_id, with_wall}
 use Rattle.pilots.proofs.Legal.{draw_below}
 use Rattle.pilots.proofs.Drawn.{place_found, place_on, starts_begun, starts_more, walls_begun, walls_more}
-
-each_append : (P : Cell → Type 0) (xs : List Cell) (x : Cell) → EachIs P xs → P x → EachIs P (xs ++ (x ∷ []))
-each_append P [] x each is = (is, tt)
-each_append P (y ∷ xs) x each is = (each.0, each_append P xs x each.1 is)
-
-each_kept : (P Q : Cell → Type 0) (xs : List Cell) → ((x : Cell) → P x → Q x) → EachIs P xs → EachIs Q xs
-each_kept P Q [] f each = tt
-each_kept P Q (x ∷ xs) f each = (f x each.0, each_kept P Q xs f each.1)
 
 -- walls that were drawn for the first so many cells
 record AreDrawn (count : ℕ) (walls : List Cell) : Type 0 where
@@ -77,7 +69,7 @@ drawn_more walls n d w = go ((d == 0) && not (n == 0)) refl
         let apart : has_cell (cell_at n ∷ []) (cell_at 0) ≡ false = let h = first_apart n some in grind (arith, h) in
         record {
           order = order_more walls n w.order w.below;
-          below = each_append (λ c. (c.x < 64) × (c.y * 64 + c.x < suc n)) walls (cell_at n) later (omega arith, omega arith);
+          below = each_push (λ c. (c.x < 64) × (c.y * 64 + c.x < suc n)) walls (cell_at n) later (omega arith, omega arith);
           first = has-append walls (cell_at n ∷ []) (cell_at 0) ∙ rw (w.first, apart) refl;
         }
 
@@ -136,7 +128,7 @@ starts_free walls (suc k) g first =
     let c = cell_at (open_place walls CELLS d) in
     let ih = starts_free walls k g first in
     let len : length (before.0 ++ (c ∷ [])) ≡ suc k = length-append before.0 (c ∷ []) ∙ omega (arith, ih.0) in
-    subst P (sym (starts_more walls k g)) (len, each_append (IsStart walls) before.0 c ih.1 (omega arith, omega (arith, free.0), free.1))
+    subst P (sym (starts_more walls k g)) (len, each_push (IsStart walls) before.0 c ih.1 (omega arith, omega (arith, free.0), free.1))
   where
     some : (d : ℕ) → (d < 0) ⊎ (0 < d) → 0 < d
     some d rest = elim rest [ inl none ↦ absurd (omega arith) | inr more ↦ more ]
@@ -152,11 +144,6 @@ drawn_grid walls w = record {
   walls = w.order;
   inside = each_kept (λ c. (c.x < 64) × (c.y * 64 + c.x < CELLS)) (λ c. is_inside (made_ground walls) c ≡ true) walls (λ c h. and_from _ _ (lt-ltb c.x 64 h.0) (lt-ltb c.y 64 (omega (arith, h.0, h.1)))) w.below;
 }
-
--- what holds of each start holds of its seat
-each_seat : (P : Seat → Type 0) (starts : List Cell) → EachIs (λ c. P (seat_at c)) starts → EachIs P (map seat_at starts)
-each_seat P [] each = tt
-each_seat P (c ∷ starts) each = (each.0, each_seat P starts each.1)
 
 each_any : (P : Cell → Type 0) (cs : List Cell) → ((c : Cell) → P c) → EachIs P cs
 each_any P [] f = tt
@@ -184,15 +171,15 @@ made_is_session walls starts id len w count free =
       ahead = (omega arith, omega arith);
       players = (omega (arith, players), omega (arith, players));
       turns_of_all = omega (arith, players);
-      seats = each_seat IsSeat starts (each_any (λ c. IsSeat (seat_at c)) starts (λ c. record { speed = (omega arith, omega arith); reach = omega arith }));
-      starts = each_seat (λ s. is_open (made_ground walls) s.start ≡ true) starts (each_kept (IsStart walls) (λ c. is_open (made_ground walls) c ≡ true) starts (start_open walls) free);
+      seats = (each_map IsSeat seat_at starts).1 (each_any (λ c. IsSeat (seat_at c)) starts (λ c. record { speed = (omega arith, omega arith); reach = omega arith }));
+      starts = (each_map (λ s. is_open (made_ground walls) s.start ≡ true) seat_at starts).1 (each_kept (IsStart walls) (λ c. is_open (made_ground walls) c ≡ true) starts (start_open walls) free);
       of_version_1 = λ first. record {
         width = omega arith;
         height = omega arith;
         turns = omega arith;
         ahead = refl;
         players = omega (arith, players);
-        seats = each_seat (GoesByTheRules made_rules) starts (each_any (λ c. GoesByTheRules made_rules (seat_at c)) starts (λ c. record { speed = refl; reach = refl }));
+        seats = (each_map (GoesByTheRules made_rules) seat_at starts).1 (each_any (λ c. GoesByTheRules made_rules (seat_at c)) starts (λ c. record { speed = refl; reach = refl }));
       };
     }
 

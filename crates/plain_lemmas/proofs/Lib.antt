@@ -1,4 +1,6 @@
 pub mod Options
 pub mod Tests
 pub mod Lists
+pub mod Each
 pub mod Bits
+pub mod Digits

@@ -1,6 +1,6 @@
 -- Tests: choices by a test, tests that pass together, and tests of a number and those beside it.
 use Rattle.std.proofs.Common.{◌≡◌, ◌⊎◌, inl, inr, ℕ, ◌+◌, ◌-◌, ◌≤◌, Bool, true, false, refl, sym, ap, ◌∙◌, arith}
-use Rattle.std.specs.Prelude.{◌||◌, if◌then◌else◌}
+use Rattle.std.specs.Prelude.{◌||◌, if◌then◌else◌, not}
 use Rattle.std.proofs.lemmas.Bool.{or_cases, or_left, or_right, cases_order}
 
 -- a choice, by how its test went
@@ -11,6 +11,11 @@ chosen false x y z h = inr (refl, h)
 -- tests that pass together are the same
 pub same_tests : (a b : Bool) → (a ≡ true → b ≡ true) → (b ≡ true → a ≡ true) → a ≡ b
 same_tests a b to from = grind arith
+
+-- a test that fails, where one that passes only with it fails
+pub not_kept : (a b : Bool) → (b ≡ true → a ≡ true) → not a ≡ true → not b ≡ true
+not_kept a true f h = let e = f refl in grind arith
+not_kept a false f h = refl
 
 -- a number at which a test passes, where it passes at this one or beside it
 pub near_at : (p : ℕ → Bool) (n : ℕ) → (p (n - 1) || (p n || p (n + 1))) ≡ true → (m : ℕ) × (n ≤ m + 1) × (m ≤ n + 1) × (p m ≡ true)

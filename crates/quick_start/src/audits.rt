@@ -1,6 +1,6 @@
 //! Audits of logs, and the exhibits that an audit prints, each judged anew from its text and the session alone.
 
-use crate::runs::{Ran, run_line};
+use crate::runs::{Ran, run_line, run_words};
 use std::{fs, io};
 
 /// The text of an audit in parts: its lines without the exhibits, and each exhibit.
@@ -64,18 +64,27 @@ fn parts_of(rt: &HostRuntime, text: &str) -> io::Result<Parts> {
     Ok(parts)
 }
 
+/// The words of a command over the session of that file, as far as it.
+fn words_for(rt: &HostRuntime, command: &[u8], session: &[u8]) -> io::Result<Vec<Vec<u8>>> {
+    let mut words = Vec::new(rt.alloc());
+    words.push(Vec::from_slice(rt.alloc(), command)?)?;
+    words.push(Vec::from_slice(rt.alloc(), session)?)?;
+    Ok(words)
+}
+
 /// What `judge` says of an exhibit.
-fn judge(rt: &HostRuntime, session: &str, name: &str, exhibit: &str) -> io::Result<Ran> {
+fn judge(rt: &HostRuntime, session: &[u8], name: &str, exhibit: &str) -> io::Result<Ran> {
     fs::write(rt, name, exhibit)?;
-    let line = format!(in rt.alloc(); "judge {session} {name}")?;
-    run_line(rt, line.as_str())
+    let mut words = words_for(rt, b"judge", session)?;
+    words.push(Vec::from_slice(rt.alloc(), name.as_bytes())?)?;
+    run_words(rt, words.as_slice())
 }
 
 /// How many of the exhibits show what they say, by `judge`.
 fn count_yes(rt: &HostRuntime, exhibits: &[String]) -> io::Result<usize> {
     let mut yes: usize = 0;
     for exhibit in exhibits {
-        let ran = judge(rt, "session", "evidence", exhibit.as_str())?;
+        let ran = judge(rt, b"session", "evidence", exhibit.as_str())?;
         if ran.text.as_str() == "yes\n" {
             yes = yes.saturating_add(1);
         }
@@ -104,18 +113,16 @@ pub(crate) fn show_audit(rt: &HostRuntime, logs: &str) -> io::Result<()> {
 
 /// Audits logs by the words of `audit`, writes what that writes, and then what `judge` says of each exhibit. The status is the audit's.
 pub(crate) fn settle(rt: &HostRuntime, session: &[u8], logs: &[Vec<u8>]) -> io::Result<u8> {
-    let session = String::from_utf8_lossy(rt.alloc(), session)?;
-    let mut line = format!(in rt.alloc(); "audit {session}")?;
+    let mut words = words_for(rt, b"audit", session)?;
     for log in logs {
-        line.push_str(" ")?;
-        line.push_str(String::from_utf8_lossy(rt.alloc(), log.as_slice())?.as_str())?;
+        words.push(Vec::from_slice(rt.alloc(), log.as_slice())?)?;
     }
-    let audit = run_line(rt, line.as_str())?;
+    let audit = run_words(rt, words.as_slice())?;
     print!(rt; "{}", audit.text)?;
     let parts = parts_of(rt, audit.text.as_str())?;
     for (number, exhibit) in parts.exhibits.iter().enumerate() {
         let name = format!(in rt.alloc(); "evidence.{}", number.saturating_add(1))?;
-        let said = judge(rt, session.as_str(), name.as_str(), exhibit.as_str())?;
+        let said = judge(rt, session, name.as_str(), exhibit.as_str())?;
         print!(rt; "judge {name}: {}", said.text)?;
     }
     Ok(audit.status)

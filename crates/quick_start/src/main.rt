@@ -5,7 +5,7 @@
 //! than half of all else. And it does as one program what else takes several, each of which would be compiled anew: `match`, `liar` and
 //! `killed` play a whole match over the sockets of this machine, each player's program a thread, by the files `session`, `0.roster`,
 //! `0.moves` and so on of the folder that it runs in, where it leaves the logs; and `settle SESSION LOG..` audits logs, and judges each exhibit
-//! that is printed. Nothing is promised of it beyond what `peer_cli` promises of each of its runs.
+//! that is printed. Nothing is promised of it beyond what `peer_runs` promises of each of its runs.
 #![tactic(auto)]
 
 mod audits;
@@ -14,7 +14,7 @@ mod runs;
 mod seats;
 
 use file_shelf::FileShelf;
-use peer_cli::run_plainly;
+use peer_runs::run;
 use runs::{chance_of, words_of};
 use station::{StdSink, StdSource};
 use station_mio::MioStation;
@@ -33,7 +33,7 @@ fn obey(rt: &HostRuntime, words: &[Vec<u8>]) -> io::Result<u8> {
     let mut shelf = FileShelf::new(alloc, rt);
     let mut station = MioStation::new(rt, alloc)?;
     let mut chance = chance_of(rt)?;
-    let status = run_plainly(
+    let status = run(
         alloc,
         words,
         &mut input,

@@ -9,6 +9,9 @@ use std::{io, thread};
 /// The polls that the liar's programs make: what the player told itself never ends, so they outlast the two honest ones.
 const POLLS_OF_A_LIAR: u32 = 90;
 
+/// The status of a player that gave up.
+const GAVE_UP: u8 = 7;
+
 /// The polls behind which player 1 is out of the match: it waits for player 2 by then, who isn't there yet.
 const POLLS_BEFORE_THE_STOP: u32 = 30;
 
@@ -58,7 +61,10 @@ pub(crate) fn play_liar(rt: &HostRuntime, threads: &(impl Threads + Sync)) -> io
 
 /// Lets player 1 play until it gives up, while player 2 isn't there yet, and then go on from its log.
 fn play_twice(rt: &HostRuntime) -> io::Result<Ran> {
-    play_seat(rt, 1, 1, POLLS_BEFORE_THE_STOP, "1.log")?;
+    let first = play_seat(rt, 1, 1, POLLS_BEFORE_THE_STOP, "1.log")?;
+    if first.status != GAVE_UP {
+        return Err(io::Error::from(io::ErrorKind::Other));
+    }
     let bytes = std::fs::metadata(rt, "1.log")?.len();
     println!(rt; "player 1 gave up, and its log has {bytes} bytes")?;
     play_seat(rt, 1, 1, POLLS, "new.log 1.log")

@@ -1,7 +1,7 @@
 //! Runs whose text goes to memory.
 
 use file_shelf::FileShelf;
-use peer_cli::run_plainly;
+use peer_runs::run;
 use rand_chacha::ChaCha20Rng;
 use rand_core::SeedableRng;
 use station::{MemorySink, MemorySource};
@@ -44,18 +44,23 @@ pub(crate) fn chance_of(rt: &HostRuntime) -> io::Result<ChaCha20Rng> {
     Ok(ChaCha20Rng::from_seed(seed))
 }
 
-/// Runs the words of a line over this machine's files and sockets, with no input.
+/// Runs the words of a line.
 pub(crate) fn run_line(rt: &HostRuntime, line: &str) -> io::Result<Ran> {
-    let alloc = rt.alloc();
     let words = split(rt, line)?;
+    run_words(rt, words.as_slice())
+}
+
+/// Runs the words over this machine's files and sockets, with no input.
+pub(crate) fn run_words(rt: &HostRuntime, words: &[Vec<u8>]) -> io::Result<Ran> {
+    let alloc = rt.alloc();
     let mut input = MemorySource::new(Vec::new(alloc), Vec::new(alloc));
     let mut out = MemorySink::new(alloc, MOST, Vec::new(alloc))?;
     let mut shelf = FileShelf::new(alloc, rt);
     let mut station = MioStation::new(rt, alloc)?;
     let mut chance = chance_of(rt)?;
-    let status = run_plainly(
+    let status = run(
         alloc,
-        words.as_slice(),
+        words,
         &mut input,
         &mut out,
         &mut shelf,

@@ -1,12 +1,11 @@
 -- Began: the log is begun, the entries of an older one are kept, and the loop listens.
-use Rattle.std.proofs.Common.{◌≡◌, ℕ, zero, suc, ◌+◌, ◌-◌, ◌<◌, ◌≤◌, Bool, true, false, refl, sym, ap, subst, ◌∙◌, List, [], ◌∷◌, ◌++◌, append_assoc, append-nil, arith, length}
+use Rattle.std.proofs.Common.{◌≡◌, ℕ, ◌+◌, ◌-◌, ◌<◌, ◌≤◌, Bool, true, false, refl, sym, ap, subst, ◌∙◌, List, [], ◌∷◌, ◌++◌, append_assoc, append-nil, arith, length}
 use Rattle.std.specs.Prelude.{Option, Some, ◌&&◌, ◌||◌, ◌==◌, nat_lt, take, slice_get}
 use Rattle.std.proofs.lemmas.Bool.{eq-eqb, lt-ltb, and_from}
-use Rattle.std.proofs.lemmas.List.{length-take-le}
-use Rattle.std.proofs.lemmas.Slice.Eq.{bytes_eq-Decides}
-use Rattle.std.proofs.Math.Seq.{take-length}
+use Rattle.std.proofs.lemmas.List.{length-take-le, take_all}
 use Rattle.definitions.specs.declared.logs.Entry.{Entry}
 use Rattle.definitions.specs.declared.logs.Entry.TheVariants.{Chose, Made, Got}
+use Rattle.definition_laws.proofs.Nexts.{some_at}
 use Rattle.session_log.specs.Spelling.{FitsEntry}
 use Rattle.session_log.specs.Writing.{written}
 use Rattle.socket_station.specs.declared.answers.Addr.{Addr}
@@ -15,7 +14,7 @@ use Rattle.socket_station.specs.Items.{Item, ListenCall, LogCall, KeepCall, Sync
 use Rattle.loop_rules.specs.declared.arrivals.Arrival.{Arrival}
 use Rattle.loop_rules.specs.declared.phases.Phase.{Phase}
 use Rattle.loop_rules.specs.declared.phases.Phase.TheVariants.{Logged, Running, KeepFault, PollFault}
-use Rattle.loop_rules.specs.Settings.{Setting, told_addr, addr_eq}
+use Rattle.loop_rules.specs.Settings.{Setting, told_addr}
 use Rattle.loop_rules.specs.Views.{start}
 use Rattle.loop_rules.specs.Handling.{with_waiting, sorted, sorted_out}
 use Rattle.loop_rules.specs.Keeping.{is_entry, may_keep_in, waiting_behind, with_entry}
@@ -35,6 +34,7 @@ use Rattle.ready_loop.proofs.Entries.{entry_same, kept_tells, fault_tells}
 use Rattle.ready_loop.proofs.Idle.{still_view, all_kept}
 use Rattle.ready_loop.proofs.Kept.{base_next}
 use Rattle.ready_loop.proofs.Going.{polls_more}
+use Rattle.ready_loop.proofs.Addresses.{same_addr}
 
 -- one more item that is no poll
 same_polls : (before items after : List Item) (item : Item) → polls_of items ≡ polls_of before → after ≡ items ++ item ∷ [] → poll_count item ≡ 0 → polls_of after ≡ polls_of before
@@ -91,13 +91,10 @@ log_taking items after name l m new none on same = record {
 
 -- ---- the entries taken over
 
-over_all : (l : LoopState) → l.over ≡ length l.peer.entries → take l.over l.peer.entries ≡ l.peer.entries
-over_all l e = ap (λ (n : ℕ). take n l.peer.entries) e ∙ take-length l.peer.entries
-
 over_may : (l : LoopState) (e : Entry) → l.phase ≡ Logged → l.over ≡ length l.peer.entries → l.kept ≤ length l.peer.entries → slice_get l.peer.entries l.kept ≡ Some e → may_keep_in (base_of l).phase (base_of l) e ≡ true
 over_may l e logged over few g =
     ap (λ (p : Phase). may_keep_in p (base_of l) e) logged
-    ∙ ap (λ (es : List Entry). is_entry (slice_get es (length (kept_of l))) e) (over_all l over)
+    ∙ ap (λ (es : List Entry). is_entry (slice_get es (length (kept_of l))) e) (take_all l.over l.peer.entries (omega (arith, over)))
     ∙ ap (λ (n : ℕ). is_entry (slice_get l.peer.entries n) e) (length-take-le l.kept l.peer.entries few)
     ∙ ap (λ (o : Option Entry). is_entry o e) g ∙ entry_same e
 
@@ -125,12 +122,6 @@ pub record Taking (before items : List Item) (l m : LoopState) : Type 0 where
 pub taking_first : (items : List Item) (l : LoopState) → IsTakingOver items l → Taking items items l l
 taking_first items l w = record { more = []; grown = sym (append-nil items); polls = refl; taking = w; peer = refl; setting = refl; synced = refl }
 
--- an entry is there to be kept
-pub entry_there : (es : List Entry) (k : ℕ) → k < length es → (e : Entry) × (slice_get es k ≡ Some e)
-entry_there [] k lt = absurd (omega (arith, lt))
-entry_there (x ∷ es) zero lt = (x, refl)
-entry_there (x ∷ es) (suc k) lt = entry_there es k (omega (arith, lt))
-
 next_over : (l : LoopState) (e : Entry) → slice_get l.peer.entries l.kept ≡ Some e → next_bytes l ≡ written (base_of l).writer e
 next_over l e g = ap (written_for (writer_of l)) g
 
@@ -148,7 +139,7 @@ over_told false items m e w lt g f =
 pub taking_on : (before items after : List Item) (l m n : LoopState) → Taking before items l m → m.kept < length m.peer.entries → ((e : Entry) → slice_get m.peer.entries m.kept ≡ Some e → FitsEntry e) →
     after ≡ items ++ keep_item D.Done (next_bytes m) ∷ [] → n ≡ kept_next true m → Taking before after l n
 taking_on before items after l m n w lt fits on same =
-    let e = entry_there m.peer.entries m.kept lt in
+    let e = some_at m.peer.entries m.kept lt in
     subst (λ (x : LoopState). Taking before after l x) (sym same) (record {
       more = w.more ++ Kept (next_bytes m) ∷ [];
       grown = on ∙ ap (λ (xs : List Item). xs ++ Kept (next_bytes m) ∷ []) w.grown ∙ append_assoc before w.more (Kept (next_bytes m) ∷ []);
@@ -169,7 +160,7 @@ taking_on before items after l m n w lt fits on same =
 pub taking_faults : (before items after : List Item) (l m n : LoopState) → Taking before items l m → m.kept < length m.peer.entries → ((e : Entry) → slice_get m.peer.entries m.kept ≡ Some e → FitsEntry e) →
     after ≡ items ++ keep_item D.Failed (next_bytes m) ∷ [] → n ≡ kept_next false m → TakesOver false before after l n
 taking_faults before items after l m n w lt fits on same =
-    let e = entry_there m.peer.entries m.kept lt in
+    let e = some_at m.peer.entries m.kept lt in
     subst (λ (x : LoopState). TakesOver false before after l x) (sym same) (record {
       more = w.more ++ Failed (KeepCall (next_bytes m)) ∷ [];
       grown = on ∙ ap (λ (xs : List Item). xs ++ Failed (KeepCall (next_bytes m)) ∷ []) w.grown ∙ append_assoc before w.more (Failed (KeepCall (next_bytes m)) ∷ []);
@@ -229,7 +220,7 @@ named_on name [] more b = absurd b
 named_on name (item ∷ items) more b = b
 
 over_is_kept : (m : LoopState) → m.over ≡ length m.peer.entries → m.kept ≡ length m.peer.entries → (length (kept_of m) == length (take m.over m.peer.entries)) ≡ true
-over_is_kept m over kept = eq-eqb _ _ (ap (λ (es : List Entry). length es) (all_kept m kept ∙ sym (over_all m over)))
+over_is_kept m over kept = eq-eqb _ _ (ap (λ (es : List Entry). length es) (all_kept m kept ∙ sym (take_all m.over m.peer.entries (omega (arith, over)))))
 
 sync_over_told : (done : Bool) (items : List Item) (m : LoopState) → IsTakingOver items m → m.kept ≡ length m.peer.entries → m.synced < m.kept → IsTold (items ++ sync_item (did_by done) ∷ []) (view_of (synced_all done m))
 sync_over_told done items m w kept lt = go done
@@ -259,9 +250,6 @@ syncs_over done items after m n w kept lt on same = record {
 -- nothing is to be synced
 pub syncs_over_none : (items : List Item) (i m : LoopState) → i ≡ m → IsTakingOver items m → i.synced ≡ i.kept → SyncsOver true items items m m
 syncs_over_none items i m is w same = let e = subst (λ (x : LoopState). x.synced ≡ x.kept) is same in record { more = []; grown = sym (append-nil items); polls = refl; told = w.told; same = ap (λ (n : ℕ). record m { synced = n }) e }
-
-same_addr : (a : Addr) → addr_eq a a ≡ true
-same_addr a = and_from _ _ ((bytes_eq-Decides a.ip a.ip).1 refl) (eq-eqb a.port a.port refl)
 
 listen_may : (m : LoopState) → m.phase ≡ Logged → m.over ≡ length m.peer.entries → m.kept ≡ length m.peer.entries → m.synced ≡ m.kept → is_allowed (base_of m) (Listening (told_addr m.roster.me)) ≡ true
 listen_may m logged over kept synced =

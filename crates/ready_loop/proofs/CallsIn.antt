@@ -3,7 +3,7 @@ use Rattle.std.proofs.Common.{◌≡◌, ℕ, ◌+◌, ◌-◌, ◌*◌, ◌^◌
 use Rattle.std.specs.Prelude.{Some, not, ◌&&◌, ◌==◌, nat_lt, take, slice_get}
 use Rattle.std.proofs.lemmas.Bool.{and_parts, ltb-true, false≢true}
 use Rattle.std.proofs.lemmas.List.{length-append, length-take-le, take-append-le}
-use Rattle.std.proofs.lemmas.Option.{slice_get-get_or}
+use Rattle.std.proofs.lemmas.Option.{slice_get-get_or, slice_get_within}
 use Rattle.definitions.specs.Lists.{EachIs}
 use Rattle.definitions.specs.declared.logs.Entry.{Entry}
 use Rattle.definitions.specs.declared.logs.Entry.TheVariants.{Got}
@@ -41,7 +41,7 @@ use Rattle.ready_loop.proofs.Idle.{all_kept}
 use Rattle.ready_loop.proofs.Kept.{MayKeep, each_drop, got_may}
 use Rattle.ready_loop.proofs.Made.{Making, made_goes, made_on, made_faults, all_made, advance_more}
 use Rattle.ready_loop.proofs.Choosing.{with_entries, grown_view, grown_setting, there_last, chosen_made, chosen_got}
-use Rattle.ready_loop.proofs.Places.{at_length, at_same}
+use Rattle.ready_loop.proofs.Places.{at_same}
 use Rattle.ready_loop.proofs.Handled.{got_faults, got_goes, Handling}
 use Rattle.ready_loop.proofs.Served.{lines_differ}
 use Rattle.ready_loop.proofs.ReadOnce.{ReadsAt, read_goes, reads_once}
@@ -149,7 +149,7 @@ advances done before after i l m n p w a f k =
 -- ---- the entry of a frame
 
 got_lt : (l : LoopState) → IsGot l → l.handled < length l.table.waiting
-got_lt l w = at_length l.table.waiting l.handled w.arrival w.first
+got_lt l w = slice_get_within l.table.waiting l.handled w.arrival w.first
 
 got_entry : (l : LoopState) (w : IsGot l) → slice_get l.peer.entries l.kept ≡ Some (Got w.arrival.player w.arrival.frame)
 got_entry l w =
@@ -297,11 +297,9 @@ next_now l e = (next_parts l e).0
 pub hearing_on : (before items : List Item) (l m : LoopState) → Handling before items l m → IsHearing items m
 hearing_on before items l m w = record { told = w.goes.told; running = w.running; played = w.played }
 
-pub hears_false : (r : Bool) (items after : List Item) (l m : LoopState) → r ≡ false → Hears r items after l m → Hears false items after l m
-hears_false r items after l m is h = subst (λ (b : Bool). Hears b items after l m) is h
-
-pub hears_true : (r : Bool) (items after : List Item) (l m : LoopState) → r ≡ true → Hears r items after l m → Hears true items after l m
-hears_true r items after l m is h = subst (λ (b : Bool). Hears b items after l m) is h
+-- what an answer says, where it is this one
+pub hears_is : (r b : Bool) (items after : List Item) (l m : LoopState) → r ≡ b → Hears r items after l m → Hears b items after l m
+hears_is r b items after l m is h = subst (λ (a : Bool). Hears a items after l m) is h
 
 pub hears_smaller : (r : Bool) (items after : List Item) (l m : LoopState) → has_next l ≡ true → r ≡ true → Hears r items after l m → length m.table.waiting - m.handled < length l.table.waiting - l.handled
 hears_smaller r items after l m next is h =
@@ -328,17 +326,11 @@ read_first s read before after l m w r = ap (λ (x : LoopState). x.handled) r.st
 pub reads_so : (answer : Bool) (k s : ℕ) (read : SocketRead) (before mid after : List Item) (l m n : LoopState) → IsReadyToRead before l → IsAt l.table k s → WantsAt l.table k → ReadsOnce s read before mid l m → Handles answer mid after m n → Reads answer k s before after l n
 reads_so answer k s read before mid after l m n w at wants r h = reads_once answer k s read before mid after l m n w (reads_at before l k s w at wants) r h
 
-pub reads_true : (r : Bool) (k s : ℕ) (items after : List Item) (l m : LoopState) → r ≡ true → Reads r k s items after l m → Reads true k s items after l m
-reads_true r k s items after l m is h = subst (λ (b : Bool). Reads b k s items after l m) is h
+pub reads_is : (r b : Bool) (k s : ℕ) (items after : List Item) (l m : LoopState) → r ≡ b → Reads r k s items after l m → Reads b k s items after l m
+reads_is r b k s items after l m is h = subst (λ (a : Bool). Reads a k s items after l m) is h
 
-pub reads_false : (r : Bool) (k s : ℕ) (items after : List Item) (l m : LoopState) → r ≡ false → Reads r k s items after l m → Reads false k s items after l m
-reads_false r k s items after l m is h = subst (λ (b : Bool). Reads b k s items after l m) is h
-
-pub outs_true : (r : Bool) (k s : ℕ) (items after : List Item) (l m : LoopState) → r ≡ true → ReadsOut r k s items after l m → ReadsOut true k s items after l m
-outs_true r k s items after l m is h = subst (λ (b : Bool). ReadsOut b k s items after l m) is h
-
-pub outs_false : (r : Bool) (k s : ℕ) (items after : List Item) (l m : LoopState) → r ≡ false → ReadsOut r k s items after l m → ReadsOut false k s items after l m
-outs_false r k s items after l m is h = subst (λ (b : Bool). ReadsOut b k s items after l m) is h
+pub outs_is : (r b : Bool) (k s : ℕ) (items after : List Item) (l m : LoopState) → r ≡ b → ReadsOut r k s items after l m → ReadsOut b k s items after l m
+outs_is r b k s items after l m is h = subst (λ (a : Bool). ReadsOut a k s items after l m) is h
 
 -- ---- what the code's tests say
 
@@ -363,7 +355,7 @@ pub clean_now : (i m : LoopState) (none some : Bool) → i ≡ m → some ≡ no
 clean_now i m none some same e f = not_both none (is_clean i.peer.game i.peer.entries) some e f ∙ ap (λ (x : LoopState). is_clean x.peer.game x.peer.entries) same
 
 pub at_few : (t u : Table) (k s : ℕ) → SameSockets t u → IsAt t k s → k < length u.lines
-at_few t u k s same at = let here = at_same t u k s same at in at_length u.lines k here.0 here.1
+at_few t u k s same at = let here = at_same t u k s same at in slice_get_within u.lines k here.0 here.1
 
 pub wants_none : (t : Table) (k : ℕ) (r : Bool) → ((x : Line) → slice_get t.lines k ≡ Some x → r ≡ wants_read t x) → r ≡ false → WantsNone t k
 wants_none t k r is none x g = sym (is x g) ∙ none

@@ -2,6 +2,7 @@
 use Rattle.std.proofs.Common.{◌≡◌, ℕ, ◌+◌, ◌<◌, ◌≤◌, ◌^◌, Bool, true, false, sym, ap, subst, ◌∙◌, List, [], ◌∷◌, ◌++◌, arith, length}
 use Rattle.std.specs.Prelude.{Option, Some, ◌==◌, slice_get, if◌then◌else◌}
 use Rattle.std.proofs.lemmas.Bool.{and_parts}
+use Rattle.std.proofs.lemmas.Option.{slice_get_within}
 use Rattle.definitions.specs.Lists.{EachIs, is_empty}
 use Rattle.definitions.specs.declared.frames.TurnFrame.{TurnFrame}
 use Rattle.definitions.specs.World.{Game}
@@ -34,7 +35,6 @@ use Rattle.socket_table.specs.Finding.{IsAt, IsSeatAt}
 use Rattle.ready_loop.specs.States.{LoopState, IsFit, IsOthers, IsOfOther}
 use Rattle.ready_loop.specs.Steps.{with_table}
 use Rattle.ready_loop.specs.Serving.{speaker_by, own_by, IsServing, WritesAt, Writes, Shuts, IsNextDial, Dials}
-use Rattle.ready_loop.proofs.Places.{at_length}
 use Rattle.ready_loop.proofs.Served.{stands_open, line_found, shuts}
 use Rattle.ready_loop.proofs.Written.{WritesLine, wrote, wants_parts, due_there, wrote_seats, wrote_waits, writes}
 use Rattle.ready_loop.proofs.Dialled.{dialled_table, dialled_so, new_socket}
@@ -74,7 +74,7 @@ write_open items m k s at w wants = stands_open items m k s at.0 w.told w.steady
 
 pub write_place : (l m : LoopState) (k : ℕ) (own : Option TurnFrame) → l ≡ m → IsStanding l.peer → IsOwnAt k own m → (x : Line) (f : TurnFrame) → slice_get l.table.lines k ≡ Some x → own ≡ Some f → x.cursor + 1 < 2 ^ 32
 write_place l m k own same stands owns x f g e =
-    let few = at_length (made l.peer.entries) x.cursor f (sym (subst (IsOwnAt k own) (sym same) owns x g) ∙ e) in
+    let few = slice_get_within (made l.peer.entries) x.cursor f (sym (subst (IsOwnAt k own) (sym same) owns x g) ∙ e) in
     let most = stands.made_few in
     let turns = stands.session.turns.1 in
     omega (arith, few, most, turns)

@@ -3,7 +3,7 @@ use Rattle.std.proofs.Common.{◌≡◌, ℕ, zero, suc, ◌+◌, ◌<◌, ◌�
 use Rattle.std.specs.Prelude.{Some, None, not, ◌&&◌, ◌||◌, ◌==◌, nat_lt, cond, slice_get, if◌then◌else◌}
 use Rattle.std.specs.List.{count_by}
 use Rattle.std.proofs.lemmas.Bool.{eq-eqb, eqb-true, eqb-false, and_from}
-use Rattle.std.proofs.lemmas.Slice.Eq.{bytes_eq-Decides}
+use Rattle.std.proofs.lemmas.Option.{slice_get_within}
 use Rattle.definitions.specs.Findings.{is_clean}
 use Rattle.definitions.specs.declared.logs.Entry.{Entry}
 use Rattle.definitions.specs.Held.{next_place}
@@ -15,7 +15,7 @@ use Rattle.socket_station.specs.Standings.{OpensNew, standing_in}
 use Rattle.socket_station.specs.Items.{Item, dial_item}
 use Rattle.socket_lines.specs.declared.seat.Seat.{Seat}
 use Rattle.socket_lines.specs.Seats.{dials, is_spent}
-use Rattle.loop_rules.specs.Settings.{told_addr, addr_eq}
+use Rattle.loop_rules.specs.Settings.{told_addr}
 use Rattle.loop_rules.specs.Tables.{Table, at_seat, in_seats, seat_of, is_served}
 use Rattle.loop_rules.specs.Licence.{is_reached}
 use Rattle.loop_rules.specs.Rules.{is_allowed, may_dial_at, wants_dial}
@@ -29,8 +29,9 @@ use Rattle.ready_loop.specs.Steps.{with_table}
 use Rattle.ready_loop.specs.Going.{IsIdle, poll_count, undialled}
 use Rattle.ready_loop.specs.Serving.{IsServing, IsNextDial, Dials}
 use Rattle.ready_loop.proofs.Idle.{idle_view, all_kept, serves_on}
-use Rattle.ready_loop.proofs.Places.{at_length, all_places}
+use Rattle.ready_loop.proofs.Places.{all_places}
 use Rattle.ready_loop.proofs.Served.{call_goes}
+use Rattle.ready_loop.proofs.Addresses.{same_addr}
 
 -- ---- which one is next
 
@@ -47,7 +48,7 @@ reached me t c e = go (nat_lt me c.link.player) (is_served t c.link.player) c.is
     go true false false false e = absurd (cc)
 
 pub none_next : (l : LoopState) (n : ℕ) → length l.table.seats ≤ n → ((k : ℕ) (c : Seat) → k < n → slice_get l.table.seats k ≡ Some c → wants_dial l.peer.me l.table c ≡ false) → IsNextDial l None
-none_next l n le none = all_places (is_reached l.peer.me l.table) l.table.seats (λ k c g. reached l.peer.me l.table c (none k c (let lt = at_length l.table.seats k c g in omega (arith, lt, le)) g))
+none_next l n le none = all_places (is_reached l.peer.me l.table) l.table.seats (λ k c g. reached l.peer.me l.table c (none k c (let lt = slice_get_within l.table.seats k c g in omega (arith, lt, le)) g))
 
 -- ---- the call
 
@@ -72,9 +73,6 @@ new_socket items l s told w f = not_in_fresh items s l.table.lines f (subst (IsT
 abbrev pub dialled_table : LoopState → (c : Seat) → Dial → Table
 dialled_table l c (D.Socket s) = A.dialled_on s c.link.player (next_place l.peer.game l.peer.me l.peer.entries c.link.player) l.table
 dialled_table l c D.Failed = at_seat c.link.player dials l.table
-
-same_addr : (a : Addr) → addr_eq a a ≡ true
-same_addr a = and_from _ _ ((bytes_eq-Decides a.ip a.ip).1 refl) (eq-eqb a.port a.port refl)
 
 dial_may : (l : LoopState) (k : ℕ) (c : Seat) (dial : Dial) → IsIdle l → is_clean l.peer.game l.peer.entries ≡ true → DiffersBy (λ x. x.link.player) l.table.seats → slice_get l.table.seats k ≡ Some c → wants_dial l.peer.me l.table c ≡ true →
     is_allowed (base_of l) (dial_item dial c.link.player (told_addr c.link.addr)) ≡ true
@@ -175,11 +173,6 @@ dialled_so before after l m k c dial w d n g new on same =
     }
 
 -- ---- the search for the next one
-
-pub seat_there : (cs : List Seat) (k : ℕ) → k < length cs → (c : Seat) × (slice_get cs k ≡ Some c)
-seat_there [] k lt = absurd (omega (arith, lt))
-seat_there (c ∷ cs) zero lt = (c, refl)
-seat_there (c ∷ cs) (suc k) lt = seat_there cs k (omega (arith, lt))
 
 -- none of the first seats is to be dialled
 abbrev pub NoneWanted : (me : ℕ) → Table → ℕ → Type 0

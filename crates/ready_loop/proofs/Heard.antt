@@ -38,7 +38,7 @@ use Rattle.table_laws.proofs.Seats.{asked_seats, same_each, same_undialled}
 use Rattle.ready_loop.specs.States.{LoopState, IsOthers, IsOfOther, setting_of, kept_of, base_of, rest_of, view_of}
 use Rattle.ready_loop.specs.Going.{undialled}
 use Rattle.ready_loop.specs.Handling.{asked, passed_as, KeepsLines, IsHearing, Hears}
-use Rattle.ready_loop.proofs.Sorting.{sorted_old}
+use Rattle.ready_loop.proofs.Sorting.{sorted_first}
 
 -- no next place is past the last one
 pub next_few : (game : Game) (me : ℕ) (h : List Entry) (q : ℕ) → next_place game me h q ≤ 2 * game.turns
@@ -115,7 +115,7 @@ pass_shows : (l : LoopState) (a : Arrival) (answer : GotAnswer) → l.handled < 
 pass_shows l a answer lt g all c o n e =
     ap (λ (x : GotAnswer). view_of (passed_as x a.player l)) (e ∙ old_answer game me q l.peer.entries a.frame c o n ∙ ap (λ (h : List Entry). if is_far game me h q a.frame then GA.Far else GA.Same) (sym all))
     ∙ go (is_far game me (kept_of l) q a.frame)
-    ∙ sym (sorted_old a more base (ap (is_clean game) all ∙ c) (ap (λ (h : List Entry). is_new game me h q a.frame) all ∙ n))
+    ∙ sym (sorted_first a more base false (ap (is_clean game) all ∙ c) (ap (λ (h : List Entry). is_new game me h q a.frame) all ∙ n))
     ∙ sym (ap (λ (rest : List Arrival). sorted rest base) (first_rest l a lt g))
   where
     game : Game

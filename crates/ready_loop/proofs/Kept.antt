@@ -29,7 +29,7 @@ use Rattle.ready_loop.specs.States.{LoopState, IsOfOther, kept_of, writer_of, ba
 use Rattle.ready_loop.specs.Steps.{did_by, in_phase, written_for, next_bytes, kept_next}
 use Rattle.ready_loop.specs.Going.{Goes}
 use Rattle.ready_loop.specs.Handling.{IsGot}
-use Rattle.ready_loop.proofs.Sorting.{IsOwn, more_kept, sorted_any, sorted_new, sorted_own, sorted_phase, sorted_twice}
+use Rattle.ready_loop.proofs.Sorting.{IsOwn, more_kept, sorted_any, sorted_first, sorted_own, sorted_phase, sorted_twice}
 use Rattle.ready_loop.proofs.Entries.{entry_same, kept_tells, fault_tells}
 use Rattle.ready_loop.proofs.Going.{goes_one}
 
@@ -123,7 +123,7 @@ own_goes false items after l m e w o on same = subst (λ (x : LoopState). Goes i
 got_view : (l : LoopState) (w : IsGot l) → l.handled < length l.table.waiting → view_of l ≡ with_waiting (w.arrival ∷ drop (l.handled + 1) l.table.waiting) (base_of l)
 got_view l w lt =
     ap (λ (rest : List Arrival). sorted rest (base_of l)) (drop_more l.table.waiting l.handled w.arrival lt ∙ ap (λ (a : Arrival). a ∷ drop (l.handled + 1) l.table.waiting) (get_or_from_slice_get l.table.waiting l.handled w.arrival w.arrival w.first))
-    ∙ sorted_new w.arrival (drop (l.handled + 1) l.table.waiting) (base_of l) w.clean w.new
+    ∙ sorted_first w.arrival (drop (l.handled + 1) l.table.waiting) (base_of l) true w.clean w.new
 
 got_allowed : (l : LoopState) (w : IsGot l) → IsOfOther l.peer.game l.peer.me w.arrival → allowed l.peer.game l.peer.me (kept_of l) (Got w.arrival.player w.arrival.frame) ≡ true
 unfolding allows

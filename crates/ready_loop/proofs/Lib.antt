@@ -7,6 +7,7 @@ pub mod Kept
 pub mod Made
 pub mod Heard
 pub mod Handled
+pub mod Addresses
 pub mod Idle
 pub mod ReadOnce
 pub mod Places

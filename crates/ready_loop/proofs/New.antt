@@ -2,6 +2,7 @@
 use Rattle.std.proofs.Common.{◌≡◌, ℕ, zero, suc, ◌*◌, ◌<◌, Bool, true, false, refl, sym, ap, subst, ◌∙◌, List, [], ◌∷◌, ◌++◌, arith, length}
 use Rattle.std.specs.Prelude.{◌==◌, map, if◌then◌else◌}
 use Rattle.std.proofs.lemmas.Bool.{eq-eqb}
+use Rattle.plain_lemmas.proofs.Each.{each_append, each_map}
 use Rattle.definitions.specs.Lists.{EachIs}
 use Rattle.definitions.specs.World.{Game, players_of}
 use Rattle.rosters.specs.declared.roster.Link.{Link}
@@ -20,10 +21,6 @@ use Rattle.socket_table.proofs.New.{differ_made}
 
 -- ---- the players of a roster differ
 
-each_number : (P : ℕ → Type 0) (xs ys : List ℕ) → EachIs P xs → EachIs P ys → EachIs P (xs ++ ys)
-each_number P [] ys a b = b
-each_number P (x ∷ xs) ys a b = (a.0, each_number P xs ys a.1 b)
-
 weaker : (n : ℕ) (xs : List ℕ) → EachIs (λ x. x < n) xs → EachIs (λ x. x < suc n) xs
 weaker n [] e = tt
 weaker n (x ∷ xs) e = (let lt = e.0 in omega (arith, lt), weaker n xs e.1)
@@ -37,10 +34,10 @@ one_below me q = go (q == me)
 
 below : (me n : ℕ) → EachIs (λ x. x < n) (others me n)
 below me zero = tt
-below me (suc q) = each_number (λ x. x < suc q) (others me q) (unless_me me q) (weaker q (others me q) (below me q)) (one_below me q)
+below me (suc q) = each_append (λ x. x < suc q) (others me q) (unless_me me q) (weaker q (others me q) (below me q)) (one_below me q)
 
 none_more : (n : ℕ) (xs ys : List ℕ) → HasNone (λ x. x) n xs → HasNone (λ x. x) n ys → HasNone (λ x. x) n (xs ++ ys)
-none_more n xs ys a b = each_number (λ x. x ≡ n → ⊥) xs ys a b
+none_more n xs ys a b = each_append (λ x. x ≡ n → ⊥) xs ys a b
 
 not_last : (x me q : ℕ) → x < q → HasNone (λ y. y) x (unless_me me q)
 not_last x me q lt = go (q == me)
@@ -61,13 +58,9 @@ others_differ : (me n : ℕ) → DiffersBy (λ x. x) (others me n)
 others_differ me zero = tt
 others_differ me (suc q) = differ_more me q (others me q) (below me q) (others_differ me q)
 
-none_by : (n : ℕ) (links : List Link) → HasNone (λ x. x) n (map (λ l. l.player) links) → HasNone (λ l. l.player) n links
-none_by n [] h = tt
-none_by n (l ∷ links) h = (h.0, none_by n links h.1)
-
 differ_by : (links : List Link) → DiffersBy (λ x. x) (map (λ l. l.player) links) → DiffersBy (λ l. l.player) links
 differ_by [] d = tt
-differ_by (l ∷ links) d = (none_by l.player links d.0, differ_by links d.1)
+differ_by (l ∷ links) d = ((each_map (λ x. x ≡ l.player → ⊥) (λ l. l.player) links).0 d.0, differ_by links d.1)
 
 pub links_differ : (me n : ℕ) (r : Neighbours) → LinksOthers me n r → DiffersBy (λ l. l.player) r.links
 links_differ me n r e = differ_by r.links (subst (DiffersBy (λ x. x)) (sym e) (others_differ me n))
@@ -87,11 +80,7 @@ not_me me q = go (q == me) refl
 
 all_others : (me n : ℕ) → EachIs (λ x. x ≡ me → ⊥) (others me n)
 all_others me zero = tt
-all_others me (suc q) = each_number (λ x. x ≡ me → ⊥) (others me q) (unless_me me q) (all_others me q) (not_me me q)
-
-each_link : (P : ℕ → Type 0) (links : List Link) → EachIs P (map (λ l. l.player) links) → EachIs (λ l. P l.player) links
-each_link P [] e = tt
-each_link P (l ∷ links) e = (e.0, each_link P links e.1)
+all_others me (suc q) = each_append (λ x. x ≡ me → ⊥) (others me q) (unless_me me q) (all_others me q) (not_me me q)
 
 each_both : {X : Type 0} (P Q : X → Type 0) (xs : List X) → EachIs P xs → EachIs Q xs → EachIs (λ x. P x × Q x) xs
 each_both P Q [] e f = tt
@@ -100,8 +89,8 @@ each_both P Q (x ∷ xs) e f = ((e.0, f.0), each_both P Q xs e.1 f.1)
 pub new_seats : (game : Game) (me : ℕ) (r : Neighbours) → LinksOthers me (players_of game) r → EachIs (IsOthers game me) (map (new_seat (2 * game.turns)) r.links)
 new_seats game me r e =
     seats_of game me r.links (each_both (λ l. l.player < players_of game) (λ l. l.player ≡ me → ⊥) r.links
-    (each_link (λ x. x < players_of game) r.links (subst (EachIs (λ x. x < players_of game)) (sym e) (below me (players_of game))))
-    (each_link (λ x. x ≡ me → ⊥) r.links (subst (EachIs (λ x. x ≡ me → ⊥)) (sym e) (all_others me (players_of game)))))
+    ((each_map (λ x. x < players_of game) (λ l. l.player) r.links).0 (subst (EachIs (λ x. x < players_of game)) (sym e) (below me (players_of game))))
+    ((each_map (λ x. x ≡ me → ⊥) (λ l. l.player) r.links).0 (subst (EachIs (λ x. x ≡ me → ⊥)) (sym e) (all_others me (players_of game)))))
 
 -- the parts that a new loop is put together from
 abbrev pub parts_of : PeerState → Neighbours → List Entry → Table → LoopState

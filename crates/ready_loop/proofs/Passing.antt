@@ -1,8 +1,8 @@
 -- Passing: one pass after another until a poll is licensed or the run is over.
 use Rattle.std.proofs.Common.{inl, inr, ◌≡◌, ℕ, ◌<◌, ◌≤◌, Bool, true, false, refl, sym, ap, subst, ◌∙◌, List, [], ◌∷◌, arith}
-use Rattle.std.specs.Prelude.{Option, Some, None, ◌&&◌, ◌||◌, not, is_some, slice_get}
+use Rattle.std.specs.Prelude.{Option, Some, None, ◌&&◌, not, is_some, slice_get}
 use Rattle.std.specs.List.{list_all}
-use Rattle.std.proofs.lemmas.Bool.{false≢true}
+use Rattle.std.proofs.lemmas.Bool.{false≢true, or_parts}
 use Rattle.definitions.specs.Lists.{is_empty}
 use Rattle.definitions.specs.declared.logs.Entry.{Entry}
 use Rattle.definitions.specs.declared.findings.Finding.{Finding}
@@ -145,10 +145,6 @@ empty_of : (ns : List Need) → not (is_empty ns) ≡ false → ns ≡ []
 empty_of [] e = refl
 empty_of (n ∷ ns) e = absurd (cc)
 
-or_none : (a b : Bool) → (a || b) ≡ false → (a ≡ false) × (b ≡ false)
-or_none true b e = absurd (cc)
-or_none false b e = (refl, e)
-
 -- where nobody is waited for and no move may be chosen, the log is done
 done_of : (game : Game) (me : ℕ) (h : List Entry) → 1 ≤ game.ahead → IsHonest game me h → is_clean game h ≡ true → next_made game me h ≡ None → may_choose game me h ≡ false → needs game me h ≡ [] → IsDone game me h
 done_of game me h d honest clean made chosen none =
@@ -162,7 +158,7 @@ done_of game me h d honest clean made chosen none =
 
 done_stands : (after : List Item) (e : LoopState) → MayWait after e → 1 ≤ e.peer.game.ahead → IsHonest e.peer.game e.peer.me e.peer.entries → waits_for e ≡ false → IsOver e × (is_licensed (view_of e) ≡ false)
 done_stands after e w d honest none =
-    let parts = or_none _ _ none in
+    let parts = or_parts _ _ none in
     let idle = w.serving.steady.idle in (
       record {
         whole = record { idle = idle; synced = w.serving.synced };

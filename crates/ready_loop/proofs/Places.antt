@@ -1,5 +1,5 @@
 -- Places: the lines of a table place by place.
-use Rattle.std.proofs.Common.{◌≡◌, ℕ, zero, suc, ◌<◌, Bool, true, refl, sym, ap, ◌∙◌, List, [], ◌∷◌, arith, length}
+use Rattle.std.proofs.Common.{◌≡◌, ℕ, zero, suc, Bool, true, refl, sym, ap, ◌∙◌, List, [], ◌∷◌, length}
 use Rattle.std.specs.Prelude.{Some, None, map, slice_get}
 use Rattle.std.specs.List.{list_all}
 use Rattle.std.proofs.lemmas.Bool.{and_parts, and_from}
@@ -7,6 +7,7 @@ use Rattle.socket_lines.specs.declared.line.Line.{Line}
 use Rattle.loop_rules.specs.Tables.{Table}
 use Rattle.loop_rules.specs.Told.{HasNone, Differ}
 use Rattle.socket_table.specs.Finding.{IsAt}
+use Rattle.table_laws.specs.Pairs.{Pairs}
 use Rattle.ready_loop.specs.Handling.{SameSockets}
 
 there_by : (ls ms : List Line) (k : ℕ) (x : Line) → map (λ l. l.socket) ms ≡ map (λ l. l.socket) ls → slice_get ls k ≡ Some x → (y : Line) × (slice_get ms k ≡ Some y) × (y.socket ≡ x.socket)
@@ -24,6 +25,13 @@ there t u k x e g = there_by t.lines u.lines k x e g
 
 pub at_same : (t u : Table) (k s : ℕ) → SameSockets t u → IsAt t k s → IsAt u k s
 at_same t u k s e at = let y = there t u k at.0 e at.1 in (y.0, y.1, y.2 ∙ at.2)
+
+-- lines that have the same sockets place by place
+pub sockets_same : (R : Line → Line → Type 0) → ((l m : Line) → R l m → m.socket ≡ l.socket) → (ls ms : List Line) → Pairs R ls ms → map (λ l. l.socket) ms ≡ map (λ l. l.socket) ls
+sockets_same R f [] [] a = refl
+sockets_same R f [] (m ∷ ms) a = absurd a
+sockets_same R f (l ∷ ls) [] a = absurd a
+sockets_same R f (l ∷ ls) (m ∷ ms) a = ap (λ (n : ℕ). n ∷ map (λ x. x.socket) ms) (f l m a.0) ∙ ap (λ (ns : List ℕ). l.socket ∷ ns) (sockets_same R f ls ms a.1)
 
 pub sockets_length : (ls ms : List Line) → map (λ l. l.socket) ms ≡ map (λ l. l.socket) ls → length ms ≡ length ls
 sockets_length [] [] e = refl
@@ -43,11 +51,6 @@ two_sockets (l ∷ ls) zero zero x y d g h n e = n refl
 two_sockets (l ∷ ls) zero (suc i) x y d g h n e = none_at l.socket ls i y d.0 h (sym e ∙ ap (λ (z : Line). z.socket) (let q : x ≡ l = cc in q))
 two_sockets (l ∷ ls) (suc k) zero x y d g h n e = none_at l.socket ls k x d.0 g (e ∙ ap (λ (z : Line). z.socket) (let q : y ≡ l = cc in q))
 two_sockets (l ∷ ls) (suc k) (suc i) x y d g h n e = two_sockets ls k i x y d.1 g h (λ q. n (ap (λ (j : ℕ). suc j) q)) e
-
-pub at_length : {X : Type 0} (xs : List X) (k : ℕ) (x : X) → slice_get xs k ≡ Some x → k < length xs
-at_length [] k x g = absurd (let q : None ≡ Some x = g in cc)
-at_length (y ∷ ys) zero x g = omega arith
-at_length (y ∷ ys) (suc k) x g = (let lt = at_length ys k x g in omega (arith, lt))
 
 -- what is so at each place is so of all
 pub all_places : {X : Type 0} (p : X → Bool) (xs : List X) → ((k : ℕ) (x : X) → slice_get xs k ≡ Some x → p x ≡ true) → list_all p xs ≡ true

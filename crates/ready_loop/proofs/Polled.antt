@@ -3,6 +3,7 @@ use Rattle.std.proofs.Common.{◌≡◌, ℕ, ◌+◌, Bool, true, false, refl, 
 use Rattle.std.specs.Prelude.{map}
 use Rattle.std.specs.List.{fold}
 use Rattle.std.proofs.lemmas.Bool.{and_parts}
+use Rattle.plain_lemmas.proofs.Each.{each_map}
 use Rattle.definitions.specs.Lists.{EachIs}
 use Rattle.definitions.specs.World.{Game}
 use Rattle.socket_station.specs.declared.answers.Did.TheVariants as D
@@ -17,7 +18,7 @@ use Rattle.loop_rules.specs.declared.phases.Phase.TheVariants.{PollFault}
 use Rattle.loop_rules.specs.Tables.{Table}
 use Rattle.loop_rules.specs.Licence.{all_is_shut, is_licensed}
 use Rattle.loop_rules.specs.After.{listed, rested, polled_on}
-use Rattle.loop_rules.specs.Told.{DiffersBy, HasNone, LineStands, IsTold}
+use Rattle.loop_rules.specs.Told.{DiffersBy, LineStands, IsTold}
 use Rattle.loop_rules.proofs.Told.{told_goes_on, not_in_fresh}
 use Rattle.socket_table.specs.Opening.{AreNewTo}
 use Rattle.ready_loop.specs.States.{LoopState, IsFit, IsOthers, IsOfOther, base_of, view_of}
@@ -72,13 +73,9 @@ rests_fit : (game : Game) (me : ℕ) (cs : List Seat) → EachIs (IsOthers game 
 rests_fit game me [] e = tt
 rests_fit game me (c ∷ cs) e = (record { player = e.0.player; other = e.0.other; most = e.0.most }, rests_fit game me cs e.1)
 
-rests_none : (n : ℕ) (cs : List Seat) → HasNone (λ c. c.link.player) n cs → HasNone (λ c. c.link.player) n (map rests cs)
-rests_none n [] h = tt
-rests_none n (c ∷ cs) h = (h.0, rests_none n cs h.1)
-
 rests_differ : (cs : List Seat) → DiffersBy (λ c. c.link.player) cs → DiffersBy (λ c. c.link.player) (map rests cs)
 rests_differ [] d = tt
-rests_differ (c ∷ cs) d = (rests_none c.link.player cs d.0, rests_differ cs d.1)
+rests_differ (c ∷ cs) d = ((each_map (λ (x : Seat). x.link.player ≡ c.link.player → ⊥) rests cs).1 d.0, rests_differ cs d.1)
 
 pub polled_fit : (game : Game) (me : ℕ) (t : Table) (list : List Ready) → EachIs (IsOthers game me) t.seats → EachIs (IsOthers game me) (polled_on list t).seats
 polled_fit game me t list e = subst (EachIs (IsOthers game me)) (sym (polled_seats t list)) (rests_fit game me t.seats e)

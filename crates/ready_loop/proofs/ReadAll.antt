@@ -2,6 +2,7 @@
 use Rattle.std.proofs.Common.{◌≡◌, ℕ, ◌+◌, ◌<◌, ◌≤◌, Bool, true, false, refl, sym, ap, subst, ◌∙◌, List, arith, length}
 use Rattle.std.specs.Prelude.{Some, not, ◌&&◌, ◌==◌, slice_get}
 use Rattle.std.proofs.lemmas.Bool.{and_parts, eqb-true, eqb-false, false≢true}
+use Rattle.std.proofs.lemmas.Option.{slice_get_within}
 use Rattle.definitions.specs.Findings.{is_clean}
 use Rattle.socket_station.specs.Items.{Item}
 use Rattle.socket_lines.specs.declared.line.Line.{Line}
@@ -16,7 +17,7 @@ use Rattle.ready_loop.specs.States.{LoopState}
 use Rattle.ready_loop.specs.Going.{Goes}
 use Rattle.ready_loop.specs.Handling.{SameSockets, Calm, WantsNone, IsReadyToRead, StandsRead, Reads, ReadsOut, ReadsAll}
 use Rattle.ready_loop.proofs.Going.{goes_still, goes_then}
-use Rattle.ready_loop.proofs.Places.{there, two_sockets, at_length, all_places}
+use Rattle.ready_loop.proofs.Places.{there, two_sockets, all_places}
 
 pub running_is : (p : Phase) → is_running p ≡ true → p ≡ Running
 running_is Fresh e = absurd (cc)
@@ -117,5 +118,5 @@ pub all_ends : (i : ℕ) (before items : List Item) (l m : LoopState) → Readin
 all_ends i before items l m w le = record {
   goes = w.goes;
   stands = ready_stands items l m w.ready w.sockets;
-  out = λ e. all_places (λ x. not (wants_read m.table x)) m.table.lines (λ k x g. ap not (w.out k (let lt = at_length m.table.lines k x g in omega (arith, lt, le)) x g));
+  out = λ e. all_places (λ x. not (wants_read m.table x)) m.table.lines (λ k x g. ap not (w.out k (let lt = slice_get_within m.table.lines k x g in omega (arith, lt, le)) x g));
 }

@@ -21,7 +21,7 @@ use Rattle.loop_rules.specs.Views.{View}
 use Rattle.loop_rules.specs.After as A
 use Rattle.loop_rules.specs.Told.{Differ, IsTold}
 use Rattle.loop_rules.proofs.Told.{told_goes_on}
-use Rattle.loop_rules.proofs.Alike.{Alike, alike_took, alike_at, quieted_same, closed_same}
+use Rattle.loop_rules.proofs.Alike.{Alike, alike_took, alike_at, quieted_same, closed_same, Same}
 use Rattle.socket_table.specs.Hearers.{hearer_by}
 use Rattle.table_laws.specs.Staying.{left_on, SeatsSame, more_unnamed}
 use Rattle.table_laws.proofs.Seats.{took_seats, seats_same, same_undialled}
@@ -29,6 +29,7 @@ use Rattle.table_laws.proofs.Reading.{took_calm}
 use Rattle.table_laws.proofs.Rooms.{took_left}
 use Rattle.table_laws.proofs.Pairs.{map_at}
 use Rattle.table_laws.proofs.Keys.{found_at}
+use Rattle.ready_loop.proofs.Places.{sockets_same}
 use Rattle.ready_loop.specs.States.{LoopState, base_of, view_of}
 use Rattle.ready_loop.specs.Steps.{with_table, read_on}
 use Rattle.ready_loop.specs.Going.{Goes, IsIdle, poll_count}
@@ -137,10 +138,7 @@ read_calm h s R.Ended buf t = put_calm s closed t
 read_calm h s R.Failed buf t = put_calm s closed t
 
 alike_sockets : (ls ms : List Line) → Alike ls ms → map (λ l. l.socket) ms ≡ map (λ l. l.socket) ls
-alike_sockets [] [] a = refl
-alike_sockets [] (m ∷ ms) a = absurd a
-alike_sockets (l ∷ ls) [] a = absurd a
-alike_sockets (l ∷ ls) (m ∷ ms) a = ap (λ (n : ℕ). n ∷ map (λ x. x.socket) ms) a.0.socket ∙ ap (λ (ns : List ℕ). l.socket ∷ ns) (alike_sockets ls ms a.1)
+alike_sockets ls ms a = sockets_same Same (λ l m w. w.socket) ls ms a
 
 read_sockets : (h : Hearer) (s : ℕ) (read : SocketRead) (buf : List ℕ) (t : Table) → SameSockets t (read_on h s read buf t)
 read_sockets h s (R.Took n) buf t = alike_sockets t.lines (took_on h s (take n buf) t).lines (alike_took h t s (take n buf) (line_of t s))

@@ -3,6 +3,7 @@ use Rattle.std.proofs.Common.{◌≡◌, ℕ, zero, suc, ◌+◌, ◌<◌, ◌�
 use Rattle.std.specs.Prelude.{Option, Some, None, not, ◌==◌, map, slice_get, if◌then◌else◌}
 use Rattle.std.specs.List.{count_by}
 use Rattle.std.proofs.lemmas.Bool.{eq-eqb, eqb-true, eqb-false, false≢true, and_from}
+use Rattle.std.proofs.lemmas.Option.{slice_get_within}
 use Rattle.socket_station.specs.declared.answers.Standing.TheVariants.{Open}
 use Rattle.socket_station.specs.Standings.{OpensNew, standing_in}
 use Rattle.socket_station.specs.Items.{Item, Shut}
@@ -24,7 +25,7 @@ use Rattle.ready_loop.specs.Going.{Goes, IsIdle, poll_count}
 use Rattle.ready_loop.specs.Serving.{IsServing, Serves, Shuts, ShutsAll}
 use Rattle.ready_loop.proofs.Going.{goes_one, goes_still, goes_then}
 use Rattle.ready_loop.proofs.Idle.{still_view, idle_view, serves_on}
-use Rattle.ready_loop.proofs.Places.{at_length, all_places}
+use Rattle.ready_loop.proofs.Places.{all_places}
 use Rattle.socket_table.proofs.Changed.{each_at}
 
 -- one call was made that the rules allow, and the table is this one behind it
@@ -120,7 +121,7 @@ closed_at : (s : ℕ) (t : Table) (k : ℕ) (y : Line) → slice_get (at_line s 
 closed_at s t k y h others = go (slice_get t.lines k) refl
   where
     go : (o : Option Line) → slice_get t.lines k ≡ o → asks_shut (at_line s closed t) y ≡ false
-    go None e = absurd (let long = at_length (at_line s closed t).lines k y h in none_there t.lines k e long)
+    go None e = absurd (let long = slice_get_within (at_line s closed t).lines k y h in none_there t.lines k e long)
       where
         none_there : (ls : List Line) (j : ℕ) → slice_get ls j ≡ None → j < length (map (λ l. if l.socket == s then closed l else l) ls) → ⊥
         none_there [] j n lt = omega (arith, lt)
@@ -152,5 +153,5 @@ shut_on i s before items after l m n w at g = record {
 pub shut_ends : (i : ℕ) (before items : List Item) (l m : LoopState) → ShuttingAll i before items l m → length m.table.lines ≤ i → ShutsAll before items l m
 shut_ends i before items l m w le = record {
   serves = w.serves;
-  shut = all_places (λ x. not (asks_shut m.table x)) m.table.lines (λ k x g. ap not (w.shut k (let lt = at_length m.table.lines k x g in omega (arith, lt, le)) x g));
+  shut = all_places (λ x. not (asks_shut m.table x)) m.table.lines (λ k x g. ap not (w.shut k (let lt = slice_get_within m.table.lines k x g in omega (arith, lt, le)) x g));
 }

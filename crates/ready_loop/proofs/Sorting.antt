@@ -1,6 +1,6 @@
 -- Sorting: what the frames that wait come to, where something else of a view changes.
 use Rattle.std.proofs.Common.{◌≡◌, ℕ, ◌*◌, Bool, true, false, refl, sym, ap, ◌∙◌, List, [], ◌∷◌, ◌++◌}
-use Rattle.std.specs.Prelude.{not, nat_lt, flat_map, ◌&&◌, ◌||◌, ◌==◌, if◌then◌else◌}
+use Rattle.std.specs.Prelude.{not, nat_lt, ◌&&◌, ◌||◌, ◌==◌, if◌then◌else◌}
 use Rattle.std.specs.List.{list_any}
 use Rattle.std.proofs.lemmas.Bool.{and_parts}
 use Rattle.std.proofs.lemmas.List.Folds.{list_any-append}
@@ -10,12 +10,11 @@ use Rattle.definitions.specs.declared.logs.Entry.{Entry}
 use Rattle.definitions.specs.declared.logs.Entry.TheVariants.{Chose, Made, Got}
 use Rattle.definitions.specs.declared.findings.Finding.{Finding}
 use Rattle.definitions.specs.World.{Game, players_of}
-use Rattle.definitions.specs.Logs.{made, got_in, got_of, entry_eq, player_of}
+use Rattle.definitions.specs.Logs.{made, got_of, entry_eq, player_of}
 use Rattle.definitions.specs.Held.{known, known_to, next_place, places_in}
 use Rattle.definitions.specs.Findings.{is_clean}
 use Rattle.definitions.specs.Answers.{is_beyond, is_far, is_same}
-use Rattle.definition_laws.proofs.Listing.{append_nil, flat_map_append}
-use Rattle.definition_laws.proofs.Silent.{findings_made, findings_chose}
+use Rattle.definition_laws.proofs.Silent.{findings_made, findings_chose, got_push}
 use Rattle.session_log.specs.Writing as W
 use Rattle.socket_lines.specs.Seats.{asks}
 use Rattle.loop_rules.specs.declared.arrivals.Arrival.{Arrival}
@@ -83,15 +82,10 @@ sorted_any (a ∷ more) ws v =
 
 -- ---- what was sorted is so
 
-pub sorted_new : (a : Arrival) (more : List Arrival) (v : View) → is_clean v.setting.game v.kept ≡ true → is_new_to v a ≡ true → sorted (a ∷ more) v ≡ with_waiting (a ∷ more) v
-sorted_new a more v c n =
-    ap (λ (b : Bool). if not b then with_waiting [] v else (if is_new_to v a then with_waiting (a ∷ more) v else sorted more (passed v a))) c
-    ∙ ap (λ (b : Bool). if b then with_waiting (a ∷ more) v else sorted more (passed v a)) n
-
-pub sorted_old : (a : Arrival) (more : List Arrival) (v : View) → is_clean v.setting.game v.kept ≡ true → is_new_to v a ≡ false → sorted (a ∷ more) v ≡ sorted more (passed v a)
-sorted_old a more v c n =
-    ap (λ (b : Bool). if not b then with_waiting [] v else (if is_new_to v a then with_waiting (a ∷ more) v else sorted more (passed v a))) c
-    ∙ ap (λ (b : Bool). if b then with_waiting (a ∷ more) v else sorted more (passed v a)) n
+pub sorted_first : (a : Arrival) (more : List Arrival) (v : View) (b : Bool) → is_clean v.setting.game v.kept ≡ true → is_new_to v a ≡ b → sorted (a ∷ more) v ≡ (if b then with_waiting (a ∷ more) v else sorted more (passed v a))
+sorted_first a more v b c n =
+    ap (λ (d : Bool). if not d then with_waiting [] v else (if is_new_to v a then with_waiting (a ∷ more) v else sorted more (passed v a))) c
+    ∙ ap (λ (d : Bool). if d then with_waiting (a ∷ more) v else sorted more (passed v a)) n
 
 pub sorted_unclean : (rest : List Arrival) (v : View) → is_clean v.setting.game v.kept ≡ false → sorted rest v ≡ with_waiting [] v
 sorted_unclean [] v c = refl
@@ -105,7 +99,7 @@ sorted_twice (a ∷ more) v = clean (is_clean v.setting.game v.kept) refl (sorte
     Twice w = sorted w.table.waiting w ≡ w
 
     new : (b : Bool) → is_new_to v a ≡ b → is_clean v.setting.game v.kept ≡ true → Twice (sorted more (passed v a)) → Twice (if b then with_waiting (a ∷ more) v else sorted more (passed v a))
-    new true n c ih = sorted_new a more (with_waiting (a ∷ more) v) c n
+    new true n c ih = sorted_first a more (with_waiting (a ∷ more) v) true c n
     new false n c ih = ih
 
     clean : (b : Bool) → is_clean v.setting.game v.kept ≡ b → Twice (sorted more (passed v a)) → Twice (if not b then with_waiting [] v else (if is_new_to v a then with_waiting (a ∷ more) v else sorted more (passed v a)))
@@ -148,13 +142,9 @@ clean_own game h (Chose t m n) o = ap (is_empty {X = Finding}) (findings_chose g
 clean_own game h (Made f) o = ap (is_empty {X = Finding}) (findings_made game h f)
 clean_own game h (Got q f) o = absurd o
 
-got_none : (q : ℕ) (h : List Entry) (e : Entry) → got_in q e ≡ [] → got_of q (h ++ e ∷ []) ≡ got_of q h
-unfolding got_of
-got_none q h e none = flat_map_append (got_in q) h (e ∷ []) ∙ ap (λ (fs : List TurnFrame). flat_map (got_in q) h ++ (fs ++ [])) none ∙ append_nil (flat_map (got_in q) h)
-
 got_own : (q : ℕ) (h : List Entry) (e : Entry) → IsOwn e → got_of q (h ++ e ∷ []) ≡ got_of q h
-got_own q h (Chose t m n) o = got_none q h (Chose t m n) refl
-got_own q h (Made f) o = got_none q h (Made f) refl
+got_own q h (Chose t m n) o = got_push q h (Chose t m n) refl
+got_own q h (Made f) o = got_push q h (Made f) refl
 got_own q h (Got p f) o = absurd o
 
 known_own : (game : Game) (me q : ℕ) (h : List Entry) (e : Entry) → IsOwn e → (q == me) ≡ false → known game me (h ++ e ∷ []) q ≡ known game me h q

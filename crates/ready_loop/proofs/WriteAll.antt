@@ -1,7 +1,8 @@
 -- WriteAll: sockets are written until nothing is due, or no more can be given.
-use Rattle.std.proofs.Common.{◌≡◌, ℕ, ◌+◌, ◌<◌, ◌≤◌, Bool, true, false, refl, sym, ap, subst, ◌∙◌, List, [], ◌∷◌, arith, length}
-use Rattle.std.specs.Prelude.{Some, not, ◌==◌, map, slice_get}
+use Rattle.std.proofs.Common.{◌≡◌, ℕ, ◌+◌, ◌<◌, ◌≤◌, Bool, true, false, refl, sym, ap, subst, ◌∙◌, List, arith, length}
+use Rattle.std.specs.Prelude.{Some, not, ◌==◌, slice_get}
 use Rattle.std.proofs.lemmas.Bool.{eqb-true, eqb-false}
+use Rattle.std.proofs.lemmas.Option.{slice_get_within}
 use Rattle.definitions.specs.Honest.{made_count}
 use Rattle.socket_station.specs.Items.{Item}
 use Rattle.socket_lines.specs.declared.line.Line.{Line}
@@ -9,24 +10,17 @@ use Rattle.loop_rules.specs.Tables.{Table}
 use Rattle.loop_rules.specs.Licence.{all_is_shut, is_served_out}
 use Rattle.loop_rules.specs.Told.{Differ}
 use Rattle.socket_table.specs.Finding.{IsAt}
-use Rattle.table_laws.specs.Pairs.{Pairs}
 use Rattle.table_laws.specs.Staying.{MilderLine, Milder}
 use Rattle.table_laws.proofs.Milder.{milder_shut}
 use Rattle.ready_loop.specs.States.{LoopState}
 use Rattle.ready_loop.specs.Serving.{IsServing, Serves, wants_write, ServedAt, ServedBeside, Writes, WritesOut, WritesAll}
 use Rattle.ready_loop.specs.Handling.{SameSockets}
-use Rattle.ready_loop.proofs.Places.{there, two_sockets, at_length, all_places}
+use Rattle.ready_loop.proofs.Places.{there, two_sockets, all_places, sockets_same}
 use Rattle.ready_loop.proofs.Served.{serves_still, serves_then, serving_on, lines_differ}
-
-sockets_milder : (ls ms : List Line) → Pairs MilderLine ls ms → map (λ l. l.socket) ms ≡ map (λ l. l.socket) ls
-sockets_milder [] [] a = refl
-sockets_milder [] (m ∷ ms) a = absurd a
-sockets_milder (l ∷ ls) [] a = absurd a
-sockets_milder (l ∷ ls) (m ∷ ms) a = ap (λ (n : ℕ). n ∷ map (λ x. x.socket) ms) a.0.socket ∙ ap (λ (ns : List ℕ). l.socket ∷ ns) (sockets_milder ls ms a.1)
 
 -- the sockets stand in the same order
 pub milder_sockets : (t u : Table) → Milder t u → SameSockets t u
-milder_sockets t u w = sockets_milder t.lines u.lines w.lines
+milder_sockets t u w = sockets_same MilderLine (λ l m k. k.socket) t.lines u.lines w.lines
 
 made_same : (before after : List Item) (l m : LoopState) → Serves before after l m → made_count m.peer.entries ≡ made_count l.peer.entries
 made_same before after l m w = ap (λ (x : LoopState). made_count x.peer.entries) w.same
@@ -101,5 +95,5 @@ writing_all_on i s before items after l m n w at r = record {
 pub writing_all_ends : (i : ℕ) (before items : List Item) (l m : LoopState) → WritingAll i before items l m → length m.table.lines ≤ i → WritesAll before items l m
 writing_all_ends i before items l m w le = record {
   serves = w.serves;
-  given = all_places (is_served_out (made_count m.peer.entries) m.table) m.table.lines (λ k x g. w.out k (let lt = at_length m.table.lines k x g in omega (arith, lt, le)) x g);
+  given = all_places (is_served_out (made_count m.peer.entries) m.table) m.table.lines (λ k x g. w.out k (let lt = slice_get_within m.table.lines k x g in omega (arith, lt, le)) x g);
 }

@@ -4,6 +4,7 @@ use Rattle.std.specs.Prelude.{Option, Some, None, not, ◌&&◌, ◌||◌, ◌==
 use Rattle.std.proofs.lemmas.Bool.{eq-eqb, lt-ltb, ltb-true, and_from}
 use Rattle.std.proofs.lemmas.List.{length-take-le}
 use Rattle.std.proofs.lemmas.Slice.Eq.{bytes_eq-Decides}
+use Rattle.std.proofs.lemmas.Option.{slice_get_within}
 use Rattle.definitions.specs.Lists.{is_empty}
 use Rattle.definitions.specs.declared.frames.TurnFrame.{TurnFrame}
 use Rattle.definitions.specs.declared.logs.Entry.{Entry}
@@ -40,7 +41,7 @@ use Rattle.ready_loop.specs.Steps.{with_table, wrote_on}
 use Rattle.ready_loop.specs.Going.{poll_count}
 use Rattle.ready_loop.specs.Serving.{speaker_by, own_by, IsServing, Serves, wants_write, work_by, work_with, work_at, ServedBeside, Writes}
 use Rattle.ready_loop.proofs.Idle.{all_kept, serves_on}
-use Rattle.ready_loop.proofs.Places.{at_length, place_of_all}
+use Rattle.ready_loop.proofs.Places.{place_of_all}
 use Rattle.ready_loop.proofs.Served.{call_serves, line_found, lines_differ}
 
 -- ---- what may be written
@@ -252,7 +253,7 @@ blocked_none made x u = go x.is_open
     go false = refl
 
 cursor_made : (l : LoopState) (x : Line) (f : TurnFrame) → own_by l x ≡ Some f → x.cursor < made_count l.peer.entries
-cursor_made l x f e = at_length (made l.peer.entries) x.cursor f e
+cursor_made l x f e = slice_get_within (made l.peer.entries) x.cursor f e
 
 work_less : (l : LoopState) (k s n : ℕ) (x : Line) (d : Desk) → Differ l.table.lines → WritesLine l k s x → line_of l.table s ≡ Some x → 0 < n → n ≤ length (due_at (speaker_by l) (own_by l x) (desk_of l.table x)) → desk_of l.table x ≡ Some d →
     (o : Option Line) → slice_get (wrote l s x (O.Gave n)).lines k ≡ o → work_with (made_count l.peer.entries) (wrote l s x (O.Gave n)) o < work_by (made_count l.peer.entries) (desk_of l.table x) + 1

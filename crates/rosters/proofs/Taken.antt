@@ -4,6 +4,7 @@ use Rattle.std.specs.Prelude.{IfOk, codes, ◌==◌}
 use Rattle.std.specs.Cmp.Lexicographic.{same_text}
 use Rattle.std.proofs.lemmas.Bool.{eq-eqb, eqb-true}
 use Rattle.std.proofs.lemmas.List.{append-nil, map-append}
+use Rattle.plain_lemmas.proofs.Each.{each_append}
 use Rattle.definitions.specs.Lists.{EachIs}
 use Rattle.text_lines.specs.Lines.{ended_lines_of, is_bare, joined, line_of, one_within}
 use Rattle.text_lines.specs.Reading.{line_at}
@@ -41,10 +42,6 @@ map_last {X} {Y} f (x ∷ xs) (z ∷ ys) y e =
     let head : f x ≡ z = cc in
     let found = map_last f xs ys y tail in
     (x ∷ found.0, found.1, ap (λ (t : List X). x ∷ t) found.2, ap (λ (t : List Y). f x ∷ t) found.3 ∙ ap (λ (w : Y). w ∷ ys) head, found.4)
-
-each_append : (P : Link → Type 0) (xs ys : List Link) → EachIs P xs → EachIs P ys → EachIs P (xs ++ ys)
-each_append P [] ys first second = second
-each_append P (x ∷ xs) ys first second = (first.0, each_append P xs ys first.1 second)
 
 each_front : (P : Link → Type 0) (xs ys : List Link) → EachIs P (xs ++ ys) → EachIs P xs × EachIs P ys
 each_front P [] ys each = (tt, each)

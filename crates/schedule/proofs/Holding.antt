@@ -2,6 +2,7 @@
 use Rattle.std.proofs.Common.{◌≡◌, ℕ, ◌*◌, ◌≤◌, Bool, true, false, List, [], ◌∷◌, refl, sym, ap, ◌∙◌, Option, Some, None, slice_get}
 use Rattle.std.specs.Prelude.{is_some, ◌==◌, if◌then◌else◌}
 use Rattle.std.proofs.lemmas.Bool.{false≢true, ne_eqb}
+use Rattle.plain_lemmas.proofs.Each.{each_kept}
 use Rattle.definitions.specs.declared.world.Move.{Move}
 use Rattle.definitions.specs.declared.frames.TurnFrame.{TurnFrame}
 use Rattle.definitions.specs.declared.logs.Entry.{Entry}
@@ -14,7 +15,6 @@ use Rattle.definitions.specs.Steps.{IsMadeIn, Logs, Step, has_log, log_of}
 use Rattle.definition_laws.proofs.Authentic.{accepted_is_chosen, never_named}
 use Rattle.definition_laws.proofs.Collided.{accused_named}
 use Rattle.definition_laws.proofs.Groups.{none_is_stuck}
-use Rattle.definition_laws.proofs.Listing.{EachIs_kept}
 use Rattle.schedule.specs.Steps.{logs_after}
 use Rattle.schedule.specs.Tables.{AreFair}
 use Rattle.schedule.specs.Theorem.{AcceptsWhatWasChosen, DifferentMovesConvict, HoldsOfAll, IsHonestPlayers, NamesNoHonest, NoneIsStuck}
@@ -28,7 +28,7 @@ names_no_honest game logs d a some f mine named = go (log_of logs f.player) refl
     go None e = refl
     go (Some own) e =
         let got : EachIs (λ g. EachIs (IsMadeIn own) (got_of f.player g)) some
-        = EachIs_kept (IsHonestPlayers logs) (λ g. EachIs (IsMadeIn own) (got_of f.player g)) some (λ g w. a.authentic w.0 f.player g own w.1 e) mine in
+        = each_kept (IsHonestPlayers logs) (λ g. EachIs (IsMadeIn own) (got_of f.player g)) some (λ g w. a.authentic w.0 f.player g own w.1 e) mine in
         absurd (never_named game f.player own some f d (a.honest f.player own e) got named refl)
 
 accepts_what_was_chosen : (game : Game) (logs : Logs) → 1 ≤ game.ahead → AreFair game logs → AcceptsWhatWasChosen game logs

@@ -5,6 +5,8 @@ use Rattle.std.specs.List.{count_by}
 use Rattle.std.proofs.lemmas.Bool.{false≢true, ltb-true}
 use Rattle.std.proofs.lemmas.Option.{get_or_from_slice_get}
 use Rattle.std.proofs.Math.Seq.{take-append_seam}
+use Rattle.std.proofs.lemmas.List.{length-set}
+use Rattle.plain_lemmas.proofs.Each.{each_set}
 use Rattle.definitions.specs.Lists.{EachIs}
 use Rattle.socket_lines.specs.Lines.{doomed, named_line, is_named, moved_to, unnamed_room}
 use Rattle.socket_lines.specs.Asks.{is_asked}
@@ -27,11 +29,6 @@ pub alike_set : (ls : List Line) (k : ℕ) (l m : Line) → slice_get ls k ≡ S
 alike_set [] k l m g s = tt
 alike_set (x ∷ xs) zero l m g s = (subst (λ (y : Line). Same y m) (let e : l ≡ x = cc in e) s, alike xs)
 alike_set (x ∷ xs) (suc k) l m g s = (same x, alike_set xs k l m g s)
-
-pub each_set : {X : Type 0} (P : X → Type 0) (xs : List X) (k : ℕ) (y : X) → EachIs P xs → P y → EachIs P (slice_set xs k y)
-each_set P [] k y e p = tt
-each_set P (x ∷ xs) zero y e p = (p, e.1)
-each_set P (x ∷ xs) (suc k) y e p = (e.0, each_set P xs k y e.1 p)
 
 pub each_at : {X : Type 0} (P : X → Type 0) (xs : List X) (k : ℕ) (x : X) → EachIs P xs → slice_get xs k ≡ Some x → P x
 each_at P [] k x e g = absurd (cc)
@@ -155,18 +152,13 @@ count_set (x ∷ xs) (suc k) c d g e =
     let r = count_set xs k c d g e in
     omega (arith, a, b, r)
 
-pub length_set : {X : Type 0} (xs : List X) (k : ℕ) (y : X) → length (slice_set xs k y) ≡ length xs
-length_set [] k y = refl
-length_set (x ∷ xs) zero y = refl
-length_set (x ∷ xs) (suc k) y = ap suc (length_set xs k y)
-
 -- one seat is changed at its place
 pub sound_seat : (t : Table) (a b k : ℕ) (c d : Seat) → slice_get t.seats k ≡ Some c → SameSeat c d → IsFitSeat d → IsSound t a b → IsSound (record t { seats = slice_set t.seats k d }) a b
 sound_seat t a b k c d g e f s =
     let few = s.room.few in
     let room = s.room.room in
     let n = count_set t.seats k c d g e.dialled in
-    let m = length_set t.seats k d in
+    let m = length-set t.seats k d in
     record {
       sockets = s.sockets;
       players = differ_seats t.seats k c d s.players g e.link;

@@ -63,13 +63,10 @@ naming_unspent t b q k c n g = subst (λ (d : Seat). S.is_spent d ≡ false) (le
 pub naming_player : (game : Game) (t : Table) (b : Bool) (q k : ℕ) → ArePlayers game t.seats → IsNaming t b q (Some k) → q < players_of game
 naming_player game t b q k all n = subst (λ (p : ℕ). p < players_of game) n.3 (each_at (λ c. c.link.player < players_of game) t.seats k n.1 all n.2)
 
-pub hello_names : (h : Hearer) (v u : Table) (s : ℕ) (l : Line) (id : List ℕ) (q : ℕ) (pass : List ℕ) (from : ℕ) → names h v l id q pass ≡ true → u ≡ named h v s l q from →
-    u ≡ heard_first h v s l (Hello id q pass from)
-hello_names h v u s l id q pass from e w = w ∙ sym (ap (λ (b : Bool). if b then named h v s l q from else at_line s doomed v) e)
-
-pub hello_is_wrong : (h : Hearer) (v u : Table) (s : ℕ) (l : Line) (id : List ℕ) (q : ℕ) (pass : List ℕ) (from : ℕ) → names h v l id q pass ≡ false → u ≡ at_line s doomed v →
-    u ≡ heard_first h v s l (Hello id q pass from)
-hello_is_wrong h v u s l id q pass from e w = w ∙ sym (ap (λ (b : Bool). if b then named h v s l q from else at_line s doomed v) e)
+-- what is done of a HELLO, by whether it names another player
+pub hello_heard : (h : Hearer) (v u : Table) (s : ℕ) (l : Line) (id : List ℕ) (q : ℕ) (pass : List ℕ) (from : ℕ) (b : Bool) → names h v l id q pass ≡ b →
+    u ≡ (if b then named h v s l q from else at_line s doomed v) → u ≡ heard_first h v s l (Hello id q pass from)
+hello_heard h v u s l id q pass from b e w = w ∙ sym (ap (λ (d : Bool). if d then named h v s l q from else at_line s doomed v) e)
 
 -- ---- a WANT
 

@@ -2,9 +2,11 @@
 use Rattle.std.proofs.Common.{◌≡◌, ℕ, zero, suc, ◌+◌, ◌<◌, ◌≤◌, Bool, true, false, refl, sym, ap, subst, ◌∙◌, List, [], ◌∷◌, ◌++◌, arith, length, get_or, slice_set}
 use Rattle.std.specs.Prelude.{Option, Some, None, ◌==◌, ◌&&◌, ◌||◌, cond, drop, find, map, take, slice_get, if◌then◌else◌}
 use Rattle.std.specs.List.{count_by, list_any}
-use Rattle.std.proofs.lemmas.Bool.{eqb-true, false≢true}
+use Rattle.std.proofs.lemmas.Bool.{eqb-true, false≢true, or_parts}
 use Rattle.std.proofs.lemmas.List.Sums.{count_by-le-length}
 use Rattle.std.proofs.lemmas.Option.{get_or_from_slice_get}
+use Rattle.std.proofs.lemmas.List.{length-set}
+use Rattle.plain_lemmas.proofs.Each.{each_push, each_set}
 use Rattle.definitions.specs.Lists.{EachIs}
 use Rattle.socket_lines.specs.declared.limits.TheConstants.{MOST_ACCEPTED}
 use Rattle.socket_lines.specs.declared.line.Line.{Line}
@@ -22,7 +24,7 @@ use Rattle.socket_table.specs.Sound.{IsFitLine, IsFitSeat, IsSound, is_fine, is_
 use Rattle.table_laws.proofs.Keys.{put_at}
 use Rattle.table_laws.proofs.Pairs.{count_cons}
 use Rattle.socket_table.proofs.Counting.{length_more}
-use Rattle.socket_table.proofs.Changed.{whole_written, sound_map, each_set, each_at, each_rises, rises_set, differ_seats, length_set}
+use Rattle.socket_table.proofs.Changed.{whole_written, sound_map, each_at, each_rises, rises_set, differ_seats}
 
 -- ---- all lines are changed
 
@@ -91,7 +93,7 @@ dial_changed t v a b k q x m e s at i c =
     let it : x ≡ l = i ∙ get_or_from_slice_get t.seats k l x g in
     let made : m ≡ S.dials l = c ∙ ap S.dials it in
     let more = no_fewer t.seats k (S.dials l) refl in
-    let long = length_set t.seats k (S.dials l) in
+    let long = length-set t.seats k (S.dials l) in
     let few = s.room.few in
     let room = s.room.room in (
       subst (λ (d : Seat). IsSound (record t { seats = slice_set t.seats k d }) a b) (sym made) (record {
@@ -108,16 +110,12 @@ dial_changed t v a b k q x m e s at i c =
 
 -- ---- a socket opens
 
-pub each_last : (P : Line → Type 0) (xs : List Line) (x : Line) → EachIs P xs → P x → EachIs P (xs ++ x ∷ [])
-each_last P [] x e p = (p, tt)
-each_last P (y ∷ ys) x e p = (e.0, each_last P ys x e.1 p)
-
 pub sound_open : (t : Table) (a b c s : ℕ) (wrong : Bool) (n : ℕ) (ms : List Line) → IsSound t a b → a ≤ c → IsNotIn s t.lines → length t.lines < MOST_LINES → ms ≡ t.lines ++ accepted_line s wrong ∷ [] →
     t.accepted ≤ n → n ≤ MOST_ACCEPTED → (wrong ≡ false → t.accepted + 1 ≤ n) → IsSound (record t { lines = ms; accepted = n }) c b
 sound_open t a b c s wrong n ms w cap new few e low most more = subst (λ (ls : List Line). IsSound (record t { lines = ls; accepted = n }) c b) (sym e) (record {
   sockets = differ_last t.lines l new w.sockets;
   players = w.players;
-  lines = each_last (IsFitLine t.seats) t.lines l w.lines (record { taken = omega arith; read = omega arith; sending = tt; dialled = tt });
+  lines = each_push (IsFitLine t.seats) t.lines l w.lines (record { taken = omega arith; read = omega arith; sending = tt; dialled = tt });
   seats = w.seats;
   room = record {
     accepted = most;
@@ -236,10 +234,6 @@ none_dialled q (l ∷ ls) e =
     let z = no_one l.is_open (is_player l.dialled q) (is_player l.name q) p.0 in
     omega (arith, a, r, z)
   where
-    or_parts : (a b : Bool) → (a || b) ≡ false → (a ≡ false) × (b ≡ false)
-    or_parts true b w = absurd (false≢true (sym w))
-    or_parts false b w = (refl, w)
-
     no_one : (o d n : Bool) → (o && (d || n)) ≡ false → cond (o && d) 1 0 ≤ 0
     no_one false d n w = omega arith
     no_one true false n w = omega arith
@@ -250,7 +244,7 @@ pub sound_dialled : (t v : Table) (a b c s q next : ℕ) (ms : List Line) → t 
 sound_dialled t v a b c s q next ms same w cap byte new free room e = subst (λ (ls : List Line). IsSound (record t { lines = ls }) c b) (sym e) (record {
   sockets = differ_last t.lines l (subst (λ (u : Table). IsNotIn s u.lines) (sym same) new) w.sockets;
   players = w.players;
-  lines = each_last (IsFitLine t.seats) t.lines l w.lines (record { taken = omega arith; read = omega arith; sending = tt; dialled = byte });
+  lines = each_push (IsFitLine t.seats) t.lines l w.lines (record { taken = omega arith; read = omega arith; sending = tt; dialled = byte });
   seats = w.seats;
   room = record {
     accepted = w.room.accepted;

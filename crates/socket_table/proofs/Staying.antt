@@ -2,9 +2,10 @@
 use Rattle.std.proofs.Common.{◌≡◌, ℕ, zero, suc, ◌+◌, ◌<◌, ◌≤◌, Bool, true, false, refl, sym, ap, subst, ◌∙◌, List, [], ◌∷◌, ◌++◌, arith, length, get_or}
 use Rattle.std.specs.Prelude.{Option, Some, None, ◌==◌, ◌&&◌, ◌||◌, cond, drop, filter, is_none, map, nat_lt, not, if◌then◌else◌}
 use Rattle.std.specs.List.{count_by, fold, list_all}
-use Rattle.std.proofs.lemmas.Bool.{and_parts, eq-eqb, lt-ltb, ltb-true, ltb-false, false≢true}
+use Rattle.std.proofs.lemmas.Bool.{and_parts, eq-eqb, lt-ltb, ltb-true, ltb-false, false≢true, or_parts}
 use Rattle.std.proofs.lemmas.List.{drop_more}
 use Rattle.std.proofs.lemmas.List.Sums.{length-filter, count_by-le-length}
+use Rattle.plain_lemmas.proofs.Each.{each_push}
 use Rattle.definitions.specs.Lists.{EachIs}
 use Rattle.socket_lines.specs.declared.line.Line.{Line}
 use Rattle.socket_lines.specs.declared.seat.Seat.{Seat}
@@ -16,7 +17,7 @@ use Rattle.socket_lines.specs.Seats as S
 use Rattle.socket_lines.specs.Lines.{is_player, accepted_line, woken}
 use Rattle.loop_rules.specs.Told.{IsNotIn}
 use Rattle.loop_rules.specs.After.{listed, opened_on, rested}
-use Rattle.loop_rules.proofs.Told.{kept_open, differ_open, not_in_last, or_false}
+use Rattle.loop_rules.proofs.Told.{kept_open, differ_open}
 use Rattle.loop_rules.proofs.Alike.{Alike, alike_map, not_in_alike}
 use Rattle.socket_table.specs.declared.table.TheConstants.{MOST_LINES}
 use Rattle.socket_table.specs.Opening.{AreNewTo}
@@ -172,8 +173,8 @@ new_to_open ls (Seems s ∷ list) n = new_to_open ls list n
 pub new_to_more : (s : ℕ) (wrong : Bool) (ls : List Line) (list : List Ready) → opens list s ≡ false → AreNewTo ls list → AreNewTo (ls ++ accepted_line s wrong ∷ []) list
 new_to_more s wrong ls [] o n = tt
 new_to_more s wrong ls (Opened m ∷ list) o n =
-    let p = or_false (m == s) (opens list s) o in
-    (not_in_last m ls (accepted_line s wrong) n.0 (λ e. false≢true (sym p.0 ∙ eq-eqb m s (sym e))), n.1, new_to_more s wrong ls list p.1 n.2)
+    let p = or_parts (m == s) (opens list s) o in
+    (each_push (λ l. l.socket ≡ m → ⊥) ls (accepted_line s wrong) n.0 (λ e. false≢true (sym p.0 ∙ eq-eqb m s (sym e))), n.1, new_to_more s wrong ls list p.1 n.2)
 new_to_more s wrong ls (Seems m ∷ list) o n = new_to_more s wrong ls list o n
 
 pub new_to_alike : (ls ms : List Line) (list : List Ready) → Alike ls ms → AreNewTo ls list → AreNewTo ms list

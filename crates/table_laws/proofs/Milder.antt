@@ -2,7 +2,8 @@
 use Rattle.std.proofs.Common.{◌≡◌, ℕ, ◌-◌, Bool, true, false, refl, sym, ap, ◌∙◌, List, [], ◌∷◌}
 use Rattle.std.specs.Prelude.{Option, Some, None, ◌==◌, ◌&&◌, ◌||◌, not}
 use Rattle.std.specs.List.{list_all}
-use Rattle.std.proofs.lemmas.Bool.{false≢true, and_parts, and_from, not-true}
+use Rattle.std.proofs.lemmas.Bool.{false≢true, and_parts, and_from}
+use Rattle.plain_lemmas.proofs.Tests.{not_kept}
 use Rattle.definitions.specs.declared.frames.TurnFrame.{TurnFrame}
 use Rattle.rosters.specs.declared.roster.Link.{Link}
 use Rattle.socket_lines.specs.declared.limits.TheConstants.{MOST_BYTES, HELLO_BYTES}
@@ -82,10 +83,6 @@ room_same t u w l m k = ap (room_by u m) k.name ∙ go l.name
     go None = ap (λ n. HELLO_BYTES - n) k.taken
     go (Some q) = w.rooms q
 
-not_then : (b c : Bool) → (c ≡ true → b ≡ true) → not b ≡ true → not c ≡ true
-not_then b true k e = absurd (false≢true (sym (not-true b e) ∙ k refl))
-not_then b false k e = refl
-
 reads_before : (t u : Table) → Milder t u → (l m : Line) → MilderLine l m → wants_read u m ≡ true → wants_read t l ≡ true
 reads_before t u w l m k e =
     let p = wants_parts m.is_open m.is_wrong (room_on u m == 0) m.is_quiet e in
@@ -93,7 +90,7 @@ reads_before t u w l m k e =
 
 pub milder_reads : (t u : Table) → Milder t u → list_all (λ l. not (wants_read t l)) t.lines ≡ true → list_all (λ l. not (wants_read u l)) u.lines ≡ true
 milder_reads t u w e =
-    pairs_all MilderLine (λ l. not (wants_read t l)) (λ l. not (wants_read u l)) (λ l m k. not_then (wants_read t l) (wants_read u m) (reads_before t u w l m k)) t.lines u.lines w.lines e
+    pairs_all MilderLine (λ l. not (wants_read t l)) (λ l. not (wants_read u l)) (λ l m k. not_kept (wants_read t l) (wants_read u m) (reads_before t u w l m k)) t.lines u.lines w.lines e
 
 -- an open line that is quiet stays so
 read_so : (is_open quiet : Bool) (l : Line) → (is_open ≡ true → l.is_open ≡ true) → quiet ≡ l.is_quiet → is_read l ≡ true → (not is_open || quiet) ≡ true
@@ -111,7 +108,7 @@ shut_before t u w l m k e =
 
 pub milder_shut : (t u : Table) → Milder t u → all_is_shut t ≡ true → all_is_shut u ≡ true
 milder_shut t u w e =
-    pairs_all MilderLine (λ l. not (asks_shut t l)) (λ l. not (asks_shut u l)) (λ l m k. not_then (asks_shut t l) (asks_shut u m) (shut_before t u w l m k)) t.lines u.lines w.lines e
+    pairs_all MilderLine (λ l. not (asks_shut t l)) (λ l. not (asks_shut u l)) (λ l m k. not_kept (asks_shut t l) (asks_shut u m) (shut_before t u w l m k)) t.lines u.lines w.lines e
 
 -- what wants no read and does not ask to be shut was read
 read_one : (is_open shut quiet : Bool) → not (is_open && not shut && not quiet) ≡ true → not shut ≡ true → (not is_open || quiet) ≡ true

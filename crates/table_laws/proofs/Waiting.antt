@@ -1,8 +1,9 @@
 -- Waiting: the frames of the last bytes taken are other players' own.
-use Rattle.std.proofs.Common.{◌≡◌, ℕ, ◌<◌, Bool, true, false, refl, sym, subst, ◌∙◌, List, [], ◌∷◌, ◌++◌, arith, length}
+use Rattle.std.proofs.Common.{◌≡◌, ℕ, ◌<◌, Bool, true, false, refl, sym, subst, ◌∙◌, List, [], ◌∷◌, arith, length}
 use Rattle.std.specs.Prelude.{Option, Some, None, ◌==◌, ◌&&◌, not, nat_lt, if◌then◌else◌}
 use Rattle.std.specs.List.{fold}
 use Rattle.std.proofs.lemmas.Bool.{and_from, lt-ltb, ne_eqb, not_from_false}
+use Rattle.plain_lemmas.proofs.Each.{each_push}
 use Rattle.definitions.specs.Answers.{is_of_another}
 use Rattle.definitions.specs.Lists.{EachIs}
 use Rattle.definitions.specs.Logs as L
@@ -68,10 +69,6 @@ line_stays game me s t u p n m e =
     let r = both_right (KeepsOther game me) (line_of t s) (line_of u s) m (found_both (KeepsOther game me) (λ l. l.socket) s (λ l k w. w.0) t.lines u.lines p) e in
     r.2.1 (n r.0 r.1)
 
-each_last : {X : Type 0} (P : X → Type 0) (xs : List X) (x : X) → EachIs P xs → P x → EachIs P (xs ++ x ∷ [])
-each_last P [] x e p = (p, tt)
-each_last P (y ∷ ys) x e p = (e.0, each_last P ys x e.1 p)
-
 -- ---- one frame
 
 waiting_if : (ws : List Arrival) (b : Bool) (t u : Table) → t.waiting ≡ ws → u.waiting ≡ ws → (if b then t else u).waiting ≡ ws
@@ -96,7 +93,7 @@ named_waits game me t s q (Turn f) o e = go (L.player_of f == q) refl
         let is : IsOthersFrame game me (record { player = q; frame = f })
         = and_from (nat_lt q (players_of game) && not (q == me)) (L.player_of f == q)
         (and_from (nat_lt q (players_of game)) (not (q == me)) (lt-ltb q (players_of game) o.0) (not_from_false (q == me) (ne_eqb q me o.1))) w in
-        each_last (IsOthersFrame game me) t.waiting (record { player = q; frame = f }) e is
+        each_push (IsOthersFrame game me) t.waiting (record { player = q; frame = f }) e is
     go false w = e
 named_waits game me t s q (Want place) o e = subst (EachIs (IsOthersFrame game me)) (sym (obeyed_waits t s q place (seat_of t q))) e
 

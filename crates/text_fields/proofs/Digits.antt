@@ -4,7 +4,8 @@ use Rattle.std.specs.Prelude.{Option, Some, None, Result, Ok, Err, unwrap_or, op
 use Rattle.std.specs.Result.{result_ok}
 use Rattle.std.specs.List.{list_all}
 use Rattle.std.proofs.lemmas.Bool.{agree_below_at, and_parts, and_from, eqb-true, ltb-true}
-use Rattle.hex.specs.Hex.{IsBytes, lower_digits, hex_digit_value, digit_or_error, value_at, pair_value, decode_pairs, decode_of, decode_sized, encode_with, encode_lower, ◌>>=◌}
+use Rattle.text_lines.proofs.Steps.{bind_ok}
+use Rattle.hex.specs.Hex.{IsBytes, lower_digits, hex_digit_value, digit_or_error, value_at, pair_value, decode_pairs, decode_of, decode_sized, encode_with, encode_lower}
 use Rattle.hex.specs.declared.error.FromHexError.{FromHexError}
 use Rattle.hex.proofs.HexLemmas.{decode_of-even, decode_of-ok, decode_sized-ok, decode_sized-twice}
 use Rattle.text_fields.specs.Hexes.{is_lower_digit}
@@ -39,12 +40,6 @@ digit_spelled c v lower value =
     let own : is_own c ≡ true = (and_parts (is_lower_digit c) (is_own c) (sym test ∙ lower)).1 in
     let both = and_parts (slice_index lower_digits v == c) (nat_lt v 16) (rw value at own) in
     (eqb-true (slice_index lower_digits v) c both.0, ltb-true v 16 both.1)
-
--- what is behind a `?` was there
-bind_ok : {A B : Type 0} (r : Result A FromHexError) (f : A → Result B FromHexError) (y : B) → (r >>= f) ≡ Ok y →
-    (x : A) × (r ≡ Ok x) × (f x ≡ Ok y)
-bind_ok (Ok x) f y h = (x, refl, h)
-bind_ok (Err e) f y h = absurd cc
 
 value_read : (c i : ℕ) (o : Option ℕ) (v : ℕ) → digit_or_error c i o ≡ Ok v → o ≡ Some v
 value_read c i (Some w) v h = cc

@@ -146,7 +146,7 @@ texts_are_logs game [] = tt
 texts_are_logs game (bytes ∷ texts) = (read_is_log game bytes, texts_are_logs game texts)
 
 pub audited : (game : Game) (texts : List (List ℕ)) (r : Report) → first_fault game 0 texts ≡ None → IsReportOf game (owners_of game texts) (logs_of game texts) r → Audits game texts r
-audited game texts r sound is = record { sound = sound; found = is.found; agreed = is.agreed (owned game texts); world = is.world (owned game texts) }
+audited game texts r sound is = record { sound = sound; found = is.found; agreed = is.agreed (owned game texts); world = is.world (owned game texts); beyond = is.beyond }
 
 -- an item at a place stands in the list
 item_Has : (fs : List Finding) (i : ℕ) (f : Finding) → i < length fs → f ≡ slice_index_or fs i f → Has fs f

@@ -1,5 +1,5 @@
 -- Audited: what is answered of the bytes of whole logs.
-use Rattle.std.specs.Prelude.{◌≡◌, ◌<◌, ◌+◌, ℕ, List, [], ◌∷◌, ◌++◌, Option, None, Some, Result, Ok, Err, length, map, option_map}
+use Rattle.std.specs.Prelude.{◌≡◌, ◌<◌, ◌≤◌, ◌+◌, ℕ, List, [], ◌∷◌, ◌++◌, Option, None, Some, Result, Ok, Err, length, map, option_map}
 use Rattle.std.specs.Option.{option_or}
 use Rattle.definitions.specs.declared.logs.Entry.{Entry}
 use Rattle.definitions.specs.declared.logs.LogWhy.{LogWhy}
@@ -50,9 +50,10 @@ pub record AreTaken (game : Game) (a a' : Auditor) (number : ℕ) (texts : List 
   pub stands : (owners : List (Option ℕ)) (logs : List (List Entry)) → length logs ≡ number → StandsFor game owners logs a →
       StandsFor game (owners ++ owners_of game texts) (logs ++ logs_of game texts) a'
 
--- all texts are logs, and the report tells what they show
+-- all texts are logs, and the report tells what they show, and nothing of players that the session lacks
 pub record Audits (game : Game) (texts : List (List ℕ)) (r : Report) : Type 0 where
   pub sound : first_fault game 0 texts ≡ None
   pub found : found_in r ≡ findings game (logs_of game texts)
   pub agreed : (q : ℕ) → q < players_of game → agreed_by r q ≡ agreed_count game (owners_of game texts) (logs_of game texts) q
   pub world : (q : ℕ) → q < players_of game → world_by r q ≡ world game (owners_of game texts) (logs_of game texts) q
+  pub beyond : (q : ℕ) → players_of game ≤ q → (agreed_by r q ≡ 0) × (world_by r q ≡ None)

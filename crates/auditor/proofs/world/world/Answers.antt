@@ -4,8 +4,8 @@ use Rattle.auditor.specs.Played.{line_at}
 use Rattle.auditor.proofs.Worlds.{line_is, whole_world}
 use Rattle.auditor.proofs.world.world.Goals as goal
 
-pub returns : goal.returns
-returns c = λ legal q lt.
+pub returns-clause-lines : goal.returns-clause-lines
+returns-clause-lines c = λ legal q lt.
     let lists = map (λ own. own.items) c.args.moves.now in
     let whole = sym c.are_whole.ensures ∙ c.if-not-are_whole.false in
     let played = c.in_ok-playout.ensures.lockstep (legal whole) in

@@ -1,4 +1,4 @@
-use Rattle.peer_cli.proofs.OverSockets.{peer_ran}
+use Rattle.peer_runs.proofs.OverSockets.{peer_ran}
 use Rattle.peer_cli.proofs.peering.peer_for.Goals as goal
 
 pub returns : goal.returns

@@ -1,5 +1,5 @@
 use Rattle.std.proofs.Common.{refl}
-use Rattle.peer_cli.proofs.Running.{unasked}
+use Rattle.peer_runs.proofs.Running.{unasked}
 use Rattle.peer_cli.proofs.program.obey_line.Goals as goal
 
 pub returns-in-None : goal.returns-in-None

@@ -1,4 +1,4 @@
-use Rattle.peer_cli.proofs.Running.{ran}
+use Rattle.peer_runs.proofs.Running.{ran}
 use Rattle.peer_cli.proofs.program.run_offline.Goals as goal
 
 pub returns : goal.returns

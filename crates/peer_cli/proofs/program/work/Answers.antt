@@ -1,14 +1,14 @@
 use Rattle.std.proofs.Common.{◌≡◌, true, false, Option, None, Some, refl}
 use Rattle.std.specs.Prelude.{is_some, option_map}
 use Rattle.command_line.specs.Lines.{owned}
-use Rattle.peer_cli.specs.Runs.{Works}
-use Rattle.peer_cli.specs.Words.{Command}
-use Rattle.peer_cli.specs.Outside.{Outside}
+use Rattle.peer_runs.specs.Runs.{Works}
+use Rattle.peer_runs.specs.Words.{Command}
+use Rattle.peer_runs.specs.Outside.{Outside}
 use Rattle.run_frame.specs.declared.statuses.Status.TheVariants.{NoMemory, Usage}
 use Rattle.peer_cli.proofs.Rooms.{line_room}
-use Rattle.peer_cli.proofs.Running.{unasked}
+use Rattle.peer_runs.proofs.Running.{unasked}
 use Rattle.peer_cli.proofs.Splitting.{command_by_line}
-use Rattle.peer_cli.proofs.Unremembered.{unremembered}
+use Rattle.peer_runs.proofs.Unremembered.{unremembered}
 use Rattle.peer_cli.proofs.program.work.Goals as goal
 
 -- words that are no command

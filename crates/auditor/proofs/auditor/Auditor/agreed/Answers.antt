@@ -1,4 +1,4 @@
-use Rattle.std.proofs.Common.{Global, List, Vec, [], ap, length, map, rules, sym, vec_len, ℕ, ◌++◌, ◌∙◌, ◌∷◌, ◌≡◌}
+use Rattle.std.proofs.Common.{Global, List, Vec, [], ap, arith, length, length-append, map, rules, sym, vec_len, ℕ, ◌++◌, ◌∙◌, ◌∷◌, ◌≡◌}
 use Rattle.std.proofs.lemmas.List.{map-append}
 use Rattle.definitions.specs.declared.world.Move.{Move}
 use Rattle.auditor.specs.Agreed.{agreed_moves}
@@ -12,7 +12,11 @@ loop-player-preserved c =
     let items : Vec Move Global → List Move = λ v. v.items in
     let count : Vec Move Global → ℕ = λ v. length v.items in
     let before = c.loop-player.moves.items in
+    let before_many = c.loop-player.invariant.many in
+    let pushed = ap length c.in_ok-push.ensures.items in
+    let both = length-append c.loop-player.counts.items (c.len.result ∷ []) in
     record {
+      many = omega arith;
       counts = c.in_ok-push.ensures.items ∙ (let front = c.loop-player.invariant.counts in let one = c.len.ensures ∙ len in λ i. front i ++ one i ∷ [])
           ∙ sym (map-append count before (own ∷ [])) ∙ ap (map count) (sym c.in_ok-push-2.ensures.items);
       moves = λ logs w.

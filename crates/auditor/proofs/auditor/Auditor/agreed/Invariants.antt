@@ -7,6 +7,7 @@ use Rattle.auditor.proofs.auditor.Auditor.agreed.Given as goal
 
 abbrev pub invariant-loop-player : goal.invariant-loop-player
 invariant-loop-player l = record {
+  many : length l.counts.items ≡ l.player;
   counts : l.counts.items ≡ map (λ own. length own.items) l.moves.items;
   moves : (logs : List (List Entry)) → IsReadable l.self logs → map (λ own. own.items) l.moves.items ≡ map (agreed_moves l.self.session l.self.owners logs) (range_with_len 0 l.player);
 }

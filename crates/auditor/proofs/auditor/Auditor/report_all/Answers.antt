@@ -7,7 +7,7 @@ use Rattle.auditor.specs.Agreed.{all_agreed_moves, world_by}
 use Rattle.auditor.specs.Audits.{IsAuditOf}
 use Rattle.auditor.specs.Played.{AreLegalIfWhole}
 use Rattle.auditor.specs.Reports.{IsReportOf}
-use Rattle.auditor.proofs.Worlds.{agreed_item, agreed_legal, item_length, map_lengths}
+use Rattle.auditor.proofs.Worlds.{agreed_item, agreed_legal, item_length, item_past, line_past, map_lengths}
 use Rattle.auditor.proofs.auditor.Auditor.report_all.Goals as goal
 
 pub returns : goal.returns
@@ -24,6 +24,10 @@ returns c = λ game logs w.
       world = λ owned q lt.
           let moves : map (λ own. own.items) c.deref.result.now ≡ all_agreed_moves self.session self.owners logs =
           ap (map (λ own. own.items)) c.deref.ensures.value ∙ c.in_ok-agreed.ensures.moves logs (record { audit = here; owned = owned }) in
-          c.in_ok-lines.ensures (subst (AreLegalIfWhole self.session) (sym moves) (agreed_legal self.session self.owners logs)) q lt
+          c.in_ok-lines.ensures.lines (subst (AreLegalIfWhole self.session) (sym moves) (agreed_legal self.session self.owners logs)) q lt
           ∙ ap (λ (ms : List (List Move)). world_by self.session ms q) moves;
+      beyond = λ q ge. (
+        item_past c.in_ok-agreed.agreed.counts.items q 0 (let n = c.in_ok-agreed.ensures.many in omega (arith, n, ge)),
+        line_past c.in_ok-lines.lines.items q (let n = c.in_ok-lines.ensures.few in omega (arith, n, ge)),
+      );
     })

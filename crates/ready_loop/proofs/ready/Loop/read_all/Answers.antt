@@ -1,8 +1,8 @@
-use Rattle.std.proofs.Common.{arith}
+use Rattle.std.proofs.Common.{arith, true, false}
 use Rattle.ready_loop.proofs.Places.{sockets_length}
 use Rattle.ready_loop.proofs.Served.{lines_differ}
 use Rattle.ready_loop.proofs.ReadAll.{all_first, all_on, all_stops, all_ends}
-use Rattle.ready_loop.proofs.CallsIn.{outs_true, outs_false}
+use Rattle.ready_loop.proofs.CallsIn.{outs_is}
 use Rattle.ready_loop.proofs.ready.Loop.read_all.Goals as goal
 
 pub loop-place-init : goal.loop-place-init
@@ -13,13 +13,13 @@ read_out-requires-clause-ready g c = c.loop-place.invariant.ready
 
 pub returns-then-not-read_out : goal.returns-then-not-read_out
 returns-then-not-read_out g c =
-    all_stops c.loop-place.place c.socket_at-socket.result _ _ _ c.args.self.now c.loop-place.self c.read_out.new.self c.loop-place.invariant (outs_false c.read_out.result c.loop-place.place c.socket_at-socket.result _ _ c.loop-place.self c.read_out.new.self c.if-not-read_out.true c.read_out.ensures)
+    all_stops c.loop-place.place c.socket_at-socket.result _ _ _ c.args.self.now c.loop-place.self c.read_out.new.self c.loop-place.invariant (outs_is c.read_out.result false c.loop-place.place c.socket_at-socket.result _ _ c.loop-place.self c.read_out.new.self c.if-not-read_out.true c.read_out.ensures)
 
 pub loop-place-preserved : goal.loop-place-preserved
 loop-place-preserved g c =
     all_on c.loop-place.place c.socket_at-socket.result _ _ _ c.args.self.now c.loop-place.self c.read_out.new.self c.loop-place.invariant
     (lines_differ _ c.loop-place.self c.loop-place.invariant.ready.told c.loop-place.invariant.ready.steady.idle) c.socket_at-socket.ensures
-    (outs_true c.read_out.result c.loop-place.place c.socket_at-socket.result _ _ c.loop-place.self c.read_out.new.self c.if-not-read_out.false c.read_out.ensures)
+    (outs_is c.read_out.result true c.loop-place.place c.socket_at-socket.result _ _ c.loop-place.self c.read_out.new.self c.if-not-read_out.false c.read_out.ensures)
 
 pub returns : goal.returns
 returns g c =

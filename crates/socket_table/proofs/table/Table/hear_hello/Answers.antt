@@ -1,8 +1,8 @@
-use Rattle.std.proofs.Common.{ap, sym, ◌∙◌}
+use Rattle.std.proofs.Common.{ap, sym, ◌∙◌, true, false}
 use Rattle.definitions.specs.World.{Game}
 use Rattle.peer_core.specs.declared.views.PlayerView.{PlayerView}
 use Rattle.socket_table.specs.Hearers.{hearer_by}
-use Rattle.socket_table.proofs.Heard.{naming_of, no_naming, naming_at, naming_unspent, naming_player, hello_names, hello_is_wrong}
+use Rattle.socket_table.proofs.Heard.{naming_of, no_naming, naming_at, naming_unspent, naming_player, hello_heard}
 use Rattle.socket_table.proofs.table.Table.hear_hello.Goals as goal
 
 pub player-requires : goal.player-requires
@@ -16,12 +16,12 @@ name-requires-clause-unspent c x g = naming_unspent c.args.self.now _ c.args.pla
 
 pub returns-in-None : goal.returns-in-None
 returns-in-None c l g =
-    hello_is_wrong (hearer_by c.args.peer.now) c.args.self.now c.doom.new.self c.args.socket l c.args.id.now c.args.player c.args.pass.now c.args.from
+    hello_heard (hearer_by c.args.peer.now) c.args.self.now c.doom.new.self c.args.socket l c.args.id.now c.args.player c.args.pass.now c.args.from false
     (no_naming c.args.self.now _ c.args.player c.naming_seat.result (c.naming_seat.ensures l (hearer_by c.args.peer.now) g (sym (c.id.ensures ∙ ap (λ (g : Game). g.id) c.session.ensures))) c.in-None.is)
     c.doom.ensures
 
 pub returns-in-Some : goal.returns-in-Some
 returns-in-Some c l g =
-    hello_names (hearer_by c.args.peer.now) c.args.self.now c.name.new.self c.args.socket l c.args.id.now c.args.player c.args.pass.now c.args.from
+    hello_heard (hearer_by c.args.peer.now) c.args.self.now c.name.new.self c.args.socket l c.args.id.now c.args.player c.args.pass.now c.args.from true
     (naming_of c.args.self.now _ c.args.player c.in-Some.seat c.naming_seat.result (c.naming_seat.ensures l (hearer_by c.args.peer.now) g (sym (c.id.ensures ∙ ap (λ (g : Game). g.id) c.session.ensures))) c.in-Some.is).0
     (c.name.ensures l (hearer_by c.args.peer.now) g (sym (ap (λ (v : PlayerView). v.next) c.player.ensures)))

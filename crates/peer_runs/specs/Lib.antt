@@ -1,0 +1,13 @@
+pub mod Words
+pub mod Games
+pub mod Exhibits
+pub mod Cases
+pub mod Files
+pub mod Audits
+pub mod Commands
+pub mod Causes
+pub mod Outside
+pub mod Runs
+pub mod Opening
+pub mod Seats
+pub mod Peers

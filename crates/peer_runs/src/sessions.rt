@@ -1,0 +1,42 @@
+//! The session of a file.
+
+ghost use Rattle.std.specs.Prelude.{◌≡◌, false};
+ghost use Rattle.grid_world.specs.Reading.{game_at};
+ghost use Rattle.peer_runs.specs.Files.{OpensSession};
+ghost use Rattle.peer_runs.specs.Games as G;
+ghost use Rattle.peer_runs.specs.Games.{IsDue, is_shelf_fault};
+
+use definitions::limits::SESSION_FRONT;
+use grid_world::{Session, SessionFault, read_session};
+use line_io::{FrontFault, read_front};
+use run_frame::Status;
+use station::Shelf;
+use std::alloc::Global;
+
+/// The session of a text.
+fn session_of(alloc: Global, text: &[u8]) -> Result<Session, Status>
+    ensures due { IsDue (G.ended_by (game_at text.now)) result }
+    ensures calm { is_shelf_fault result ≡ false }
+{
+    match read_session(alloc, text) {
+        Err(SessionFault::Memory) => Err(Status::NoMemory),
+        Err(SessionFault::At { line, what }) => Err(Status::BadSession { line, what }),
+        Ok(session) => Ok(session),
+    }
+}
+
+/// The session of a file.
+#[tactic(auto, unfolding(crate::specs::Games::front_of))]
+pub(crate) fn open_session<H: Shelf>(
+    alloc: Global,
+    shelf: &mut H,
+    name: &[u8],
+) -> Result<Session, Status>
+    ensures { OpensSession (H.state shelf.old) (H.state shelf.new) name.now result }
+{
+    match read_front(alloc, shelf, name, SESSION_FRONT) {
+        Err(FrontFault::NoMemory) => Err(Status::NoMemory),
+        Err(FrontFault::Failed) => Err(Status::InputFault),
+        Ok(text) => session_of(alloc, text.as_slice()),
+    }
+}
