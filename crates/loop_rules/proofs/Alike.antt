@@ -28,8 +28,15 @@ pub record Same (l m : Line) : Type 0 where
   pub dialled : m.dialled ≡ l.dialled
   pub wrong : l.is_wrong ≡ true → m.is_wrong ≡ true
 
+-- so it is where all of these stay as they are
+abbrev pub KeepsLine : Line → Line → Type 0
+KeepsLine l m = (m.socket ≡ l.socket) × (m.is_open ≡ l.is_open) × (m.dialled ≡ l.dialled) × (m.is_wrong ≡ l.is_wrong)
+
+kept_same : (l m : Line) → KeepsLine l m → Same l m
+kept_same l m k = record { socket = k.0; opened = λ e. sym k.1 ∙ e; dialled = k.2; wrong = λ e. k.3 ∙ e }
+
 pub same : (l : Line) → Same l l
-same l = record { socket = refl; opened = λ e. e; dialled = refl; wrong = λ e. e }
+same l = kept_same l l (refl, refl, refl, refl)
 
 pub same_then : (k l m : Line) → Same k l → Same l m → Same k m
 same_then k l m a b = record { socket = b.socket ∙ a.socket; opened = λ e. a.opened (b.opened e); dialled = b.dialled ∙ a.dialled; wrong = λ e. b.wrong (a.wrong e) }
@@ -91,13 +98,13 @@ pub closed_same : (l : Line) → Same l (closed l)
 closed_same l = record { socket = refl; opened = λ e. absurd (false≢true e); dialled = refl; wrong = λ e. e }
 
 pub quieted_same : (l : Line) → Same l (quieted l)
-quieted_same l = record { socket = refl; opened = λ e. e; dialled = refl; wrong = λ e. e }
+quieted_same l = kept_same l (quieted l) (refl, refl, refl, refl)
 
 pub blocked_same : (l : Line) → Same l (blocked l)
-blocked_same l = record { socket = refl; opened = λ e. e; dialled = refl; wrong = λ e. e }
+blocked_same l = kept_same l (blocked l) (refl, refl, refl, refl)
 
 pub woken_same : (l : Line) → Same l (woken l)
-woken_same l = record { socket = refl; opened = λ e. e; dialled = refl; wrong = λ e. e }
+woken_same l = kept_same l (woken l) (refl, refl, refl, refl)
 
 pub doomed_same : (l : Line) → Same l (doomed l)
 doomed_same l = record { socket = refl; opened = λ e. e; dialled = refl; wrong = λ e. refl }
@@ -106,7 +113,7 @@ pub ousted_same : (q : ℕ) (l : Line) → Same l (ousted q l)
 ousted_same q l = same_if (is_named q l) l (doomed l) (doomed_same l)
 
 pub named_same : (q from next : ℕ) (l : Line) → Same l (named_line q from next l)
-named_same q from next l = record { socket = refl; opened = λ e. e; dialled = refl; wrong = λ e. e }
+named_same q from next l = kept_same l (named_line q from next l) (refl, refl, refl, refl)
 
 pub alike_named : (h : Hearer) (t : Table) (s : ℕ) (l : Line) (q from : ℕ) → Alike t.lines (named h t s l q from).lines
 alike_named h t s l q from =
@@ -186,34 +193,36 @@ alike_took h t s bytes (Some l) =
 
 -- ---- giving
 
--- the socket stays, for whom it was dialled, and whether it is open or wrong
+-- the socket stays, for whom it was dialled, whether it is open or wrong, and its name; and so does the player's link
 abbrev pub KeepsSocket : Desk → Desk → Type 0
-KeepsSocket d e = (e.line.socket ≡ d.line.socket) × (e.line.is_open ≡ d.line.is_open) × (e.line.dialled ≡ d.line.dialled) × (e.line.is_wrong ≡ d.line.is_wrong)
+KeepsSocket d e =
+    (e.line.socket ≡ d.line.socket) × (e.line.is_open ≡ d.line.is_open) × (e.line.dialled ≡ d.line.dialled) × (e.line.is_wrong ≡ d.line.is_wrong) × (e.line.name ≡ d.line.name) ×
+    (e.seat.link ≡ d.seat.link)
 
 keeps_marked : (due : Due) (d : Desk) → KeepsSocket d (marked due d)
-keeps_marked U.Nothing d = (refl, refl, refl, refl)
-keeps_marked (U.Hello next) d = (refl, refl, refl, refl)
-keeps_marked (U.Want place) d = (refl, refl, refl, refl)
-keeps_marked (U.Own f) d = (refl, refl, refl, refl)
+keeps_marked U.Nothing d = (refl, refl, refl, refl, refl, refl)
+keeps_marked (U.Hello next) d = (refl, refl, refl, refl, refl, refl)
+keeps_marked (U.Want place) d = (refl, refl, refl, refl, refl, refl)
+keeps_marked (U.Own f) d = (refl, refl, refl, refl, refl, refl)
 
 keeps_desk_if : (b : Bool) (d e f : Desk) → KeepsSocket d e → KeepsSocket d f → KeepsSocket d (if b then e else f)
 keeps_desk_if true d e f x y = x
 keeps_desk_if false d e f x y = y
 
 keeps_ended : (o : Option ℕ) (d : Desk) → KeepsSocket d (ended_with o d)
-keeps_ended None d = (refl, refl, refl, refl)
-keeps_ended (Some place) d = (refl, refl, refl, refl)
+keeps_ended None d = (refl, refl, refl, refl, refl, refl)
+keeps_ended (Some place) d = (refl, refl, refl, refl, refl, refl)
 
 keeps_left : (left : List ℕ) (d : Desk) → KeepsSocket d (left_with left d)
 keeps_left left d =
     let e = record d { line = record d.line { unsent = left } } in
-    keeps_desk_if (is_empty left) d (ended_with d.line.sending e) e (keeps_ended d.line.sending e) (refl, refl, refl, refl)
+    keeps_desk_if (is_empty left) d (ended_with d.line.sending e) e (keeps_ended d.line.sending e) (refl, refl, refl, refl, refl, refl)
 
 pub keeps_gave : (s : Speaker) (own : Option TurnFrame) (count : ℕ) (d : Desk) → KeepsSocket d (gave_on s own count d)
 keeps_gave s own count d =
-    let b = keeps_desk_if (is_empty d.line.unsent) d (marked (due_on own d) d) d (keeps_marked (due_on own d) d) (refl, refl, refl, refl) in
+    let b = keeps_desk_if (is_empty d.line.unsent) d (marked (due_on own d) d) d (keeps_marked (due_on own d) d) (refl, refl, refl, refl, refl, refl) in
     let l = keeps_left (drop count (due_bytes s own d)) (begun own d) in
-    (l.0 ∙ b.0, l.1 ∙ b.1, l.2 ∙ b.2, l.3 ∙ b.3)
+    (l.0 ∙ b.0, l.1 ∙ b.1, l.2 ∙ b.2, l.3 ∙ b.3, l.4 ∙ b.4, l.5 ∙ b.5)
 
 -- nothing is put where the socket isn't
 pub none_put : (s : ℕ) (f : Line → Line) (ls : List Line) → IsNotIn s ls → in_lines s f ls ≡ ls
@@ -233,9 +242,6 @@ found_socket s (m ∷ ls) l e = go (m.socket == s) refl e (found_socket s ls l)
     go true q r more = (let x : m ≡ l = cc in ap (λ (k : Line). k.socket) (sym x)) ∙ eqb-true m.socket s q
     go false q r more = more r
 
-abbrev pub KeepsLine : Line → Line → Type 0
-KeepsLine l m = (m.socket ≡ l.socket) × (m.is_open ≡ l.is_open) × (m.dialled ≡ l.dialled) × (m.is_wrong ≡ l.is_wrong)
-
 -- a line is put in place of the one of its socket
 pub alike_put : (s : ℕ) (m l : Line) (ls : List Line) → Differ ls → find (λ k. k.socket == s) ls ≡ Some l → KeepsLine l m → Alike ls (in_lines m.socket (λ _. m) ls)
 alike_put s m l [] d e w = absurd (cc)
@@ -243,12 +249,7 @@ alike_put s m l (k ∷ ls) d e kept = go (k.socket == s) refl e (λ x. alike_put
   where
     -- the first one is it, and no other is
     first : (b : Bool) → (k.socket == m.socket) ≡ b → k ≡ l → Same k (if b then m else k)
-    first true w x = record {
-      socket = kept.0 ∙ ap (λ (y : Line). y.socket) (sym x);
-      opened = λ z. ap (λ (y : Line). y.is_open) x ∙ sym kept.1 ∙ z;
-      dialled = kept.2 ∙ ap (λ (y : Line). y.dialled) (sym x);
-      wrong = λ z. kept.3 ∙ ap (λ (y : Line). y.is_wrong) (sym x) ∙ z;
-    }
+    first true w x = kept_same k m (subst (λ (y : Line). KeepsLine y m) (sym x) kept)
     first false w x = same k
 
     tail : (ms : List Line) → IsNotIn k.socket ms → k ≡ l → Alike ms (in_lines m.socket (λ _. m) ms)
@@ -270,7 +271,7 @@ alike_desk : (k : Speaker) (own : Option TurnFrame) (count : ℕ) (t : Table) (s
 alike_desk k own count t s l None d e = alike t.lines
 alike_desk k own count t s l (Some c) d e =
     let w = keeps_gave k own count (record { line = l; seat = c }) in
-    alike_put s (gave_on k own count (record { line = l; seat = c })).line l t.lines d e w
+    alike_put s (gave_on k own count (record { line = l; seat = c })).line l t.lines d e (w.0, w.1, w.2, w.3)
 
 pub alike_gave : (k : Speaker) (safe : List TurnFrame) (count : ℕ) (t : Table) (s : ℕ) (o : Option Line) → Differ t.lines → line_of t s ≡ o → Alike t.lines (gave_by k safe count t o).lines
 alike_gave k safe count t s None d e = alike t.lines

@@ -44,31 +44,19 @@ ended_is_still PollFault e = refl
 
 not_running : (p : Phase) → is_still p ≡ true → is_running p ≡ true → ⊥
 not_running Fresh e r = cc
-not_running Logged e r = cc
-not_running Running e r = cc
-not_running KeepFault e r = cc
-not_running PollFault e r = cc
+not_running p e r = cc
 
 not_logged : (p : Phase) → is_still p ≡ true → is_logged p ≡ true → ⊥
 not_logged Fresh e r = cc
-not_logged Logged e r = cc
-not_logged Running e r = cc
-not_logged KeepFault e r = cc
-not_logged PollFault e r = cc
+not_logged p e r = cc
 
 not_fresh : (p : Phase) → is_ended p ≡ true → is_fresh p ≡ true → ⊥
 not_fresh Fresh e r = cc
-not_fresh Logged e r = cc
-not_fresh Running e r = cc
-not_fresh KeepFault e r = cc
-not_fresh PollFault e r = cc
+not_fresh p e r = cc
 
 not_keeping : (p : Phase) (v : View) (entry : Entry) → is_still p ≡ true → may_keep_in p v entry ≡ true → ⊥
 not_keeping Fresh v entry e r = cc
-not_keeping Logged v entry e r = cc
-not_keeping Running v entry e r = cc
-not_keeping KeepFault v entry e r = cc
-not_keeping PollFault v entry e r = cc
+not_keeping p v entry e r = cc
 
 no_keep : (v : View) (bytes : List ℕ) (o : Option Entry) → is_still v.phase ≡ true → may_keep_as v bytes o ≡ true → ⊥
 no_keep v bytes None e h = cc

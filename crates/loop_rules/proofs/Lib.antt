@@ -6,6 +6,8 @@ pub mod Kept
 pub mod Fair
 mod Runs
 mod Computed
+mod Named
+mod Heard
 mod Received
 mod Revealed
 pub mod Alike

@@ -7,6 +7,7 @@ use Rattle.definitions.specs.declared.openings.Nonce.{Nonce}
 use Rattle.definitions.specs.declared.openings.Digest.{Digest}
 use Rattle.definitions.specs.declared.logs.Entry.{Entry}
 use Rattle.definitions.specs.declared.logs.Entry.TheVariants.{Made, Got}
+use Rattle.definitions.specs.Logs.{player_of}
 use Rattle.definitions.specs.World.{players_of}
 use Rattle.definitions.specs.Held.{held}
 use Rattle.definitions.specs.Meets.{meets}
@@ -24,10 +25,12 @@ use Rattle.socket_station.specs.Moved.{kept_in}
 use Rattle.socket_station.specs.Standings.{OpensNew}
 use Rattle.session_log.specs.Spelling.{log_bytes}
 use Rattle.loop_rules.specs.declared.phases.Phase.TheVariants.{Running}
+use Rattle.rosters.specs.declared.roster.Link.{Link}
+use Rattle.rosters.specs.Rosters.{Neighbours}
 use Rattle.loop_rules.specs.Settings.{Setting}
 use Rattle.socket_lines.specs.declared.line.Line.{Line}
 use Rattle.loop_rules.specs.Tables.{line_of}
-use Rattle.loop_rules.specs.Views.{View, start, safe_frames}
+use Rattle.loop_rules.specs.Views.{View, safe_frames}
 use Rattle.loop_rules.specs.After.{after, view_of}
 use Rattle.loop_rules.specs.Licence.{IsLicensed}
 use Rattle.loop_rules.specs.Rules.{IsAllowed, due_of, is_front}
@@ -115,24 +118,55 @@ RevealsKeptStandBehind = (s : Setting) (items : List Item) (g rest : List Entry)
     q < players_of s.game → (q ≡ s.me → ⊥) → IsTrue (meets s.game s.me g q t) →
     (d : Digest) × (held s.game s.me g q t ≡ Some d) × Has g (Got q (F.Commit q t d))
 
--- the item took the bytes that made the frame whole
-abbrev pub ComesBy : View → Item → TurnFrame → Type 0
-ComesBy v (Took socket bytes) f = (l : Line) × (line_of v.table socket ≡ Some l) × Has (given_of l.reader bytes).frames (Turn f)
-ComesBy v _ f = ⊥
+-- the item took, on this socket, the bytes that made these frames whole
+abbrev pub Brings : View → Item → (socket : ℕ) → List Frame → Type 0
+Brings v (Took n bytes) socket frames = (n ≡ socket) × ((l : Line) × (line_of v.table n ≡ Some l) × ((given_of l.reader bytes).frames ≡ frames))
+Brings v _ socket frames = ⊥
 
--- one of these items, behind the view and those before it, did
-abbrev pub CameIn : View → List Item → TurnFrame → Type 0
-CameIn v [] f = ⊥
-CameIn v (item ∷ items) f = ComesBy v item f ⊎ CameIn (after v item) items f
+-- the pass is the one that the roster wants of the player
+abbrev pub IsWanted : Neighbours → (q : ℕ) → (pass : List ℕ) → Type 0
+IsWanted roster q pass = (link : Link) × Has roster.links link × (link.player ≡ q) × (pass ≡ link.wants)
 
--- a frame that is logged as received stands in the entries taken over, or bytes were taken before that made it whole
+-- one of the frames is a HELLO of the session and this player, with the pass wanted of it
+pub record HasHello (s : Setting) (q : ℕ) (frames : List Frame) : Type 0 where
+  pub pass : List ℕ
+  pub next : ℕ
+  pub wanted : IsWanted s.roster q pass
+  pub stands : Has frames (Hello s.game.id q pass next)
+
+-- one of the items took the bytes that made such a HELLO whole on the socket
+pub record IsGreeted (s : Setting) (items : List Item) (socket q : ℕ) : Type 0 where
+  pub before : List Item
+  pub item : Item
+  pub more : List Item
+  pub stands : items ≡ before ++ item ∷ more
+  pub frames : List Frame
+  pub brought : Brings (view_of s before) item socket frames
+  pub hello : HasHello s q frames
+
+-- One of the items took the bytes that made the frame whole, on a socket on which such a HELLO of the frame's player had come: by an item before
+-- it, or as a frame before it.
+pub record IsBrought (s : Setting) (items : List Item) (f : TurnFrame) : Type 0 where
+  pub before : List Item
+  pub item : Item
+  pub more : List Item
+  pub stands : items ≡ before ++ item ∷ more
+  pub socket : ℕ
+  pub front : List Frame
+  pub back : List Frame
+  pub brought : Brings (view_of s before) item socket (front ++ Turn f ∷ back)
+  pub greeted : IsGreeted s before socket (player_of f) ⊎ HasHello s (player_of f) front
+
+-- a frame that is logged as received stands in the entries taken over, or bytes were taken before that made it whole, on a socket that its player's
+-- pass had named
 abbrev pub ReceiptsStandBehind : Type 0
 ReceiptsStandBehind = (s : Setting) (items : List Item) (q : ℕ) (f : TurnFrame) → IsHistory s items → Has (view_of s items).kept (Got q f) →
-    Has s.over (Got q f) ⊎ CameIn (start s) items f
+    Has s.over (Got q f) ⊎ IsBrought s items f
 
--- the commitment was received: it stands in the entries taken over, or these items took the bytes that made it whole
+-- the commitment was received: it stands in the entries taken over, or these items took the bytes that made it whole, on a socket that its player's
+-- pass had named
 abbrev pub IsReceivedIn : Setting → List Item → (q t : ℕ) → Digest → Type 0
-IsReceivedIn s items q t d = Has s.over (Got q (F.Commit q t d)) ⊎ CameIn (start s) items (F.Commit q t d)
+IsReceivedIn s items q t d = Has s.over (Got q (F.Commit q t d)) ⊎ IsBrought s items (F.Commit q t d)
 
 -- An own reveal that may be given stands in the log kept, behind these entries, and for each other player whose sphere met the own one by them
 -- the commitment held is one that was received before.

@@ -62,13 +62,15 @@ pub fn logs_are_runs()
     ensures { LogsAreRuns }
 {}
 
-/// A frame that the log has as received stands in the entries taken over, or bytes were taken earlier that made it whole.
+/// A frame that the log has as received stands in the entries taken over, or bytes were taken earlier that made it whole, on a socket on which a
+/// HELLO of its player had come before, with the pass that the roster wants of it: nobody else's frame is logged as that player's.
 pub fn receipts_stand_behind()
     ensures { ReceiptsStandBehind }
 {}
 
 /// An own reveal that may be given, of which alone bytes are given, stands behind the receipt of a commitment to its turn from each other
-/// player whose sphere met the own one: that commitment was taken over, or bytes were taken earlier that made it whole.
+/// player whose sphere met the own one: that commitment was taken over, or bytes were taken earlier that made it whole, on a socket that this
+/// player's pass had named.
 pub fn reveals_given_are_fair()
     ensures { RevealsGivenAreFair }
 {}
