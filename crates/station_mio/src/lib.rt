@@ -3,7 +3,7 @@
 //! This is the trusted edge. Each call is noted as it is answered, no socket number is used twice, and what is said to be taken or
 //! given stood in the buffer; that the bytes are those of the wire and of the disk, the machine alone can say, so these lines are to
 //! be read. `log_file` creates one file and appends to it, `sockets` listens at one address, dials, reads and writes, and `station`
-//! puts both together and notes. A poll waits at most a tenth of a second, and an address is dialled at most ten times a second for
+//! puts both together and notes. `streams` has the calls on one stream. A poll waits at most a tenth of a second, and an address is dialled at most ten times a second for
 //! each player, so a station whose neighbours are silent, or not there, burns no processor.
 #![tactic(auto)]
 
@@ -12,6 +12,7 @@ mod pace;
 mod rows;
 mod sockets;
 pub mod station;
+mod streams;
 #[cfg(test)]
 mod tests;
 

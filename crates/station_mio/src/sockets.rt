@@ -2,15 +2,12 @@
 
 ghost use Rattle.std.specs.Prelude.{◌≡◌, ◌<◌, ◌==◌, ◌+◌, ◌-◌, ◌^◌, ◌++◌, ◌∷◌, [], ℕ, length, IfOk, IfSome, IfNone, IsTrue};
 ghost use Rattle.std.specs.List.{position};
-ghost use Rattle.std.specs.Net.Addr.{ipv4_octets};
-ghost use Rattle.std.specs.Net.Socket.{socket_ip, socket_port};
-ghost use Rattle.std.specs.declared.net.ip_addr.IpAddr.TheVariants as Ip;
-ghost use Rattle.std.specs.declared.net.ipv4_addr.Ipv4Addr.{Ipv4Addr as V4Addr};
 ghost use Rattle.socket_station.specs.Withins.{TakesWithin, GivesWithin};
 ghost use Rattle.station_mio.specs.Numbers.{OpensBetween, DialsBetween};
 
 use crate::pace::{LINGER, PATIENCE, PAUSE, Turns, behind, now};
 use crate::rows::{Row, Wire, place_of, remove};
+use crate::streams::{enroll, read_stream, socket_addr, write_stream};
 use definitions::PlayerId;
 use mio::event::Event;
 use mio::net::{TcpListener, TcpStream};
@@ -18,9 +15,9 @@ use mio::{Events, Interest, Poll, Token};
 use socket_station::ready_list::MOST_READY;
 use socket_station::{Addr, Dial, Did, Ready, ReadyList, SocketId, SocketRead, SocketWrite};
 use std::alloc::{AllocError, Global};
-use std::io::{self, ErrorKind, Read, Write};
+use std::io::{self, ErrorKind};
 use std::mem;
-use std::net::{Ipv4Addr, Net, Shutdown, SocketAddr};
+use std::net::{Net, Shutdown};
 use std::time::{Clock, Duration};
 
 /// How many sockets may be open at once: a loop has at most 256 that were accepted, one dialled for each player, and those of one list.
@@ -61,15 +58,6 @@ pub(crate) struct Sockets<R> {
     pub(crate) next: SocketId,
 }
 
-/// The machine's form of an address.
-fn socket_addr(addr: Addr) -> SocketAddr
-    ensures ip { (ip : V4Addr) × (socket_ip result ≡ Ip.V4 ip) × (ipv4_octets ip ≡ addr.ip) }
-    ensures port { socket_port result ≡ addr.port }
-{
-    let [a, b, c, d] = addr.ip;
-    SocketAddr::from((Ipv4Addr::new(a, b, c, d), addr.port))
-}
-
 /// The object that readiness is asked of. The first call makes it.
 fn selector<'a, R: Net>(machine: &R, poll: &'a mut Option<Poll>) -> io::Result<&'a mut Poll> {
     if poll.is_none() {
@@ -78,38 +66,6 @@ fn selector<'a, R: Net>(machine: &R, poll: &'a mut Option<Poll>) -> io::Result<&
     match poll {
         Some(poll) => Ok(poll),
         None => Err(io::Error::from(ErrorKind::Other)),
-    }
-}
-
-/// Small frames are sent at once, and changes of the socket are told by its number.
-fn enroll(poll: &Poll, mut stream: TcpStream, number: SocketId) -> io::Result<TcpStream> {
-    stream.set_nodelay(true)?;
-    let token = Token(number as usize);
-    poll.registry().register(&mut stream, token, Interest::READABLE | Interest::WRITABLE)?;
-    Ok(stream)
-}
-
-/// Takes what came.
-fn read_stream(stream: &mut TcpStream, buf: &mut [u8]) -> SocketRead
-    ensures { TakesWithin result buf.new }
-{
-    match stream.read(buf) {
-        Ok(0) => SocketRead::Ended,
-        Ok(count) => SocketRead::Took(count),
-        Err(error) if error.kind() == ErrorKind::WouldBlock => SocketRead::NotYet,
-        Err(_) => SocketRead::Failed,
-    }
-}
-
-/// Gives the first of these bytes.
-fn write_stream(stream: &mut TcpStream, bytes: &[u8]) -> SocketWrite
-    ensures { GivesWithin result bytes.now }
-{
-    match stream.write(bytes) {
-        Ok(0) => SocketWrite::Failed,
-        Ok(count) => SocketWrite::Gave(count),
-        Err(error) if error.kind() == ErrorKind::WouldBlock => SocketWrite::NotYet,
-        Err(_) => SocketWrite::Failed,
     }
 }
 
