@@ -25,12 +25,12 @@ use Rattle.audit_command.specs.Words.{Auditing}
 use Rattle.peer_runs.specs.declared.audits.Audited.{Audited}
 use Rattle.peer_runs.specs.Audits.{IsAuditDue, IsAuditFor, IsSoundBefore, IsTakenFor, OpensAudit, TakesAll, audit_by, audit_for}
 use Rattle.peer_runs.specs.Commands.{ReadsFor}
-use Rattle.peer_runs.specs.Files.{OpensSession}
-use Rattle.peer_runs.specs.Games.{IsDue, is_shelf_fault}
+use Rattle.session_files.specs.Files.{OpensSession}
+use Rattle.session_files.specs.Games.{IsDue, is_shelf_fault}
 use Rattle.peer_runs.specs.Words.{Audit}
 use Rattle.peer_runs.proofs.Alone.{IsRefused}
 use Rattle.peer_runs.proofs.AuditMeant.{logs_owned}
-use Rattle.peer_runs.proofs.Shelves.{game_due}
+use Rattle.session_files.proofs.Shelves.{game_due}
 
 -- The logs were taken from their files, or not.
 module _ (game : Game) (b c : ShelfState) (names : List (List ℕ)) (a a' : Auditor) where

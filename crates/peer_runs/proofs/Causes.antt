@@ -45,7 +45,7 @@ use Rattle.peer_runs.specs.Exhibits.{case_for, evidence_front_of, exhibit_by, ex
 use Rattle.peer_runs.specs.Causes.{AreAudited, HasCause, IsCase, IsGood, IsMeant, IsSeated, IsSet}
 use Rattle.peer_runs.specs.Commands.{answer_of, begins_with}
 use Rattle.line_io.specs.Files.{Contents, content}
-use Rattle.peer_runs.specs.Games.{begun, empty_beginning, ended_by, front_of, log_front_of, old_beginning, session_in, with_old, with_player}
+use Rattle.session_files.specs.Games.{begun, empty_beginning, ended_by, front_of, log_front_of, old_beginning, session_in, with_old, with_player}
 use Rattle.peer_runs.specs.Outside.{CountsFaults, OneFailed, Outside}
 use Rattle.peer_runs.specs.Words.{Audit, Command, Drive, Judge, Make, Schedule, Upgrade}
 use Rattle.peer_runs.proofs.AuditMeant.{two_faces}

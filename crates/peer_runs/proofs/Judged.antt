@@ -16,11 +16,12 @@ use Rattle.judge_command.specs.Words.{Judging}
 use Rattle.peer_runs.specs.Commands.{ReadsFor}
 use Rattle.peer_runs.specs.Exhibits.{IsCaseDue, IsExhibitDue, exhibit_in, with_exhibit}
 use Rattle.line_io.specs.Files.{content}
-use Rattle.peer_runs.specs.Files.{OpensCase, OpensExhibit, OpensSession}
-use Rattle.peer_runs.specs.Games.{IsDue, is_shelf_fault}
+use Rattle.session_files.specs.Files.{OpensSession}
+use Rattle.peer_runs.specs.Files.{OpensCase, OpensExhibit}
+use Rattle.session_files.specs.Games.{IsDue, is_shelf_fault}
 use Rattle.peer_runs.specs.Words.{Judge}
 use Rattle.peer_runs.proofs.Alone.{IsRefused}
-use Rattle.peer_runs.proofs.Shelves.{game_due}
+use Rattle.session_files.proofs.Shelves.{game_due}
 
 -- no session is due
 none_due : (due : Result Game Status) (exhibit : Result Exhibit Status) (status : Status) → IsDue due (Err status) → IsCaseDue (with_exhibit due exhibit) (Err status)

@@ -2,7 +2,6 @@ pub mod AuditMeant
 pub mod Causes
 pub mod Begun
 pub mod Begins
-pub mod Shelves
 pub mod Running
 pub mod Counts
 pub mod Alone

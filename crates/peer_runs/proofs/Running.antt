@@ -26,8 +26,8 @@ use Rattle.drive_command.specs.Words.{Driving}
 use Rattle.peer_runs.specs.Causes.{HasCause}
 use Rattle.peer_runs.specs.Commands.{ReadsFor, ReadsThrough, answer_of, begins_with, names_of, takes_first, takes_late}
 use Rattle.line_io.specs.Files.{AreContents, AreReadings, Calls, Contents, content}
-use Rattle.peer_runs.specs.Files.{OpensPeer, log_names}
-use Rattle.peer_runs.specs.Games.{IsStartFor}
+use Rattle.session_files.specs.Files.{OpensPeer, log_names}
+use Rattle.session_files.specs.Games.{IsStartFor}
 use Rattle.peer_runs.specs.Outside.{CountsFaults, Outside}
 use Rattle.peer_runs.specs.Runs.{MayBe, Run, Runs, Works, Writes, read_by}
 use Rattle.peer_runs.specs.Words.{Audit, Command, Drive, Judge, Make, Schedule, Upgrade}

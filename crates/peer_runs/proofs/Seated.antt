@@ -20,8 +20,8 @@ use Rattle.old_log.specs.Old.{Fault, old_fault}
 use Rattle.drive_command.specs.Begin.{Beginning}
 use Rattle.peer_command.specs.Words.{Peering}
 use Rattle.peer_runs.specs.declared.seats.Seat.{Seat}
-use Rattle.peer_runs.specs.Files.{BeginsPeer, OpensSession, log_names}
-use Rattle.peer_runs.specs.Games.{IsDue, IsStartFor, begun, is_shelf_fault, log_front_of, old_beginning, session_in, with_old, with_player}
+use Rattle.session_files.specs.Files.{BeginsPeer, OpensSession, log_names}
+use Rattle.session_files.specs.Games.{IsDue, IsStartFor, begun, is_shelf_fault, log_front_of, old_beginning, session_in, with_old, with_player}
 use Rattle.peer_runs.specs.Opening.{IsDueFor, IsRefusedBy, Opens, Reads}
 use Rattle.peer_runs.specs.Seats.{IsSeatDue, IsSeated, MayReadLog, MayReadMoves, MayReadRoster, OpensSeat, ReadsBehindRoster, ReadsBehindSession, Start, behind_roster, behind_session, moves_front_of, moves_in, roster_front_of, roster_in, start_by_moves, start_by_player, start_by_roster, start_by_session, start_for, start_of}
 use Rattle.peer_runs.proofs.Opening.{reads_first, reads_none, reads_then}

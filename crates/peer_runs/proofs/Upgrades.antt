@@ -10,8 +10,8 @@ use Rattle.run_frame.specs.declared.statuses.Status.TheVariants.{BadSession, Inp
 use Rattle.upgrade_command.specs.Upgrade.{upgrade_answer}
 use Rattle.peer_runs.specs.Commands.{ReadsFor}
 use Rattle.line_io.specs.Files.{Calls, ReadsFiles}
-use Rattle.peer_runs.specs.Files.{OpensSession}
-use Rattle.peer_runs.specs.Games.{IsDue}
+use Rattle.session_files.specs.Files.{OpensSession}
+use Rattle.session_files.specs.Games.{IsDue}
 use Rattle.peer_runs.specs.Words.{Upgrade}
 use Rattle.peer_runs.proofs.Alone.{IsRefused}
 

@@ -16,7 +16,7 @@ use Rattle.run_frame.specs.declared.statuses.Status.{Status}
 use Rattle.run_frame.specs.declared.statuses.Status.TheVariants.{NoMemory, InputFault, BadLog, BadSession}
 use Rattle.audit_command.specs.Audit.{audit_answer}
 use Rattle.peer_runs.specs.declared.audits.Audited.{Audited}
-use Rattle.peer_runs.specs.Games.{front_of, is_shelf_fault, session_in}
+use Rattle.session_files.specs.Games.{front_of, is_shelf_fault, session_in}
 
 -- the answer to the command for so many logs, of which the first that is none has this fault
 abbrev pub audit_by : Option LogFault → Game → (files : Contents) → (many : ℕ) → Answer

@@ -29,7 +29,7 @@ use Rattle.peer_runs.specs.Commands.{answer_of}
 use Rattle.peer_runs.specs.Exhibits.{evidence_front_of}
 use Rattle.line_io.specs.Files.{Contents, content}
 use Rattle.peer_runs.specs.Files.{HasGame}
-use Rattle.peer_runs.specs.Games.{begun, front_of, log_front_of}
+use Rattle.session_files.specs.Games.{begun, front_of, log_front_of}
 use Rattle.peer_runs.specs.Words.{Audit, Command, Drive, Judge, Make, Schedule, Upgrade}
 
 -- The session's file has this session, and the player is one of it.

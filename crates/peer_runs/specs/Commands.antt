@@ -10,7 +10,8 @@ use Rattle.drive_command.specs.Begin.{Beginning, NeedsNoInput, drive_answer}
 use Rattle.drive_command.specs.Words.{Driving}
 use Rattle.upgrade_command.specs.Upgrade.{upgrade_answer}
 use Rattle.line_io.specs.Files.{Calls, Contents, ReadsFiles, content}
-use Rattle.peer_runs.specs.Files.{IsLogDue, IsSecondDue, log_names}
+use Rattle.session_files.specs.Files.{IsLogDue, log_names}
+use Rattle.peer_runs.specs.Files.{IsSecondDue}
 use Rattle.judge_command.specs.Judge.{judge_answer}
 use Rattle.log_files.specs.Several.{behind_first}
 use Rattle.schedule_command.specs.Causes.{answer_in}
@@ -19,7 +20,7 @@ use Rattle.schedule_command.specs.Played.{OnEnd}
 use Rattle.make_command.specs.Make.{make_answer}
 use Rattle.peer_runs.specs.Audits.{AreLogsDue, audit_for}
 use Rattle.peer_runs.specs.Exhibits.{case_for}
-use Rattle.peer_runs.specs.Games.{beginning_for, session_in}
+use Rattle.session_files.specs.Games.{beginning_for, session_in}
 use Rattle.peer_runs.specs.Words.{Audit, Command, Drive, Judge, Make, Schedule, Upgrade}
 
 -- the files that a command names, in the order of its words

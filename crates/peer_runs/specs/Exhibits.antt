@@ -9,7 +9,7 @@ use Rattle.text_fields.specs.declared.fault.TextFault.{TextFault}
 use Rattle.text_fields.specs.declared.fault.TextFault.TheVariants.{At, Memory}
 use Rattle.evidence.specs.declared.exhibit.Exhibit.{Exhibit}
 use Rattle.evidence.specs.Reading.{exhibit_at}
-use Rattle.peer_runs.specs.Games.{session_in}
+use Rattle.session_files.specs.Games.{session_in}
 
 -- the bytes of an exhibit's file that are read
 unfoldable pub evidence_front_of : Option (List ℕ) → List ℕ

@@ -1,5 +1,4 @@
 pub mod Words
-pub mod Games
 pub mod Exhibits
 pub mod Cases
 pub mod Files

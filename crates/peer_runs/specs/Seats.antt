@@ -20,8 +20,8 @@ use Rattle.run_frame.specs.declared.statuses.Status.TheVariants.{NoMemory, BadLi
 use Rattle.run_frame.specs.declared.statuses.TextName.TheVariants.{Roster, Moves}
 use Rattle.peer_command.specs.Words.{Peering}
 use Rattle.peer_runs.specs.declared.seats.Seat.{Seat}
-use Rattle.peer_runs.specs.Files.{log_names}
-use Rattle.peer_runs.specs.Games.{begun, is_shelf_fault, session_in, with_player}
+use Rattle.session_files.specs.Files.{log_names}
+use Rattle.session_files.specs.Games.{begun, is_shelf_fault, session_in, with_player}
 use Rattle.peer_runs.specs.Opening.{Found, IsRefusedBy, Reads}
 
 -- the bytes of a roster's file that are read

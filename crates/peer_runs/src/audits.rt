@@ -3,12 +3,12 @@
 ghost use Rattle.std.specs.Prelude.{◌≡◌, ◌≤◌, length, map};
 ghost use Rattle.peer_runs.specs.Audits.{OpensAudit, TakesAll};
 
-use crate::sessions::open_session;
 use auditor::{Auditor, MOST_LOGS};
 use grid_world::Session;
 use line_io::piece_buffer;
 use log_files::{LogsTaken, take_logs};
 use run_frame::Status;
+use session_files::open_session;
 use station::Shelf;
 use std::alloc::Global;
 

@@ -5,9 +5,9 @@ ghost use Rattle.drive_command.specs.Words.{driving_said};
 ghost use Rattle.peer_runs.specs.Runs.{Works};
 ghost use Rattle.peer_runs.specs.Words.{Drive};
 
-use crate::peers::open_peer;
 use drive_command::{DriveWords, drive};
 use run_frame::Status;
+use session_files::open_peer;
 use station::{Shelf, Sink, Source};
 use std::alloc::Global;
 

@@ -7,14 +7,14 @@ ghost use Rattle.evidence.specs.Reading.{exhibit_at};
 ghost use Rattle.peer_runs.specs.Cases.{case_seen};
 ghost use Rattle.peer_runs.specs.Exhibits.{IsExhibitDue, exhibit_by};
 ghost use Rattle.peer_runs.specs.Files.{OpensCase, OpensExhibit};
-ghost use Rattle.peer_runs.specs.Games.{is_shelf_fault};
+ghost use Rattle.session_files.specs.Games.{is_shelf_fault};
 
-use crate::sessions::open_session;
 use definitions::limits::EVIDENCE_FRONT;
 use evidence::{Exhibit, read_exhibit};
 use grid_world::Session;
 use line_io::{FrontFault, read_front};
 use run_frame::{Status, TextName};
+use session_files::open_session;
 use station::Shelf;
 use std::alloc::Global;
 use text_fields::TextFault;

@@ -16,13 +16,10 @@ mod driving;
 mod exhibits;
 mod judging;
 mod matches;
-mod old_logs;
 mod peering;
-mod peers;
 mod program;
 mod scheduling;
 mod seats;
-mod sessions;
 mod upgrading;
 mod words;
 

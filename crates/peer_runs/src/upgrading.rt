@@ -4,8 +4,8 @@ ghost use Rattle.std.specs.Prelude.{◌≡◌, Some};
 ghost use Rattle.peer_runs.specs.Runs.{Works};
 ghost use Rattle.peer_runs.specs.Words.{Upgrade};
 
-use crate::sessions::open_session;
 use run_frame::Status;
+use session_files::open_session;
 use station::{Shelf, Sink, Source};
 use std::alloc::Global;
 use upgrade_command::upgrade;

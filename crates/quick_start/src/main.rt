@@ -1,5 +1,5 @@
-//! The program `quick_start`: what `./play`, `./audit` and `./match` run where nothing is proved and built yet, so that a first look takes
-//! less than a minute.
+//! The program `quick_start`: what `./audit` and `./match` run where nothing is proved and built yet, and `./play` but for a player alone, which
+//! is `quick_drive`'s, so that a first look takes about a minute.
 //!
 //! It takes the words of the program `lethwyrn` and does the same by them; but it reads them without clap, which takes longer to compile
 //! than half of all else. And it does as one program what else takes several, each of which would be compiled anew: `match`, `liar` and

@@ -1,9 +1,15 @@
-use Rattle.std.proofs.Common.{Bool, List, ℕ, sym, ◌∙◌, subst}
+use Rattle.std.proofs.Common.{◌≡◌, Bool, List, ℕ, Option, Some, None, sym, ◌∙◌, subst}
+use Rattle.definitions.specs.declared.limits.TheConstants.{EVIDENCE_FRONT}
 use Rattle.evidence.specs.Reading.{exhibit_at}
-use Rattle.line_io.specs.Fronts.{Fetched}
-use Rattle.peer_runs.specs.Exhibits.{IsExhibitDue, exhibit_by}
-use Rattle.peer_runs.proofs.Shelves.{evidence_front_read}
+use Rattle.line_io.specs.Fronts.{Fetched, IsFrontOf}
+use Rattle.peer_runs.specs.Exhibits.{IsExhibitDue, evidence_front_of, exhibit_by}
 use Rattle.peer_runs.proofs.exhibits.open_exhibit.Goals as goal
+
+-- the bytes that are read of an exhibit's file, by its front
+evidence_front_read : (content : Option (List ℕ)) (text : List ℕ) → IsFrontOf EVIDENCE_FRONT content text → evidence_front_of content ≡ text
+unfolding evidence_front_of
+evidence_front_read None text h = absurd h
+evidence_front_read (Some bytes) text h = sym h
 
 pub returns-in-Ok : goal.returns-in-Ok
 returns-in-Ok g c = record {

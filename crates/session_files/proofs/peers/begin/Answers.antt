@@ -1,7 +1,7 @@
 use Rattle.std.proofs.Common.{◌≡◌, ◌<◌, true, inr, refl, arith, nat_lt}
 use Rattle.std.proofs.lemmas.Grind.{common_steps}
 use Rattle.definitions.specs.World.{players_of}
-use Rattle.peer_runs.proofs.peers.begin.Goals as goal
+use Rattle.session_files.proofs.peers.begin.Goals as goal
 
 pub returns-in-Some : goal.returns-in-Some
 returns-in-Some g c =

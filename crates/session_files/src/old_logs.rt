@@ -6,8 +6,8 @@ ghost use Rattle.station.specs.Since.{since};
 ghost use Rattle.line_io.specs.Fronts.{Fetched};
 ghost use Rattle.definitions.specs.World.{players_of};
 ghost use Rattle.old_log.specs.Old.{old_fault};
-ghost use Rattle.peer_runs.specs.Games as G;
-ghost use Rattle.peer_runs.specs.Games.{IsStartFor, is_shelf_fault};
+ghost use Rattle.session_files.specs.Games as G;
+ghost use Rattle.session_files.specs.Games.{IsStartFor, is_shelf_fault};
 
 use definitions::PlayerId;
 use definitions::limits::LOG_FRONT;

@@ -2,9 +2,9 @@
 
 ghost use Rattle.std.specs.Prelude.{◌≡◌, ◌<◌, Ok, false, option_map};
 ghost use Rattle.definitions.specs.World.{players_of};
-ghost use Rattle.peer_runs.specs.Files.{BeginsPeer, OpensPeer};
-ghost use Rattle.peer_runs.specs.Games as G;
-ghost use Rattle.peer_runs.specs.Games.{IsStartFor, is_shelf_fault};
+ghost use Rattle.session_files.specs.Files.{BeginsPeer, OpensPeer};
+ghost use Rattle.session_files.specs.Games as G;
+ghost use Rattle.session_files.specs.Games.{IsStartFor, is_shelf_fault};
 
 use crate::old_logs::begin_with_file;
 use crate::sessions::open_session;
@@ -31,8 +31,10 @@ fn begin_empty(alloc: Global, session: &Session, player: PlayerId) -> Result<Res
     }
 }
 
-/// A peer for the player of the session, with the log in a file, if one is named.
-pub(crate) fn begin<H: Shelf>(
+/// A peer for the player of the session, counted from 0, that goes on from the log in the file of that name, if one is given: the first
+/// `LOG_FRONT` bytes of that are read. `Usage` says that the session has no such player, before any file is read; `BadLog`
+/// at which byte and why the player can't go on from the log; `InputFault` that the shelf failed, and `NoMemory` that memory was wanting.
+pub fn begin<H: Shelf>(
     alloc: Global,
     shelf: &mut H,
     session: &Session,
@@ -50,8 +52,9 @@ pub(crate) fn begin<H: Shelf>(
     }
 }
 
-/// A peer for the player of a file's session, with the log in the other file, if one is named.
-pub(crate) fn open_peer<H: Shelf>(
+/// A peer for the player of the session in the file of that name, from the log in the other file on, if one is given: what `open_session` does,
+/// and then, where there is a session, what `begin` does. Each status is that of the one that ended it.
+pub fn open_peer<H: Shelf>(
     alloc: Global,
     shelf: &mut H,
     name: &[u8],

@@ -2,9 +2,9 @@
 
 ghost use Rattle.std.specs.Prelude.{◌≡◌, false};
 ghost use Rattle.grid_world.specs.Reading.{game_at};
-ghost use Rattle.peer_runs.specs.Files.{OpensSession};
-ghost use Rattle.peer_runs.specs.Games as G;
-ghost use Rattle.peer_runs.specs.Games.{IsDue, is_shelf_fault};
+ghost use Rattle.session_files.specs.Files.{OpensSession};
+ghost use Rattle.session_files.specs.Games as G;
+ghost use Rattle.session_files.specs.Games.{IsDue, is_shelf_fault};
 
 use definitions::limits::SESSION_FRONT;
 use grid_world::{Session, SessionFault, read_session};
@@ -25,13 +25,10 @@ fn session_of(alloc: Global, text: &[u8]) -> Result<Session, Status>
     }
 }
 
-/// The session of a file.
+/// The session of the file of that name: its first `SESSION_FRONT` bytes are read. `InputFault` says that the shelf failed, as it does where
+/// there is no such file, `BadSession` where its text is none, by line and reason, and `NoMemory` that memory was wanting.
 #[tactic(auto, unfolding(crate::specs::Games::front_of))]
-pub(crate) fn open_session<H: Shelf>(
-    alloc: Global,
-    shelf: &mut H,
-    name: &[u8],
-) -> Result<Session, Status>
+pub fn open_session<H: Shelf>(alloc: Global, shelf: &mut H, name: &[u8]) -> Result<Session, Status>
     ensures { OpensSession (H.state shelf.old) (H.state shelf.new) name.now result }
 {
     match read_front(alloc, shelf, name, SESSION_FRONT) {

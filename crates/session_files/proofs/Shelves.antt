@@ -14,11 +14,10 @@ use Rattle.line_io.specs.Fronts.{AllShown, IsFrontOf, IsReading}
 use Rattle.run_frame.specs.declared.statuses.Status.{Status}
 use Rattle.run_frame.specs.declared.statuses.Status.TheVariants.{NoMemory, InputFault, BadSession}
 use Rattle.grid_world.specs.Reading.{game_at}
-use Rattle.definitions.specs.declared.limits.TheConstants.{EVIDENCE_FRONT, LOG_FRONT, SESSION_FRONT}
-use Rattle.peer_runs.specs.Exhibits.{evidence_front_of}
+use Rattle.definitions.specs.declared.limits.TheConstants.{LOG_FRONT, SESSION_FRONT}
 use Rattle.line_io.specs.Files.{AreContents, AreReadings, Calls, Contents, content, in_turn}
-use Rattle.peer_runs.specs.Files.{BeginsPeer, FetchesLog, HasPlayer, OpensPeer, OpensSession, log_names}
-use Rattle.peer_runs.specs.Games.{IsDue, IsStartFor, ended_by, front_of, is_shelf_fault, log_front_of, with_old, with_player}
+use Rattle.session_files.specs.Files.{BeginsPeer, FetchesLog, HasPlayer, OpensPeer, OpensSession, log_names}
+use Rattle.session_files.specs.Games.{IsDue, IsStartFor, ended_by, front_of, is_shelf_fault, log_front_of, with_old, with_player}
 
 -- the bytes that are read of a file, by its front
 pub front_read : (content : Option (List ℕ)) (text : List ℕ) → IsFrontOf SESSION_FRONT content text → front_of content ≡ text
@@ -30,11 +29,6 @@ pub log_front_read : (content : Option (List ℕ)) (text : List ℕ) → IsFront
 unfolding log_front_of
 log_front_read None text h = absurd h
 log_front_read (Some bytes) text h = sym h
-
-pub evidence_front_read : (content : Option (List ℕ)) (text : List ℕ) → IsFrontOf EVIDENCE_FRONT content text → evidence_front_of content ≡ text
-unfolding evidence_front_of
-evidence_front_read None text h = absurd h
-evidence_front_read (Some bytes) text h = sym h
 
 -- a session that is due was read
 pub game_due : (r : Result Game SessionFault) (game : Game) → ended_by r ≡ Ok game → r ≡ Ok game

@@ -1,9 +1,9 @@
 use Rattle.std.proofs.Common.{Bool, List, ℕ, sym, ◌∙◌, subst}
 use Rattle.grid_world.specs.Reading.{game_at}
 use Rattle.line_io.specs.Fronts.{Fetched}
-use Rattle.peer_runs.specs.Games.{IsDue, ended_by}
-use Rattle.peer_runs.proofs.Shelves.{front_read}
-use Rattle.peer_runs.proofs.sessions.open_session.Goals as goal
+use Rattle.session_files.specs.Games.{IsDue, ended_by}
+use Rattle.session_files.proofs.Shelves.{front_read}
+use Rattle.session_files.proofs.sessions.open_session.Goals as goal
 
 pub returns-in-Ok : goal.returns-in-Ok
 returns-in-Ok g c = record {

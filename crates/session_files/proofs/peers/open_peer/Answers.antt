@@ -1,5 +1,5 @@
-use Rattle.peer_runs.proofs.Shelves.{opened, unopened}
-use Rattle.peer_runs.proofs.peers.open_peer.Goals as goal
+use Rattle.session_files.proofs.Shelves.{opened, unopened}
+use Rattle.session_files.proofs.peers.open_peer.Goals as goal
 
 pub returns-in-Ok : goal.returns-in-Ok
 returns-in-Ok g c = opened _ _ _ _ _ _ c.in-Ok.session c.begin.result c.in-Ok.ensures c.begin.ensures

@@ -1,8 +1,8 @@
 use Rattle.std.proofs.Common.{List, ℕ, sym, ◌∙◌, subst}
 use Rattle.old_log.specs.Old.{old_fault}
-use Rattle.peer_runs.specs.Games.{IsStartFor, old_beginning}
-use Rattle.peer_runs.proofs.Shelves.{log_front_read}
-use Rattle.peer_runs.proofs.old_logs.begin_with_file.Goals as goal
+use Rattle.session_files.specs.Games.{IsStartFor, old_beginning}
+use Rattle.session_files.proofs.Shelves.{log_front_read}
+use Rattle.session_files.proofs.old_logs.begin_with_file.Goals as goal
 
 pub returns-in-Ok-clause-due : goal.returns-in-Ok-clause-due
 returns-in-Ok-clause-due g c = λ content h.

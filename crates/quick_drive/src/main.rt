@@ -1,0 +1,54 @@
+//! The program `quick_drive`: what `./play NAME PLAYER` runs where nothing is proved and built yet. It drives a peer as `drive` of the program
+//! `lethwyrn` does, and has nothing else in it, since each further command would have to be compiled before the first line is shown.
+//!
+//! Its words are those behind `drive`: `SESSION PLAYER`, or `SESSION PLAYER OLD`. Nothing is promised of it beyond what `session_files`
+//! promises of what is read for a peer, and `drive_command` of what the peer then answers.
+#![tactic(auto)]
+
+use drive_command::{DriveWords, drive, read_drive_words};
+use file_shelf::FileShelf;
+use run_frame::Status;
+use session_files::open_peer;
+use station::{StdSink, StdSource};
+use std::io;
+use std::process::ExitCode;
+
+/// The status where the machine refuses the program its words or memory for them.
+const REFUSED: u8 = 15;
+
+/// The words behind the program's name.
+fn words_of(rt: &HostRuntime) -> io::Result<Vec<Vec<u8>>> {
+    let mut words = Vec::new(rt.alloc());
+    for word in std::env::args(rt)?.skip(1) {
+        words.push(Vec::from_slice(rt.alloc(), word.as_bytes())?)?;
+    }
+    Ok(words)
+}
+
+/// Drives a peer by the standard input.
+fn drive_by(rt: &HostRuntime, words: DriveWords<'_>) -> Status {
+    let mut input = StdSource::new(rt.reader());
+    let mut out = StdSink::new(io::writer(rt));
+    let mut shelf = FileShelf::new(rt.alloc(), rt);
+    match open_peer(
+        rt.alloc(),
+        &mut shelf,
+        words.session,
+        words.player,
+        words.old,
+    ) {
+        Ok(begun) => drive(begun.peer, begun.dropped, &mut input, &mut out),
+        Err(status) => status,
+    }
+}
+
+fn main(rt: HostRuntime) -> ExitCode {
+    let Ok(words) = words_of(&rt) else {
+        return ExitCode::from(REFUSED);
+    };
+    let status = match read_drive_words(words.as_slice()) {
+        Some(words) => drive_by(&rt, words),
+        None => Status::Usage,
+    };
+    ExitCode::from(status.code())
+}
