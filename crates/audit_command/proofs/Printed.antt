@@ -1,5 +1,5 @@
 -- Printed: a text that is written piece by piece, where memory may be wanting before a piece.
-use Rattle.std.proofs.Common.{◌≡◌, ℕ, zero, suc, ◌+◌, ◌<◌, List, [], ◌∷◌, ◌++◌, length, drop, take, drop-cons, get_or, true, ap, append_assoc, sym, arith, refl, subst, ◌∙◌}
+use Rattle.std.proofs.Common.{◌≡◌, ℕ, suc, ◌+◌, ◌<◌, List, [], ◌∷◌, ◌++◌, length, drop, take, drop-cons, get_or, true, ap, append_assoc, sym, arith, refl, subst, ◌∙◌}
 use Rattle.std.proofs.lemmas.List.{take-append-drop, take-append-le}
 use Rattle.std.proofs.Math.Seq.{drop-append_seam, take-append_seam}
 use Rattle.definitions.specs.declared.findings.Kind.TheVariants.{TwoCommits}
@@ -8,11 +8,13 @@ use Rattle.std.specs.Prelude.{Result, Err}
 use Rattle.definitions.specs.declared.logs.Entry.{Entry}
 use Rattle.definitions.specs.declared.findings.Finding.{Finding}
 use Rattle.definitions.specs.World.{Game}
+use Rattle.definitions.proofs.Items.{item_is}
 use Rattle.station.specs.Sinks.{SinkState, after_bytes}
 use Rattle.line_io.specs.Texts.{Puts, Underway}
 use Rattle.line_io.specs.declared.texts.Written.{Written}
 use Rattle.run_frame.specs.Frame.{Answer, Lacked, Ran}
 use Rattle.line_io.proofs.Writing.{bytes_both, underway_on}
+use Rattle.auditor.proofs.Worlds.{each_item}
 use Rattle.audit_command.specs.Audit.{all_found_text, found_text, status_by}
 use Rattle.audit_command.specs.Printing.{IsBegun, Prints}
 
@@ -65,9 +67,7 @@ found_next game logs fs i lt =
 
 -- the fact holds of the item at this place
 pub each_at : {X : Type 0} (P : X → Type 0) (xs : List X) (i : ℕ) (d : X) → i < length xs → EachIs P xs → P (get_or xs i d)
-each_at P [] i d lt each = absurd (omega (arith, lt))
-each_at P (x ∷ xs) zero d lt each = each.0
-each_at P (x ∷ xs) (suc i) d lt each = each_at P xs i d (omega (arith, lt)) each.1
+each_at P xs i d lt each = subst P (sym (item_is xs i d)) (each_item P xs i d each lt)
 
 pub found_none : (game : Game) (logs : List (List Entry)) → all_found_text game logs [] ≡ []
 unfolding all_found_text

@@ -5,6 +5,7 @@ use Rattle.definitions.specs.declared.findings.Finding.{Finding}
 use Rattle.definitions.specs.declared.findings.Spot.{Spot}
 use Rattle.text_fields.specs.Kinds.{kind_name}
 use Rattle.auditor.specs.declared.world.WorldLine.{WorldLine}
+use Rattle.report_lines.specs.Lines.{world_line_text}
 
 -- a spot: the log's number and the entry's, each behind a space
 unfoldable pub spot_text : Spot → List ℕ
@@ -19,16 +20,10 @@ finding_line f =
 unfoldable pub agreed_line : (q count : ℕ) → List ℕ
 agreed_line q count = codes "agreed " ++ decimal q ++ codes " " ++ decimal count ++ codes "\n"
 
--- of a player: where it stands behind the last turn, with which charge, and the hits that it gave and took
-unfoldable pub world_line : (q : ℕ) → WorldLine → List ℕ
-world_line q line =
-    codes "world " ++ decimal q ++ codes " at " ++ decimal line.track.at.x ++ codes " " ++ decimal line.track.at.y ++ codes " charge " ++
-    decimal line.track.charge ++ codes " given " ++ decimal line.score.given ++ codes " taken " ++ decimal line.score.taken ++ codes "\n"
-
--- the same where it is told, and else nothing
+-- of a player: where it stands behind the last turn, with which charge, and the hits that it gave and took, where that is told
 abbrev pub told_line : (q : ℕ) → Option WorldLine → List ℕ
 told_line q None = []
-told_line q (Some line) = world_line q line
+told_line q (Some line) = world_line_text q line.track line.score.given line.score.taken
 
 -- in place of all these, where some turn of some player isn't agreed
 abbrev pub no_world_line : List ℕ

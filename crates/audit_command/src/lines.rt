@@ -4,7 +4,6 @@ ghost use Rattle.std.specs.Prelude.{◌≡◌};
 ghost use Rattle.audit_command.specs.Lines as L;
 
 use arrayvec::ArrayVec;
-use auditor::WorldLine;
 use definitions::{Finding, PlayerId, Spot};
 use itoa::Buffer;
 use text_fields::name_of_kind;
@@ -67,34 +66,6 @@ pub(crate) fn agreed_line(player: PlayerId, count: u32) -> AuditLine
         .unwrap();
     line.push(b' ');
     line.try_extend_from_slice(Buffer::new().format(count).as_bytes())
-        .unwrap();
-    line.push(b'\n');
-    line
-}
-
-/// The line that says where a player stands behind the last turn, and what it scored.
-#[tactic(auto, unfolding(crate::specs::Lines::world_line))]
-pub(crate) fn world_line(player: PlayerId, told: &WorldLine) -> AuditLine
-    ensures { result.items ≡ L.world_line player told.now }
-{
-    let mut line = ArrayVec::new();
-    line.try_extend_from_slice(b"world ").unwrap();
-    line.try_extend_from_slice(Buffer::new().format(player).as_bytes())
-        .unwrap();
-    line.try_extend_from_slice(b" at ").unwrap();
-    line.try_extend_from_slice(Buffer::new().format(told.track.at.x).as_bytes())
-        .unwrap();
-    line.push(b' ');
-    line.try_extend_from_slice(Buffer::new().format(told.track.at.y).as_bytes())
-        .unwrap();
-    line.try_extend_from_slice(b" charge ").unwrap();
-    line.try_extend_from_slice(Buffer::new().format(told.track.charge).as_bytes())
-        .unwrap();
-    line.try_extend_from_slice(b" given ").unwrap();
-    line.try_extend_from_slice(Buffer::new().format(told.score.given).as_bytes())
-        .unwrap();
-    line.try_extend_from_slice(b" taken ").unwrap();
-    line.try_extend_from_slice(Buffer::new().format(told.score.taken).as_bytes())
         .unwrap();
     line.push(b'\n');
     line

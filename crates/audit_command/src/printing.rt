@@ -14,13 +14,13 @@ ghost use Rattle.audit_command.specs.Lines as L;
 ghost use Rattle.audit_command.specs.Audit as A;
 ghost use Rattle.audit_command.specs.Printing.{Prints};
 
-use crate::lines::{agreed_line, finding_line, world_line};
+use crate::lines::{agreed_line, finding_line};
 use auditor::{Auditor, Report};
 use definitions::{Finding, PlayerId};
 use evidence::print_exhibit;
 use grid_world::Session;
 use line_io::{Written, put};
-use report_lines::end_line;
+use report_lines::{end_line, world_line};
 use station::Sink;
 use std::alloc::{AllocError, Global};
 
@@ -92,7 +92,10 @@ fn put_told<O: Sink>(report: &Report, player: PlayerId, out: &mut O) -> Written
 {
     match report.world(player) {
         None => put(out, b""),
-        Some(told) => put(out, world_line(player, &told).as_slice()),
+        Some(told) => put(
+            out,
+            world_line(player, told.track, told.score.given, told.score.taken).as_slice(),
+        ),
     }
 }
 

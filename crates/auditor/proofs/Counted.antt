@@ -1,33 +1,30 @@
 -- Counted: the counts of the logs' entries, where one comes to a log and before any came.
-use Rattle.std.proofs.Common.{List, None, Some, [], ap, arith, refl, suc, sym, zero, ℕ, ◌+◌, ◌++◌, ◌<◌, ◌∙◌, ◌∷◌, ◌≡◌, slice_get, length, get_or, set, replicate, true, false, Bool, Option}
+use Rattle.std.proofs.Common.{List, None, Some, [], ap, arith, refl, suc, sym, zero, ℕ, ◌+◌, ◌++◌, ◌<◌, ◌∙◌, ◌∷◌, ◌≡◌, slice_get, length, get_or, set, replicate, true, false, Bool}
 use Rattle.std.specs.Prelude.{◌==◌}
 use Rattle.std.proofs.lemmas.Bool.{eqb-true, eqb-false}
-use Rattle.std.proofs.lemmas.List.{get_or-replicate, length-append, length-replicate}
+use Rattle.std.proofs.lemmas.List.{get_or-replicate, length-append, length-replicate, length-set}
 use Rattle.std.proofs.lemmas.Option.{get_or_from_slice_get, slice_get-get_or, slice_get_within}
 use Rattle.definitions.specs.declared.logs.Entry.{Entry}
 use Rattle.definitions.specs.Lists.{item_or}
 use Rattle.frame_index.specs.Appended.{with_entry}
 use Rattle.frame_index.proofs.Grows.{own_after}
 
--- an entry more makes no log more
-pub length-with_entry : (logs : List (List Entry)) (i : ℕ) (e : Entry) → length (with_entry logs i e) ≡ length logs
-length-with_entry [] i e = refl
-length-with_entry (h ∷ hs) zero e = refl
-length-with_entry (h ∷ hs) (suc i) e = ap suc (length-with_entry hs i e)
+-- an entry more is written to its log
+with_entry_set : (logs : List (List Entry)) (i : ℕ) (e : Entry) → with_entry logs i e ≡ set logs i (get_or logs i [] ++ e ∷ [])
+with_entry_set [] i e = refl
+with_entry_set (h ∷ hs) zero e = refl
+with_entry_set (h ∷ hs) (suc i) e = ap (λ ls. h ∷ ls) (with_entry_set hs i e)
 
--- the other logs stay
-other_after : (logs : List (List Entry)) (i l : ℕ) (e : Entry) → (l ≡ i → ⊥) → slice_get (with_entry logs i e) l ≡ slice_get logs l
-other_after [] i l e ne = refl
-other_after (h ∷ hs) zero zero e ne = absurd (ne refl)
-other_after (h ∷ hs) zero (suc l) e ne = refl
-other_after (h ∷ hs) (suc i) zero e ne = refl
-other_after (h ∷ hs) (suc i) (suc l) e ne = other_after hs i l e (λ same. ne (ap suc same))
+-- and makes no log more
+pub length-with_entry : (logs : List (List Entry)) (i : ℕ) (e : Entry) → length (with_entry logs i e) ≡ length logs
+length-with_entry logs i e = ap length (with_entry_set logs i e) ∙ length-set logs i (get_or logs i [] ++ e ∷ [])
 
 set_here : {X : Type 0} (xs : List X) (i : ℕ) (x y : X) → slice_get xs i ≡ Some y → slice_get (set xs i x) i ≡ Some x
 set_here [] i x y h = absurd (let none : None ≡ Some y = h in cc)
 set_here (z ∷ zs) zero x y h = refl
 set_here (z ∷ zs) (suc i) x y h = set_here zs i x y h
 
+-- the others stay
 set_there : {X : Type 0} (xs : List X) (i l : ℕ) (x : X) → (l ≡ i → ⊥) → slice_get (set xs i x) l ≡ slice_get xs l
 set_there [] i l x ne = refl
 set_there (z ∷ zs) zero zero x ne = absurd (ne refl)
@@ -47,7 +44,7 @@ counts_grown logs counts log h e there are i g at = go (i == log) refl
     go : (b : Bool) → (i == log) ≡ b → slice_get (set counts log (get_or counts log 0 + 1)) i ≡ Some (length g)
     go false x =
         let ne = eqb-false i log x in
-        set_there counts log i (get_or counts log 0 + 1) ne ∙ are i g (sym (other_after logs log i e ne) ∙ at)
+        set_there counts log i (get_or counts log 0 + 1) ne ∙ are i g (sym (ap (λ (ls : List (List Entry)). slice_get ls i) (with_entry_set logs log e) ∙ set_there logs log i (get_or logs log [] ++ e ∷ []) ne) ∙ at)
     go true x =
         let same = eqb-true i log x in
         let one : Some g ≡ Some (h ++ e ∷ []) = sym at ∙ ap (slice_get (with_entry logs log e)) same ∙ own_after logs log e h there in
@@ -73,13 +70,8 @@ none_counted n i h at =
     slice_get-get_or (replicate n 0) i 0 (omega arith)
     ∙ ap (λ (x : ℕ). Some x) (get_or-replicate n i 0 0 less ∙ sym (ap length (none_in n i h at)))
 
-pub count_none : (n i : ℕ) → get_or {A = ℕ} (replicate n 0) i 0 ≡ (let nought : ℕ = 0 in nought)
-count_none zero i = refl
-count_none (suc n) zero = refl
-count_none (suc n) (suc i) = count_none n i
-
--- no log has an owner
-pub owner_none : (n i : ℕ) → item_or {X = Option ℕ} (replicate n None) i None ≡ None
-owner_none zero i = refl
-owner_none (suc n) zero = refl
-owner_none (suc n) (suc i) = owner_none n i
+-- each of these is the same, and so is what stands past the end
+pub same_there : {X : Type 0} (n i : ℕ) (d : X) → item_or (replicate n d) i d ≡ d
+same_there zero i d = refl
+same_there (suc n) zero d = refl
+same_there (suc n) (suc i) d = same_there n i d

@@ -12,7 +12,7 @@ use Rattle.frame_index.specs.Keeps.{Keeps}
 use Rattle.frame_index.proofs.Come as C
 use Rattle.auditor.specs.declared.turns.Resolved.{Resolved}
 use Rattle.auditor.specs.Exhibits.{resolved_kept}
-use Rattle.auditor.specs.Reading.{shown}
+use Rattle.frame_index.specs.Plain.{shown}
 use Rattle.auditor.proofs.Turned.{turn_kept}
 
 module _ (game : Game) (q t : ℕ) (h : List Entry) (before after : Stream) (is : IsSession game) (player : q < players_of game)

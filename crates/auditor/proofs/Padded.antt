@@ -23,6 +23,7 @@ use Rattle.auditor.specs.Audits.{StandsFor, padded}
 use Rattle.auditor.specs.Agreed.{AreOwned, agreed_move, agreed_moves, all_agreed_moves, moves_given, one_move, resolved_at, resolved_by, world_by}
 use Rattle.auditor.specs.Exhibits.{IsExhibitOf}
 use Rattle.auditor.specs.Reports.{IsReportOf}
+use Rattle.auditor.proofs.Counted.{same_there}
 
 -- what follows of a value, if there is one
 pub if_ok : {T E : Type 0} {P Q : T → Type 0} (r : Result T E) → ((x : T) → P x → Q x) → IfOk r P → IfOk r Q
@@ -49,13 +50,8 @@ first_some f a (suc n) k h =
     let all : suc n + k ≡ suc (n + k) = omega arith in
     ap (λ m. filter_map f (range_with_len a m)) all ∙ ap (cons_option (f a)) (first_some f (a + 1) n k (λ i. let at : ((a + 1) + n) + i ≡ (a + suc n) + i = omega arith in ap f at ∙ h i))
 
-pub item_none : (k i : ℕ) → item_or {X = List Entry} (replicate k []) i [] ≡ []
-item_none zero i = refl
-item_none (suc k) zero = refl
-item_none (suc k) (suc i) = item_none k i
-
 pub item_padded : (logs : List (List Entry)) (k i : ℕ) → item_or (padded logs k) i [] ≡ item_or logs i []
-item_padded [] k i = item_none k i
+item_padded [] k i = same_there k i (let none : List Entry = [] in none)
 item_padded (h ∷ logs) k zero = refl
 item_padded (h ∷ logs) k (suc i) = item_padded logs k i
 

@@ -3,6 +3,8 @@ use Rattle.std.proofs.Common.{Bool, Global, List, Vec, None, Some, [], add-zero,
 use Rattle.std.specs.Prelude.{◌==◌, Result, if◌then◌else◌, is_err, not}
 use Rattle.std.specs.List.{cons_option, list_all, range_with_len}
 use Rattle.std.proofs.lemmas.Bool.{and_parts, eqb-true}
+use Rattle.std.proofs.lemmas.List.{length-map}
+use Rattle.std.proofs.Math.ListN.{get_or-map}
 use Rattle.definitions.specs.declared.world.Cell.{Cell}
 use Rattle.definitions.specs.declared.world.Move.{Move}
 use Rattle.definitions.specs.declared.world.MoveFault.{MoveFault}
@@ -13,7 +15,7 @@ use Rattle.definitions.specs.Lists.{EachIs, item_or}
 use Rattle.definitions.specs.World.{Game, is_open, players_of}
 use Rattle.definitions.specs.Moves.{AreLegal, IsLegal, is_legal}
 use Rattle.definitions.proofs.Walks.{walked_open}
-use Rattle.definitions.proofs.Items.{item_is}
+use Rattle.definitions.proofs.Items.{item_is, map_item}
 use Rattle.definition_laws.proofs.Tracks.{legal_in_reach}
 use Rattle.definition_laws.proofs.Nexts.{some_at}
 use Rattle.playout.specs.declared.standing.Standing.{Standing}
@@ -31,14 +33,11 @@ use Rattle.auditor.specs.Played.{AreLegalIfWhole, AreOpen, line_at, moves_at}
 use Rattle.auditor.proofs.Agreeing.{whole_legal}
 use Rattle.auditor.proofs.Picked.{length_range}
 
-each_item : {X : Type 0} (P : X → Type 0) (xs : List X) (i : ℕ) (d : X) → EachIs P xs → i < length xs → P (item_or xs i d)
+-- the fact holds of the item at this place
+pub each_item : {X : Type 0} (P : X → Type 0) (xs : List X) (i : ℕ) (d : X) → EachIs P xs → i < length xs → P (item_or xs i d)
 each_item P [] i d each lt = absurd (omega arith)
 each_item P (x ∷ xs) zero d each lt = each.0
 each_item P (x ∷ xs) (suc i) d each lt = each_item P xs i d each.1 (omega arith)
-
-length_map : {X Y : Type 0} (f : X → Y) (xs : List X) → length (map f xs) ≡ length xs
-length_map f [] = refl
-length_map f (x ∷ xs) = ap suc (length_map f xs)
 
 pub item_range : {X : Type 0} (f : ℕ → X) (a n i : ℕ) (d : X) → i < n → item_or (map f (range_with_len a n)) i d ≡ f (a + i)
 item_range f a zero i d lt = absurd (omega arith)
@@ -53,21 +52,15 @@ whole_each n (x ∷ xs) all = let p = and_parts (length x == n) (list_all (λ ow
 pub agreed_item : (game : Game) (owners : List (Option ℕ)) (logs : List (List Entry)) (q : ℕ) → q < players_of game → item_or (all_agreed_moves game owners logs) q [] ≡ agreed_moves game owners logs q
 agreed_item game owners logs q lt = item_range (agreed_moves game owners logs) 0 (players_of game) q [] lt ∙ ap (agreed_moves game owners logs) (zero-add q)
 
--- nothing stands past the end
-pub item_past : {X : Type 0} (xs : List X) (q : ℕ) (d : X) → length xs ≤ q → item_or xs q d ≡ d
-item_past [] q d few = refl
-item_past (x ∷ xs) zero d few = absurd (omega arith)
-item_past (x ∷ xs) (suc q) d few = item_past xs q d (omega arith)
-
 pub line_past : (lines : List WorldLine) (q : ℕ) → length lines ≤ q → line_at lines q ≡ None
 line_past [] q few = refl
 line_past (line ∷ lines) zero few = absurd (omega arith)
 line_past (line ∷ lines) (suc q) few = line_past lines q (omega arith)
 
 pub item_length : {X : Type 0} (xs : List (List X)) (q : ℕ) → item_or (map length xs) q 0 ≡ length (item_or xs q [])
-item_length [] q = refl
-item_length (x ∷ xs) zero = refl
-item_length (x ∷ xs) (suc q) = item_length xs q
+item_length {X} xs q =
+    let none : List X = [] in
+    sym (item_is (map length xs) q 0) ∙ get_or-map length xs q none ∙ ap length (item_is xs q none)
 
 -- the item at a place that is there is the same whatever stands for one that isn't
 pub item_any : {X : Type 0} (xs : List X) (i : ℕ) (d e : X) → i < length xs → slice_index_or xs i d ≡ item_or xs i e
@@ -109,7 +102,7 @@ agreed_legal game owners logs whole = record {
     at q lt = agreed_item game owners logs q lt
 
     long : length all ≡ players_of game
-    long = length_map (agreed_moves game owners logs) (range_with_len 0 (players_of game)) ∙ length_range 0 (players_of game)
+    long = length-map (range_with_len 0 (players_of game)) (agreed_moves game owners logs) ∙ length_range 0 (players_of game)
 
     each : EachIs (λ own. length own ≡ game.turns) all
     each = whole_each game.turns all whole
@@ -123,9 +116,9 @@ moves_are n t (own ∷ moves) each lt =
 
 -- the lines of standings are those of the players
 pub line_is : (ss : List Standing) (q : ℕ) → q < length ss → line_at (map line_of ss) q ≡ Some (line_of (item_or ss q no_standing))
-line_is [] q lt = absurd (omega arith)
-line_is (s ∷ ss) zero lt = refl
-line_is (s ∷ ss) (suc q) lt = line_is ss q (omega arith)
+line_is ss q lt =
+    map_item (λ (line : WorldLine). Some line) (map line_of ss) q (line_of no_standing) None (omega (arith, lt, length-map ss line_of))
+    ∙ ap (λ (line : WorldLine). Some line) (map_item line_of ss q no_standing (line_of no_standing) lt)
 
 -- lockstep by moves of all turns is the world
 pub whole_world : (game : Game) (moves : List (List Move)) (p : Played) (q : ℕ) → are_whole game moves ≡ true → p.turns ≡ game.turns → IsLockstep game moves p → q < players_of game →

@@ -1,8 +1,5 @@
 -- Reading: what logs show of a player's turn, with what they show before it and behind it.
-use Rattle.std.specs.Prelude.{◌+◌, ℕ, List, Option, None, Some}
-use Rattle.definitions.specs.declared.world.Move.{Move}
-use Rattle.definitions.specs.declared.frames.TurnFrame.{TurnFrame}
-use Rattle.definitions.specs.declared.frames.TurnFrame.TheVariants.{Commit, Reveal}
+use Rattle.std.specs.Prelude.{◌+◌, ℕ, List}
 use Rattle.definitions.specs.declared.logs.Entry.{Entry}
 use Rattle.definitions.specs.World.{Game}
 use Rattle.frame_index.specs.Heads.{Stand, front_of}
@@ -18,11 +15,6 @@ pub record IsReadTurn (game : Game) (q : ℕ) (logs : List (List Entry)) (t : �
   pub kept : Keeps game q t logs r.seen.items
   pub before : Stand game q logs (front_of game t) r.before
   pub after : Stand game q logs (front_of game (t + 1)) r.after
-
--- the move that a reveal shows
-abbrev pub shown : TurnFrame → Option Move
-shown (Commit p t d) = None
-shown (Reveal p t m n) = Some m
 
 -- the auditor stands for the logs, each of which is its owner's
 pub record IsReadable (a : Auditor) (logs : List (List Entry)) : Type 0 where

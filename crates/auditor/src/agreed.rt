@@ -9,6 +9,7 @@ ghost use Rattle.definitions.specs.Findings.{got_known};
 ghost use Rattle.definitions.specs.Logs.{got_of};
 ghost use Rattle.frame_index.specs.Heads.{AreOpen, Stands, front_of};
 ghost use Rattle.frame_index.specs.Keeps.{Keeps};
+ghost use Rattle.frame_index.specs.Plain.{shown};
 ghost use Rattle.frame_index.specs.declared.limits.TheConstants.{MOST_LOGS};
 ghost use Rattle.auditor.specs.Accords.{accord_of, agreed_in, is_alike};
 ghost use Rattle.auditor.specs.Agreed as A;
@@ -65,7 +66,7 @@ fn agreed_in(accord: Accord) -> Option<Move>
 
 /// The move that a reveal shows.
 fn shown(frame: &TurnFrame) -> Option<Move>
-    ensures { result ≡ R.shown frame.now }
+    ensures { result ≡ shown frame.now }
 {
     match *frame {
         TurnFrame::Commit { .. } => None,

@@ -7,13 +7,14 @@ ghost use Rattle.definitions.specs.Logs.{got_of};
 ghost use Rattle.definitions.specs.Moves.{track_after};
 ghost use Rattle.definitions.specs.World.{is_open, players_of};
 ghost use Rattle.frame_index.specs.Frames.{IsIndex};
-ghost use Rattle.frame_index.specs.Judged as J;
 ghost use Rattle.frame_index.specs.Keeps.{Keeps};
 ghost use Rattle.frame_index.specs.Wants as W;
 ghost use Rattle.evidence.specs.Showing.{turn_shown, turns_shown};
 ghost use Rattle.auditor.specs.Exhibits as X;
 
-use definitions::{Digest, MoveFault, PlayerId, Spot, Track, Turn, TurnFrame};
+use definitions::{PlayerId, Track, Turn, TurnFrame};
+use frame_index::judged::{judged, least_good};
+use frame_index::least::lower;
 use frame_index::{FrameIndex, Seen};
 use grid_world::Session;
 use move_rules::{Walker, start_track};
@@ -25,32 +26,6 @@ pub(crate) struct Resolved {
     pub commit: TurnFrame,
     pub reveal: TurnFrame,
     pub track: Track,
-}
-
-/// Whether the first spot is lower.
-fn is_before(one: &Spot, other: &Spot) -> bool
-    ensures { result ≡ W.is_before one.now other.now }
-{
-    one.log < other.log || one.log == other.log && one.entry < other.entry
-}
-
-/// The lower of the one that is there and one more, if that is looked for.
-fn lower(found: bool, best: Option<Seen>, one: &Seen) -> Option<Seen>
-    ensures { result ≡ W.lower found best one.now }
-{
-    if !found {
-        return best;
-    }
-    match best {
-        None => Some(*one),
-        Some(other) => {
-            if is_before(&one.spot, &other.spot) {
-                Some(*one)
-            } else {
-                best
-            }
-        }
-    }
 }
 
 /// Whether it is a commitment in the log.
@@ -74,78 +49,6 @@ fn first_commit(seen: &[Seen], log: u32) -> Option<Seen>
     best
 }
 
-/// What the move of the reveal leads to, where it opens the digest; None where it doesn't, or is no reveal.
-fn judged(
-    session: &Session,
-    walker: &mut Walker,
-    player: PlayerId,
-    track: &Track,
-    digest: &Digest,
-    one: &Seen,
-) -> Option<Result<Track, MoveFault>>
-    requires player { player < players_of session.now }
-    requires track { IsTrue (is_open session.now.grid track.now.at) }
-    ensures { result ≡ J.judged session.now player track.now digest.now one.now }
-{
-    match one.frame {
-        TurnFrame::Commit { .. } => None,
-        TurnFrame::Reveal { mv, .. } => {
-            if one.digest != *digest {
-                return None;
-            }
-            Some(walker.legal(session, player, track, &mv))
-        }
-    }
-}
-
-/// Whether it stands in the log, opens the digest, and is legal.
-fn is_good(
-    session: &Session,
-    walker: &mut Walker,
-    player: PlayerId,
-    track: &Track,
-    digest: &Digest,
-    log: u32,
-    one: &Seen,
-) -> bool
-    requires player { player < players_of session.now }
-    requires track { IsTrue (is_open session.now.grid track.now.at) }
-    ensures { result ≡ J.is_good session.now player track.now digest.now log one.now }
-{
-    if one.spot.log != log {
-        return false;
-    }
-    match judged(session, walker, player, track, digest, one) {
-        None => false,
-        Some(verdict) => verdict.is_ok(),
-    }
-}
-
-/// The first good reveal of the log.
-fn first_good(
-    session: &Session,
-    walker: &mut Walker,
-    player: PlayerId,
-    track: &Track,
-    digest: &Digest,
-    log: u32,
-    seen: &[Seen],
-) -> Option<Seen>
-    requires player { player < players_of session.now }
-    requires track { IsTrue (is_open session.now.grid track.now.at) }
-    ensures { result ≡ W.least_from (J.is_good session.now player track.now digest.now log) None seen.now }
-{
-    let mut best: Option<Seen> = None;
-    for one in seen {
-        best = lower(
-            is_good(session, walker, player, track, digest, log, one),
-            best,
-            one,
-        );
-    }
-    best
-}
-
 /// How the log resolved the turn of which each different frame is kept, from the player's track before it.
 pub(crate) fn resolved_in(
     session: &Session,
@@ -160,7 +63,7 @@ pub(crate) fn resolved_in(
     ensures { result ≡ X.resolved_kept session.now player track.now log seen.now }
 {
     let commit = first_commit(seen, log)?;
-    let reveal = first_good(session, walker, player, track, &commit.digest, log, seen)?;
+    let reveal = least_good(session, walker, player, track, &commit.digest, log, seen)?;
     let next = judged(session, walker, player, track, &commit.digest, &reveal)?;
     Some(Resolved {
         commit: commit.frame,

@@ -6,7 +6,7 @@ use Rattle.clap.specs.Simple.{App, Shape, app_of, shape_of, with_subcommand}
 use Rattle.clap.specs.declared.builder.command.Command.{Command}
 use Rattle.clap.specs.declared.builder.command.Command.TheViews.{out-Command}
 use Rattle.command_line.specs.declared.names.Name.{Name}
-use Rattle.command_line.specs.declared.names.Name.TheVariants.{Audit, Drive, Judge, Make, Peer, Schedule, Upgrade}
+use Rattle.command_line.specs.declared.names.Name.TheVariants.{Audit}
 use Rattle.command_line.specs.Names.{least_of, most_of}
 
 -- what is there is the value that it is said to be
@@ -17,12 +17,7 @@ is_some_value (Some y) x h = ap Some h
 -- each command takes as many words as it takes at least
 pub max-least : (name : Name) → max (most_of name) (least_of name) ≡ most_of name
 max-least Audit = refl
-max-least Drive = refl
-max-least Judge = refl
-max-least Make = refl
-max-least Peer = refl
-max-least Schedule = refl
-max-least Upgrade = refl
+max-least name = refl
 
 -- one more subcommand
 pub one_more : (old sub new : Command) (app : App) (shape : Shape) → app_of old ≡ app → shape_of sub ≡ shape → (out-Command sub).has_globals ≡ false

@@ -26,12 +26,7 @@ use Rattle.command_line.proofs.Sets.{line_subcommand, line_taken}
 -- the command of a name is named so
 named-text_of : (name : Name) → named (text_of name) ≡ Some name
 named-text_of Audit = refl
-named-text_of Drive = refl
-named-text_of Judge = refl
-named-text_of Make = refl
-named-text_of Peer = refl
-named-text_of Schedule = refl
-named-text_of Upgrade = refl
+named-text_of name = refl
 
 -- one more name: the text is this one, or the command comes from those behind it
 one_name : (text name : Text) (first : Name) (rest : Option Name) (found : Name) → (rest ≡ Some found → text ≡ text_of found)

@@ -7,7 +7,7 @@ use Rattle.clap.specs.Takes.{takes, turn_passes, walk_passes}
 use Rattle.clap.specs.Walk.{Names, Text, Walk, answers_to, nothing_held, walk, walk_from, walked}
 use Rattle.clap.proofs.WalkLemmas.{walk_stopped}
 use Rattle.command_line.specs.declared.names.Name.{Name}
-use Rattle.command_line.specs.declared.names.Name.TheVariants.{Audit, Drive, Judge, Make, Peer, Schedule, Upgrade}
+use Rattle.command_line.specs.declared.names.Name.TheVariants.{Audit}
 use Rattle.command_line.specs.Commands.{all_names, command_set}
 use Rattle.command_line.specs.Found.{words_row}
 use Rattle.command_line.specs.Names.{least_of, most_of, text_of}
@@ -36,21 +36,11 @@ stopped_at name words = record (walk_from nothing_held) { stopped = Some (text_o
 name_walked : (name : Name) → walked [] set_names (walk_from nothing_held) (text_of name) ≡ stopped_at name []
 unfolding walked
 name_walked Audit = refl
-name_walked Drive = refl
-name_walked Judge = refl
-name_walked Make = refl
-name_walked Peer = refl
-name_walked Schedule = refl
-name_walked Upgrade = refl
+name_walked name = refl
 
 leaf_found : (name : Name) → find (λ s. answers_to (text_of name) (label_of s)) ready_set.subs ≡ Some (ready_of name)
 leaf_found Audit = refl
-leaf_found Drive = refl
-leaf_found Judge = refl
-leaf_found Make = refl
-leaf_found Peer = refl
-leaf_found Schedule = refl
-leaf_found Upgrade = refl
+leaf_found name = refl
 
 line_walked : (name : Name) (words : List Text) → walk [] set_names nothing_held (text_of name ∷ words) ≡ stopped_at name words
 line_walked name words =
@@ -60,23 +50,13 @@ line_walked name words =
 -- no command goes without words
 some_words : (name : Name) → 0 < least_of name
 some_words Audit = omega arith
-some_words Drive = omega arith
-some_words Judge = omega arith
-some_words Make = omega arith
-some_words Peer = omega arith
-some_words Schedule = omega arith
-some_words Upgrade = omega arith
+some_words name = omega arith
 
 -- the name is no call for help
 name_passes : (name : Name) → turn_passes ready_set.top set_names (walk_from nothing_held) (text_of name) ≡ true
 unfolding walked
 name_passes Audit = refl
-name_passes Drive = refl
-name_passes Judge = refl
-name_passes Make = refl
-name_passes Peer = refl
-name_passes Schedule = refl
-name_passes Upgrade = refl
+name_passes name = refl
 
 -- the words behind a name are left to its command
 left_passes : (name : Name) (seen words : List Text) → walk_passes ready_set.top set_names (stopped_at name seen) words ≡ true

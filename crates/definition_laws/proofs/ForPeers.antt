@@ -344,10 +344,6 @@ flat_map_none : {X Y : Type 0} (f : X → List Y) (xs : List X) → ((x : X) →
 flat_map_none f [] h = refl
 flat_map_none f (x ∷ xs) h = rw (h x) (flat_map_none f xs h)
 
-filter_map_none : {X Y : Type 0} (f : X → Option Y) (xs : List X) → ((x : X) → f x ≡ None) → filter_map f xs ≡ []
-filter_map_none f [] h = refl
-filter_map_none f (x ∷ xs) h = rw (h x) (filter_map_none f xs h)
-
 -- logs that got no frame of a player have no finding of it
 no_finding_of : (game : Game) (q t : ℕ) (h : List Entry) (kind : Kind) → got_of q h ≡ [] → finding_at game (h ∷ []) q t kind ≡ None
 no_finding_of game q t h kind none =
@@ -359,7 +355,7 @@ unfolding is_clean findings findings_in
 clean_without_got game h none =
     ap (is_empty {X = Finding}) (flat_map_none (λ q. flat_map (λ t. filter_map (finding_at game (h ∷ []) q t) kinds) (range_with_len 0 game.turns)) (range_with_len 0 (players_of game))
     (λ q. flat_map_none (λ t. filter_map (finding_at game (h ∷ []) q t) kinds) (range_with_len 0 game.turns)
-    (λ t. filter_map_none (finding_at game (h ∷ []) q t) kinds (λ kind. no_finding_of game q t h kind (none q)))))
+    (λ t. λ i. filter_map (λ kind. no_finding_of game q t h kind (none q) i) kinds)))
 
 pub known_of_none : (game : Game) (q n : ℕ) → known_to game q [] n ≡ record { digests = []; moves = [] }
 unfolding known_to next_known

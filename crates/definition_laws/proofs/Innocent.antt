@@ -97,11 +97,9 @@ same_digests game os f g turn a b =
     let one : x.0 ≡ y.0 = cc in
     ap (digest_eq (digest_of game f)) (y.2 ∙ ap (commitment game.id) (sym one) ∙ sym x.2) ∙ digest_eq_same (digest_of game f)
 
-pub no_two_commits : (game : Game) (os : List Opening) (f g : TurnFrame) → turn_of f ≡ turn_of g → Conforms game os f → Conforms game os g → are_two_commits game f g ≡ false
-no_two_commits game os f g turn a b = let s = same_digests game os f g turn a b in grind (arith, s)
-
-pub no_bad_opening : (game : Game) (os : List Opening) (f g : TurnFrame) → turn_of f ≡ turn_of g → Conforms game os f → Conforms game os g → are_bad_opening game f g ≡ false
-no_bad_opening game os f g turn a b = let s = same_digests game os f g turn a b in grind (arith, s)
+no_unlike : (game : Game) (os : List Opening) (f g : TurnFrame) → turn_of f ≡ turn_of g → Conforms game os f → Conforms game os g →
+    (are_two_commits game f g ≡ false) × (are_bad_opening game f g ≡ false)
+no_unlike game os f g turn a b = let s = same_digests game os f g turn a b in (grind (arith, s), grind (arith, s))
 
 same_reveals : (game : Game) (os : List Opening) (f g : TurnFrame) → turn_of f ≡ turn_of g → Conforms game os f → Conforms game os g → (is_reveal f && is_reveal g) ≡ true → f ≡ g
 same_reveals game os (Commit p t d) g turn a b h = absurd (false≢true h)
@@ -243,8 +241,8 @@ innocent game q t os logs kind legal all =
     ap (option_map (finding_of q t kind)) (no_pair (show_kind game q t logs kind) (IsFine game os t) (never kind) (sightings q t 0 logs) (fine_among game q t 0 os logs all))
   where
     never : (k : Kind) (a b : Sighting) → IsFine game os t a → IsFine game os t b → show_kind game q t logs k a b ≡ false
-    never TwoCommits a b x y = no_two_commits game os a.frame b.frame (x.0 ∙ sym y.0) x.1 y.1
-    never BadOpening a b x y = no_bad_opening game os a.frame b.frame (x.0 ∙ sym y.0) x.1 y.1
+    never TwoCommits a b x y = (no_unlike game os a.frame b.frame (x.0 ∙ sym y.0) x.1 y.1).0
+    never BadOpening a b x y = (no_unlike game os a.frame b.frame (x.0 ∙ sym y.0) x.1 y.1).1
     never Collision a b x y = no_collision game os a.frame b.frame (x.0 ∙ sym y.0) x.1 y.1
     never Illegal a b x y =
         let there = no_illegal_pair game q t os logs a b legal all y in

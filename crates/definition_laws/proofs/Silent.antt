@@ -1,6 +1,6 @@
 -- Silent: an entry that got nothing changes no finding.
 use Rattle.std.proofs.Common.{Bool, List, None, Some, [], ap, refl, zero, suc, ℕ, ◌*◌, ◌++◌, ◌+◌, ◌∙◌, ◌∷◌, ◌≡◌, Option}
-use Rattle.std.specs.Prelude.{filter_map, find, flat_map, option_map, ◌&&◌, ◌==◌}
+use Rattle.std.specs.Prelude.{filter_map, flat_map, option_map, ◌&&◌, ◌==◌}
 use Rattle.std.specs.List.{range_with_len}
 use Rattle.definitions.specs.declared.world.Move.{Move}
 use Rattle.definitions.specs.declared.openings.Nonce.{Nonce}
@@ -40,22 +40,15 @@ kind_alike game q t g h BadOpening a b w = refl
 kind_alike game q t g h Collision a b w = refl
 kind_alike game q t g h Illegal a b w = rw (illegal_alike game q t g h a b w, illegal_alike game q t g h b a w) refl
 
-pub find_alike : {X : Type 0} (p p' : X → Bool) (xs : List X) → ((x : X) → p x ≡ p' x) → find p xs ≡ find p' xs
-find_alike p p' [] h = refl
-find_alike p p' (x ∷ xs) h = rw (h x, find_alike p p' xs h) refl
-
+-- the same of a list, by tests and by functions that give the same of each item
 pub pair_alike : {X : Type 0} (test test' : X → X → Bool) (xs : List X) → ((x y : X) → test x y ≡ test' x y) → first_pair test xs ≡ first_pair test' xs
-unfolding first_pair
-pair_alike test test' [] h = refl
-pair_alike test test' (x ∷ xs) h = rw (find_alike (test x) (test' x) xs (h x), pair_alike test test' xs h) refl
+pair_alike test test' xs h = λ i. first_pair (λ x y. h x y i) xs
 
 pub filter_map_alike : {X Y : Type 0} (f f' : X → Option Y) (xs : List X) → ((x : X) → f x ≡ f' x) → filter_map f xs ≡ filter_map f' xs
-filter_map_alike f f' [] h = refl
-filter_map_alike f f' (x ∷ xs) h = rw (h x, filter_map_alike f f' xs h) refl
+filter_map_alike f f' xs h = λ i. filter_map (λ x. h x i) xs
 
 pub flat_map_alike : {X Y : Type 0} (f f' : X → List Y) (xs : List X) → ((x : X) → f x ≡ f' x) → flat_map f xs ≡ flat_map f' xs
-flat_map_alike f f' [] h = refl
-flat_map_alike f f' (x ∷ xs) h = rw (h x, flat_map_alike f f' xs h) refl
+flat_map_alike f f' xs h = λ i. flat_map (λ x. h x i) xs
 
 finding_alike : (game : Game) (q t : ℕ) (g h : List Entry) (k : Kind) → GotAlike g h → finding_at game (g ∷ []) q t k ≡ finding_at game (h ∷ []) q t k
 unfolding finding_at sightings

@@ -13,7 +13,7 @@ use Rattle.definitions.specs.Findings.{is_clean}
 use Rattle.definitions.specs.Answers.{got_answer, place_of}
 use Rattle.definitions.specs.Steps.{after_choice, after_got}
 use Rattle.station.specs.Sinks.{SinkState, after_bytes}
-use Rattle.run_frame.specs.Frame.{Answer, Ends, after_text, bare_answer}
+use Rattle.run_frame.specs.Frame.{Answer, Ends, after_text, bare_answer, answer_by}
 use Rattle.line_io.specs.Inputs.{Fault, Input, Line, lines_then}
 use Rattle.line_io.specs.Lines.{StartsLonger}
 use Rattle.run_frame.specs.declared.statuses.Status.{Status}
@@ -27,7 +27,7 @@ use Rattle.definitions.specs.declared.limits.TheConstants.{LONGEST_LINE}
 use Rattle.definitions.specs.declared.limits.TheConstants.{MOST_LINES}
 use Rattle.drive_command.specs.Driven.{State, last_reader, state_with_log}
 use Rattle.drive_command.specs.Coming.{received_text, bytes_text, bytes_state}
-use Rattle.drive_command.specs.Drive.{answer_by, drive_from, going_on, said_behind, state_behind, text_behind}
+use Rattle.drive_command.specs.Drive.{drive_from, going_on, said_behind, state_behind, text_behind}
 use Rattle.report_lines.specs.Lines.{added_text, choice_text, got_text}
 use Rattle.drive_command.specs.Report.{end_text, log_text}
 use Rattle.peer_report.specs.Report.{own_score_text}

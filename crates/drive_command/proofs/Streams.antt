@@ -23,18 +23,15 @@ pieces : Game → (q n : ℕ) → List (List ℕ) → List (List ℕ)
 pieces game q n [] = []
 pieces game q n (line ∷ lines) = piece_of q (said_behind game n line) ++ pieces game q (n + 1) lines
 
-joined : List (List ℕ) → List ℕ
+-- and their bytes
+abbrev joined : List (List ℕ) → List ℕ
 joined ps = flat_map (λ (p : List ℕ). p) ps
 
-joined_append : (a b : List (List ℕ)) → joined (a ++ b) ≡ joined a ++ joined b
-unfolding joined
-joined_append a b = flat_map-append (λ (p : List ℕ). p) a b
-
 bytes_joined : (game : Game) (q n : ℕ) (lines : List (List ℕ)) → bytes_of game q n lines ≡ joined (pieces game q n lines)
-unfolding pieces joined
+unfolding pieces
 bytes_joined game q n [] = refl
 bytes_joined game q n (line ∷ lines) =
-    ap (λ (t : List ℕ). joined (piece_of q (said_behind game n line)) ++ t) (bytes_joined game q (n + 1) lines) ∙ sym (joined_append (piece_of q (said_behind game n line)) (pieces game q (n + 1) lines))
+    ap (λ (t : List ℕ). joined (piece_of q (said_behind game n line)) ++ t) (bytes_joined game q (n + 1) lines) ∙ sym (flat_map-append (λ (p : List ℕ). p) (piece_of q (said_behind game n line)) (pieces game q (n + 1) lines))
 
 -- one more piece behind others
 more_given : (r : Reading) (ps : List (List ℕ)) (bytes : List ℕ) → let g : Given = given_over r ps in let h : Given = given_of g.reader bytes in
@@ -95,7 +92,6 @@ lines_reader game me q s n (line ∷ lines) l k =
     sym (reader_more (reader_of s q) (piece_of q d) (pieces game q (n + 1) lines))
 
 pub gives_next : (game : Game) (me : ℕ) (first : List Entry) (lines : List (List ℕ)) (q : ℕ) (bytes : List ℕ) → q < READERS → GivesTheNext game me first lines q bytes
-unfolding joined
 gives_next game me first lines q bytes k =
     let s : State = state_from game me (fresh_state first) 0 lines in
     let ps = pieces game q 0 lines in
@@ -104,7 +100,7 @@ gives_next game me first lines q bytes k =
     let at : reader_of s q ≡ g.reader = lines_reader game me q (fresh_state first) 0 lines refl k ∙ ap (λ (r : Reading). (given_over r ps).reader) start in
     let before : stream_of (bytes_of game q 0 lines) ≡ seen_by g = ap stream_of (bytes_joined game q 0 lines) ∙ sym (pieces_same ps) in
     let all : bytes_of game q 0 lines ++ bytes ≡ joined (ps ++ bytes ∷ []) =
-    ap (λ (t : List ℕ). t ++ bytes) (bytes_joined game q 0 lines) ∙ ap (λ (t : List ℕ). joined ps ++ t) (sym (append-nil bytes)) ∙ sym (joined_append ps (bytes ∷ [])) in
+    ap (λ (t : List ℕ). t ++ bytes) (bytes_joined game q 0 lines) ∙ ap (λ (t : List ℕ). joined ps ++ t) (sym (append-nil bytes)) ∙ sym (flat_map-append (λ (p : List ℕ). p) ps (bytes ∷ [])) in
     let whole : stream_of (bytes_of game q 0 lines ++ bytes) ≡ seen_by (record { frames = g.frames ++ (given_of g.reader bytes).frames; reader = (given_of g.reader bytes).reader }) =
     ap stream_of all ∙ sym (pieces_same (ps ++ bytes ∷ [])) ∙ ap seen_by (more_given at_start ps bytes) in
     record {

@@ -20,7 +20,7 @@ use Rattle.run_frame.specs.declared.statuses.Status.TheVariants.{Caught}
 use Rattle.std.proofs.lemmas.List.{drop_all}
 use Rattle.std.proofs.Math.Seq.{drop-append_seam}
 use Rattle.drive_command.proofs.Choices.{Extends, extends_advance, extends_by}
-use Rattle.run_frame.specs.Frame.{Answer}
+use Rattle.run_frame.specs.Frame.{Answer, answer_by}
 use Rattle.line_io.specs.Inputs.{End, Fault, Input, Line, lines_in}
 use Rattle.wire_frames.specs.declared.frames.Frame.{Frame}
 use Rattle.wire_frames.specs.declared.frames.Frame.TheVariants.{Hello, Turn, Want}
@@ -31,7 +31,7 @@ use Rattle.script_grammar.specs.declared.grammar.DriveLine.TheVariants as D
 use Rattle.script_grammar.specs.Grammar.{is_bad}
 use Rattle.drive_command.specs.Driven.{State, fresh_state, reader_of}
 use Rattle.drive_command.specs.Coming.{bad_byte_text, bytes_state, bytes_text, coming_text, log_behind_frame, log_on, log_through, received_text, text_on, text_through}
-use Rattle.drive_command.specs.Drive.{answer_by, drive, drive_from, drive_log, going_on, log_by, log_from, said_behind, start_text, state_behind, text_behind}
+use Rattle.drive_command.specs.Drive.{drive, drive_from, drive_log, going_on, log_by, log_from, said_behind, start_text, state_behind, text_behind}
 use Rattle.report_lines.specs.Lines.{added_text, bad_text, choice_text, entry_report, found_text, got_text, made_text}
 use Rattle.peer_core.proofs.Answering.{logged_is}
 use Rattle.peer_core.proofs.Stepped.{choice_taken, choice_refused}

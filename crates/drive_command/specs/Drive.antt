@@ -10,7 +10,7 @@ use Rattle.definitions.specs.Steps.{after_choice, after_got}
 use Rattle.run_frame.specs.declared.statuses.Status.{Status}
 use Rattle.run_frame.specs.declared.statuses.Status.TheVariants.{Done, InputFault, Caught, BadLine}
 use Rattle.run_frame.specs.declared.statuses.TextName.TheVariants.{Script}
-use Rattle.run_frame.specs.Frame.{Answer, after_text, bare_answer}
+use Rattle.run_frame.specs.Frame.{Answer, after_text, answer_by, bare_answer}
 use Rattle.line_io.specs.Inputs.{Input, Line, End, Fault, Ending, AtEnd, AtFault, lines_in}
 use Rattle.script_grammar.specs.declared.grammar.DriveLine.{DriveLine}
 use Rattle.script_grammar.specs.declared.grammar.DriveLine.TheVariants.{Nothing, Choose, Got, Bytes, Log, Score, Bad}
@@ -50,11 +50,6 @@ text_behind game me s (Bytes q bytes) = bytes_text game me s q bytes
 text_behind game me s Log = log_text game me s.log
 text_behind game me s Score = own_score_text game me s.log
 text_behind game me s Bad = []
-
--- the answer from the line on that is the n-th: a line outside the grammar ends the run; else what is written about the line
--- stands before the rest
-abbrev pub answer_by : (bad : Bool) → (n : ℕ) → (text : List ℕ) → (rest : Answer) → Answer
-answer_by bad n text rest = if bad then bare_answer (BadLine Script n) else after_text text rest
 
 -- the answer from a log on: where it has a finding the run comes to its end, and otherwise it is this one
 abbrev pub going_on : Game → ℕ → List Entry → Answer → Answer

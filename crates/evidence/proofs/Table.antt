@@ -44,10 +44,6 @@ spelled : exhibit_text two_commits ≡ text
 unfolding exhibit_text digits encode_with frame_bytes
 spelled = refl
 
-read : exhibit_at text ≡ Ok two_commits
-unfolding exhibit_at said_by ended_lines_of head_at frames_at frame_at frame_said one_of field_at decode_pairs turn_frame_of
-read = refl
-
 -- a text, and its first line at fault
 record Row : Type 0 where
   text : List ℕ
@@ -89,9 +85,10 @@ table =
     row head first "\n" "end\n" (Some (At 6)) ∷
     []
 
-refused : map (λ r. exhibit_fault r.text) table ≡ map (λ r. r.fault) table
+-- the text is read, and of each one in the table the first line at fault is told
+read : (exhibit_at text ≡ Ok two_commits) × (map (λ r. exhibit_fault r.text) table ≡ map (λ r. r.fault) table)
 unfolding exhibit_at said_by ended_lines_of head_at frames_at frame_at frame_said one_of field_at decode_pairs turn_frame_of
-refused = refl
+read = (refl, refl)
 
 -- ---- what frames show
 

@@ -27,7 +27,7 @@ pub wall_outside : (grid : Ground) (c : Cell) → IsGrid grid → is_inside grid
 wall_outside grid c facts outside = let h = wall_inside grid c facts in grind arith
 
 -- what holds of each item holds of the one at a place
-each_at : {X : Type 0} (P : X → Type 0) (xs : List X) (d : X) (i : ℕ) → EachIs P xs → i < length xs → P (item_or xs i d)
+pub each_at : {X : Type 0} (P : X → Type 0) (xs : List X) (d : X) (i : ℕ) → EachIs P xs → i < length xs → P (item_or xs i d)
 each_at P [] d i each lt = absurd (omega arith)
 each_at P (x ∷ xs) d zero each lt = each.0
 each_at P (x ∷ xs) d (suc i) each lt = each_at P xs d i each.1 (omega arith)

@@ -1,6 +1,6 @@
 -- The walls of a grid as rows of bits: what setting one more bit does.
-use Rattle.std.proofs.Common.{◌≡◌, ℕ, ◌+◌, ◌*◌, ◌/◌, ◌%◌, ◌^◌, ◌<◌, Bool, true, false, List, [], ◌∷◌, ◌++◌, length, get_or, take, refl, sym, ap, ◌∙◌, arith, inl, inr}
-use Rattle.std.specs.Prelude.{◌||◌, ◌==◌, zero, suc, nat_lt, bit_or, IsTrue}
+use Rattle.std.proofs.Common.{◌≡◌, ℕ, ◌+◌, ◌*◌, ◌/◌, ◌%◌, ◌^◌, ◌<◌, Bool, true, false, List, [], ◌∷◌, ◌++◌, length, get_or, take, refl, sym, ap, subst, ◌∙◌, arith, inl, inr}
+use Rattle.std.specs.Prelude.{◌||◌, ◌==◌, nat_lt, bit_or, IsTrue}
 use Rattle.std.specs.Int.{bit_at, w64}
 use Rattle.std.proofs.Math.ListN.{set, length-set}
 use Rattle.std.proofs.lemmas.Bool.{cases_eq, cases_Bool, eq-eqb, or_right, and_parts, and_from, ltb-true}
@@ -12,7 +12,9 @@ use Rattle.definitions.specs.declared.world.Cell.{Cell}
 use Rattle.definitions.specs.Lists.{EachIs}
 use Rattle.definitions.specs.World.{Ground, cell_eq, has_cell, is_inside}
 use Rattle.definitions.proofs.Cells.{cell_eq-true, has-append}
+use Rattle.definitions.proofs.Items.{item_is}
 use Rattle.grid_world.specs.Grids.{AreRowsOf, words_of}
+use Rattle.grid_world.proofs.Facts.{each_at}
 
 abbrev cell_at : ℕ → ℕ → Cell
 cell_at x y = record { x = x; y = y }
@@ -100,11 +102,6 @@ rows_more width height walls i e c rows k v d lt is inside k_is v_is before =
           ∙ sym (has_one_more walls i e c (cell_at x y) lt is);
     }
 
--- what holds of each cell holds of the one at a place
-each_get : (P : Cell → Type 0) (xs : List Cell) (i : ℕ) (d : Cell) → EachIs P xs → i < length xs → P (get_or xs i d)
-each_get P [] i d each lt = absurd (omega arith)
-each_get P (x ∷ xs) zero d each lt = each.0
-each_get P (x ∷ xs) (suc i) d each lt = each_get P xs i d each.1 (omega arith)
-
 pub inside_at : (grid : Ground) (xs : List Cell) (i : ℕ) (d : Cell) → EachIs (λ c. IsTrue (is_inside grid c)) xs → i < length xs → is_inside grid (get_or xs i d) ≡ true
-inside_at grid xs i d each lt = each_get (λ c. IsTrue (is_inside grid c)) xs i d each lt
+inside_at grid xs i d each lt =
+    subst (λ (c : Cell). IsTrue (is_inside grid c)) (sym (item_is xs i d)) (each_at (λ c. IsTrue (is_inside grid c)) xs d i each lt)

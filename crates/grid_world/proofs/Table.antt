@@ -41,17 +41,13 @@ apart = seat 0 1 1 ∷ seat 9 2 0 ∷ []
 abbrev IsSpelled : Game → String → Type 0
 IsSpelled g text = (session_text g ≡ codes text) × (said_by (ended_lines_of (codes text)) ≡ Ok (said_of g))
 
-of_version_1 : IsSpelled (game 1 1 alike) "playout 1\ngrid 12 1\nrules 1 1 0\ncharge 1 2 1\nturns 8\nplayers 2\nplayer 0 0 0\nplayer 1 9 0\nend\n"
+-- of version 1, of version 2, and with players that differ
+spelled :
+    IsSpelled (game 1 1 alike) "playout 1\ngrid 12 1\nrules 1 1 0\ncharge 1 2 1\nturns 8\nplayers 2\nplayer 0 0 0\nplayer 1 9 0\nend\n" ×
+    IsSpelled (game 2 2 alike) "playout 2\ngrid 12 1\nrules 1 1 0\ncharge 1 2 1\nturns 8\nahead 2\nplayers 2\nplayer 0 0 0\nplayer 1 9 0\nend\n" ×
+    IsSpelled (game 2 1 apart) "playout 2\ngrid 12 1\nrules 1 1 0\ncharge 1 2 1\nturns 8\nahead 1\nplayers 2\nplayer 0 0 0\nplayer 1 9 0 2 0\nend\n"
 unfolding session_text digits said_by ended_lines_of head_at version_at sides_at steps_at charges_at turns_at ahead_at players_at seats_at seat_at walls_at wall_at one_of two_of three_of three_or_five_of field_at
-of_version_1 = (refl, refl)
-
-of_version_2 : IsSpelled (game 2 2 alike) "playout 2\ngrid 12 1\nrules 1 1 0\ncharge 1 2 1\nturns 8\nahead 2\nplayers 2\nplayer 0 0 0\nplayer 1 9 0\nend\n"
-unfolding session_text digits said_by ended_lines_of head_at version_at sides_at steps_at charges_at turns_at ahead_at players_at seats_at seat_at walls_at wall_at one_of two_of three_of three_or_five_of field_at
-of_version_2 = (refl, refl)
-
-players_that_differ : IsSpelled (game 2 1 apart) "playout 2\ngrid 12 1\nrules 1 1 0\ncharge 1 2 1\nturns 8\nahead 1\nplayers 2\nplayer 0 0 0\nplayer 1 9 0 2 0\nend\n"
-unfolding session_text digits said_by ended_lines_of head_at version_at sides_at steps_at charges_at turns_at ahead_at players_at seats_at seat_at walls_at wall_at one_of two_of three_of three_or_five_of field_at
-players_that_differ = (refl, refl)
+spelled = ((refl, refl), (refl, refl), (refl, refl))
 
 -- the session of the first text as one of version 2
 made_later : session_text (upgraded (game 1 1 alike)) ≡ codes "playout 2\ngrid 12 1\nrules 1 1 0\ncharge 1 2 1\nturns 8\nahead 1\nplayers 2\nplayer 0 0 0\nplayer 1 9 0\nend\n"
@@ -121,10 +117,6 @@ table =
     row "playout 1\ngrid 12 1\nrules 1 1 0\n" "charge 1 2 0\nturns 8\nplayers 2\n" "player 0 0 0\nplayer 1 0 0\nend\n" None ∷
     []
 
-refused : map (λ r. session_fault r.text) table ≡ map (λ r. r.fault) table
-unfolding session_fault said_by ended_lines_of head_at version_at sides_at steps_at charges_at turns_at ahead_at players_at seats_at seat_at walls_at wall_at one_of two_of three_of three_or_five_of field_at
-refused = refl
-
 -- texts of version 2
 abbrev later_table : List Row
 later_table =
@@ -172,6 +164,7 @@ later_table =
     row "playout 2\ngrid 12 1\nrules 1 1 0\n" "charge 1 2 1\nturns 8192\nahead 1\nplayers 65\n" "" (Some (At 7 S7)) ∷
     []
 
-refused_later : map (λ r. session_fault r.text) later_table ≡ map (λ r. r.fault) later_table
+-- of each text the first line at fault is told
+refused : (map (λ r. session_fault r.text) table ≡ map (λ r. r.fault) table) × (map (λ r. session_fault r.text) later_table ≡ map (λ r. r.fault) later_table)
 unfolding session_fault said_by ended_lines_of head_at version_at sides_at steps_at charges_at turns_at ahead_at players_at seats_at seat_at walls_at wall_at one_of two_of three_of three_or_five_of field_at
-refused_later = refl
+refused = (refl, refl)

@@ -6,6 +6,5 @@ pub mod Runs
 pub mod Fair
 pub mod Owners
 pub mod Kept
-pub mod Links
 pub mod Storing
 pub mod Convicting

@@ -2,12 +2,14 @@
 use Rattle.std.proofs.Common.{◌≡◌, ◌⊎◌, inl, inr, ℕ, zero, suc, ◌+◌, ◌-◌, ◌<◌, ◌≤◌, Bool, true, false, List, [], ◌∷◌, ◌++◌, Option, None, Some, length, map, drop, take, refl, sym, ◌∙◌, ap, subst, append_assoc, append-nil, length-append, arith}
 use Rattle.std.specs.Prelude.{option_map, slice_index_or}
 use Rattle.std.proofs.lemmas.List.{take_all}
+use Rattle.std.proofs.Math.ListN.{get_or-map}
 use Rattle.std.specs.Option.{option_or}
 use Rattle.std.proofs.lemmas.Bool.{cases_lt}
 use Rattle.definitions.specs.declared.logs.Entry.{Entry}
 use Rattle.definitions.specs.declared.logs.LogWhy.{LogWhy}
 use Rattle.definitions.specs.Lists.{item_or}
 use Rattle.definitions.specs.World.{Game}
+use Rattle.definitions.proofs.Items.{item_is}
 use Rattle.station.specs.Outside.{faults_behind}
 use Rattle.station.specs.Pieces.{AllGive, Piece}
 use Rattle.station.specs.Shelves.{ShelfState}
@@ -72,9 +74,7 @@ none_readings files [] = refl
 none_readings files (name ∷ names) = (tt, none_shown files name, none_readings files names)
 
 pub none_at : (names : List (List ℕ)) (i : ℕ) → item_or (none_read names) i [] ≡ []
-none_at [] i = refl
-none_at (name ∷ names) zero = refl
-none_at (name ∷ names) (suc i) = none_at names i
+none_at names i = sym (item_is (none_read names) i []) ∙ get_or-map (λ name. []) names i []
 
 -- the contents behind the first give what the calls behind the first were answered
 pub behind_are : (files : Contents) (pieces : List Piece) (calls : Calls) → AreContents files (pieces ∷ calls) → AreContents (behind_first files) calls

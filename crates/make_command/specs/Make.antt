@@ -1,7 +1,7 @@
 -- Make: the answer to the command, and why it ends as it does.
 use Rattle.std.specs.Prelude.{ℕ, ◌+◌, List, [], ◌∷◌, ◌++◌, codes, decimal}
 use Rattle.auditor.specs.declared.world.WorldLine.{WorldLine}
-use Rattle.report_lines.specs.Lines.{end_line_text}
+use Rattle.report_lines.specs.Lines.{end_line_text, world_line_text}
 use Rattle.run_frame.specs.Frame.{Answer}
 use Rattle.run_frame.specs.declared.statuses.Status.{Status}
 use Rattle.run_frame.specs.declared.statuses.Status.TheVariants.{Done, NoMemory, OutputFault}
@@ -14,10 +14,8 @@ head_text s =
     codes "players 8 turns 200\nchosen " ++ decimal s.chosen ++ codes "\ndelivered " ++ decimal s.delivered ++ codes "\nlost " ++ decimal s.lost ++ codes "\nrepeated " ++ decimal s.repeated ++ codes "\nfindings " ++ decimal s.findings ++ codes "\n"
 
 -- of a player: where it stands behind the last turn, with which charge, and the hits that it gave and took
-unfoldable pub player_line : (q : ℕ) → WorldLine → List ℕ
-player_line q line =
-    codes "world " ++ decimal q ++ codes " at " ++ decimal line.track.at.x ++ codes " " ++ decimal line.track.at.y ++ codes " charge " ++
-    decimal line.track.charge ++ codes " given " ++ decimal line.score.given ++ codes " taken " ++ decimal line.score.taken ++ codes "\n"
+abbrev pub player_line : (q : ℕ) → WorldLine → List ℕ
+player_line q line = world_line_text q line.track line.score.given line.score.taken
 
 -- of the players from q on
 abbrev pub player_lines : (q : ℕ) → List WorldLine → List ℕ

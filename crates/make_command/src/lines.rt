@@ -5,18 +5,10 @@ ghost use Rattle.make_command.specs.Make as M;
 
 use crate::summary::Summary;
 use arrayvec::ArrayVec;
-use auditor::WorldLine;
-use definitions::PlayerId;
 use itoa::Buffer;
-
-/// Room for a line, which has at most 78 bytes.
-const LINE_ROOM: usize = 128;
 
 /// Room for the lines before those of the players, which have at most 114 bytes.
 const HEAD_ROOM: usize = 128;
-
-/// A line.
-pub(crate) type MatchLine = ArrayVec<u8, LINE_ROOM>;
 
 /// The first lines.
 pub(crate) type HeadLines = ArrayVec<u8, HEAD_ROOM>;
@@ -51,32 +43,4 @@ pub(crate) fn head_lines(summary: &Summary) -> HeadLines
         .unwrap();
     lines.push(b'\n');
     lines
-}
-
-/// The line of a player: where it stands, with which charge, and the hits that it gave and took.
-#[tactic(auto, unfolding(crate::specs::Make::player_line))]
-pub(crate) fn player_line(player: PlayerId, told: &WorldLine) -> MatchLine
-    ensures { result.items ≡ M.player_line player told.now }
-{
-    let mut line = ArrayVec::new();
-    line.try_extend_from_slice(b"world ").unwrap();
-    line.try_extend_from_slice(Buffer::new().format(player).as_bytes())
-        .unwrap();
-    line.try_extend_from_slice(b" at ").unwrap();
-    line.try_extend_from_slice(Buffer::new().format(told.track.at.x).as_bytes())
-        .unwrap();
-    line.push(b' ');
-    line.try_extend_from_slice(Buffer::new().format(told.track.at.y).as_bytes())
-        .unwrap();
-    line.try_extend_from_slice(b" charge ").unwrap();
-    line.try_extend_from_slice(Buffer::new().format(told.track.charge).as_bytes())
-        .unwrap();
-    line.try_extend_from_slice(b" given ").unwrap();
-    line.try_extend_from_slice(Buffer::new().format(told.score.given).as_bytes())
-        .unwrap();
-    line.try_extend_from_slice(b" taken ").unwrap();
-    line.try_extend_from_slice(Buffer::new().format(told.score.taken).as_bytes())
-        .unwrap();
-    line.push(b'\n');
-    line
 }

@@ -6,11 +6,11 @@ ghost use Rattle.run_frame.specs.Frame.{Ran};
 ghost use Rattle.make_command.specs.Make as M;
 ghost use Rattle.make_command.specs.Make.{make_answer};
 
-use crate::lines::{head_lines, player_line};
+use crate::lines::head_lines;
 use crate::summary::{Summary, make_match};
 use auditor::WorldLine;
 use line_io::{Written, put};
-use report_lines::end_line;
+use report_lines::{end_line, world_line};
 use run_frame::Status;
 use station::Sink;
 use std::alloc::Global;
@@ -22,7 +22,10 @@ fn put_players<O: Sink>(lines: &[WorldLine], out: &mut O) -> Written
 {
     let mut player = 0u8;
     'lines: for line in lines {
-        match put(out, player_line(player, line).as_slice()) {
+        match put(
+            out,
+            world_line(player, line.track, line.score.given, line.score.taken).as_slice(),
+        ) {
             Written::All => player += 1,
             Written::Failed => return Written::Failed,
         }

@@ -1,5 +1,5 @@
 -- What a poll lists and opens.
-use Rattle.std.proofs.Common.{zero, suc, ◌<◌, ◌≤◌, Bool, true, false, ◌≡◌, ℕ, ◌+◌, ◌==◌, List, [], ◌∷◌, ◌++◌, Option, Some, None, length, take, map, refl, sym, ap, subst, ◌∙◌, arith, if◌then◌else◌}
+use Rattle.std.proofs.Common.{zero, suc, ◌<◌, ◌≤◌, Bool, true, false, ◌≡◌, ℕ, ◌+◌, ◌==◌, List, [], ◌∷◌, ◌++◌, Option, Some, None, take, map, refl, sym, ap, subst, ◌∙◌, arith, if◌then◌else◌}
 use Rattle.std.specs.Prelude.{option_to_list}
 use Rattle.std.specs.List.{filter_map}
 use Rattle.std.proofs.lemmas.Bool.Decides.{nat_tests}
@@ -12,7 +12,7 @@ use Rattle.socket_station.specs.Standings.{opens, AreNew}
 use Rattle.memory_station.specs.declared.rows.Row.{Row}
 use Rattle.memory_station.specs.declared.rows.Piece.{Piece}
 use Rattle.memory_station.specs.HeldRows.{uncounted, HeldRow, row_in, polled, ready_in, ready_as, is_wanted, listing}
-use Rattle.memory_station.specs.Rows.{row_uncounted, held_row, polled_row, AreSound, AreNumbered}
+use Rattle.memory_station.specs.Rows.{row_uncounted, held_row, polled_row, AreSound, AreNumbered, CountFrom}
 use Rattle.memory_station.proofs.Tables.{same, differ}
 
 -- a full list stays as it is
@@ -41,26 +41,19 @@ pub map-polled : (ps : List Piece) (list : List Ready) (rows : List Row) → map
 map-polled ps list [] = refl
 map-polled ps list (l ∷ rows) = ap (λ r. polled list (held_row ps l) ∷ r) (map-polled ps list rows)
 
-pub AreNumbered-polled : (list : List Ready) (b : ℕ) (rows : List Row) → AreNumbered b rows → AreNumbered b (map (polled_row list) rows)
-AreNumbered-polled list b [] h = tt
-AreNumbered-polled list b (l ∷ rows) h = (h.0, AreNumbered-polled list (b + 1) rows h.1)
+-- what is made of each row has its number
+pub counted-map : {X Y : Type 0} (number : X → ℕ) (number' : Y → ℕ) (f : X → Y) → ((x : X) → number' (f x) ≡ number x) → (b : ℕ) (xs : List X) → CountFrom number b xs →
+    CountFrom number' b (map f xs)
+counted-map number number' f same b [] h = tt
+counted-map number number' f same b (x ∷ xs) h = (same x ∙ h.0, counted-map number number' f same (b + 1) xs h.1)
 
 pub AreSound-polled : (ps : List Piece) (list : List Ready) (rows : List Row) → AreSound ps rows → AreSound ps (map (polled_row list) rows)
 AreSound-polled ps list [] h = tt
 AreSound-polled ps list (l ∷ rows) h = (record { from = h.0.from; inside = h.0.inside }, AreSound-polled ps list rows h.1)
 
-pub length-polled : (list : List Ready) (rows : List Row) → length (map (polled_row list) rows) ≡ length rows
-length-polled list [] = refl
-length-polled list (l ∷ rows) = let r = length-polled list rows in omega (arith, r)
-
 -- the seen rows have the numbers from this one on
 abbrev pub Numbered : ℕ → List HeldRow → Type 0
-Numbered b [] = Unit {0}
-Numbered b (l ∷ rows) = (l.number ≡ b) × Numbered (b + 1) rows
-
-Numbered-held : (ps : List Piece) (b : ℕ) (rows : List Row) → AreNumbered b rows → Numbered b (map (held_row ps) rows)
-Numbered-held ps b [] h = tt
-Numbered-held ps b (l ∷ rows) h = (h.0, Numbered-held ps (b + 1) rows h.1)
+Numbered b rows = CountFrom (λ (l : HeldRow). l.number) b rows
 
 opens-nothing : (k n : ℕ) → opens (take k []) n ≡ false
 opens-nothing zero n = refl
@@ -125,7 +118,7 @@ are-new old b k (l ∷ rows) h a =
 
 pub AreNew-listing : (ps : List Piece) (rows : List Row) → AreNumbered 0 rows → AreNew (λ n. (row_in (map (held_row ps) rows) n).standing) (listing (map (held_row ps) rows))
 AreNew-listing ps rows h =
-    let n = Numbered-held ps 0 rows h in
+    let n = counted-map (λ (l : Row). l.number) (λ (l : HeldRow). l.number) (held_row ps) (λ l. refl) 0 rows h in
     are-new (λ n. (row_in (map (held_row ps) rows) n).standing) 0 64 (map (held_row ps) rows) n (agrees-all (λ n. (row_in (map (held_row ps) rows) n).standing) 0 (map (held_row ps) rows) n (λ n i. refl))
 
 -- what is not opened stays
@@ -175,14 +168,6 @@ pub map-uncounted : (ps : List Piece) (rows : List Row) → map (held_row ps) (m
 map-uncounted ps [] = refl
 map-uncounted ps (l ∷ rows) = ap (λ r. uncounted (held_row ps l) ∷ r) (map-uncounted ps rows)
 
-pub AreNumbered-uncounted : (b : ℕ) (rows : List Row) → AreNumbered b rows → AreNumbered b (map row_uncounted rows)
-AreNumbered-uncounted b [] h = tt
-AreNumbered-uncounted b (l ∷ rows) h = (h.0, AreNumbered-uncounted (b + 1) rows h.1)
-
 pub AreSound-uncounted : (ps : List Piece) (rows : List Row) → AreSound ps rows → AreSound ps (map row_uncounted rows)
 AreSound-uncounted ps [] h = tt
 AreSound-uncounted ps (l ∷ rows) h = (record { from = h.0.from; inside = h.0.inside }, AreSound-uncounted ps rows h.1)
-
-pub length-uncounted : (rows : List Row) → length (map row_uncounted rows) ≡ length rows
-length-uncounted [] = refl
-length-uncounted (l ∷ rows) = let r = length-uncounted rows in omega (arith, r)

@@ -65,10 +65,14 @@ abbrev pub AreSound : List Piece → List Row → Type 0
 AreSound pieces [] = Unit {0}
 AreSound pieces (row ∷ rows) = IsRowSound pieces row × AreSound pieces rows
 
--- The rows have the numbers from this one on.
+-- These have the numbers from this one on, by what says the number of each.
+abbrev pub CountFrom : {X : Type 0} → (X → ℕ) → ℕ → List X → Type 0
+CountFrom number n [] = Unit {0}
+CountFrom number n (x ∷ xs) = (number x ≡ n) × CountFrom number (n + 1) xs
+
+-- So the rows do.
 abbrev pub AreNumbered : ℕ → List Row → Type 0
-AreNumbered n [] = Unit {0}
-AreNumbered n (row ∷ rows) = (row.number ≡ n) × AreNumbered (n + 1) rows
+AreNumbered n rows = CountFrom (λ (row : Row). row.number) n rows
 
 pub record IsSound (b : Inside) : Type 0 where
   pub numbered : AreNumbered 0 b.rows.items

@@ -53,21 +53,16 @@ poll_new items l list w n = new_list items l.table.lines list n (subst (IsTold i
 
 -- ---- what is shown behind it
 
-listed_waits : (t : Table) (list : List Ready) → (fold listed t list).waiting ≡ t.waiting
-listed_waits t [] = refl
-listed_waits t (Opened s ∷ list) = listed_waits (listed t (Opened s)) list
-listed_waits t (Seems s ∷ list) = listed_waits (listed t (Seems s)) list
-
-listed_seats : (t : Table) (list : List Ready) → (fold listed t list).seats ≡ t.seats
-listed_seats t [] = refl
-listed_seats t (Opened s ∷ list) = listed_seats (listed t (Opened s)) list
-listed_seats t (Seems s ∷ list) = listed_seats (listed t (Seems s)) list
+listed_leaves : (t : Table) (list : List Ready) → ((fold listed t list).waiting ≡ t.waiting) × ((fold listed t list).seats ≡ t.seats)
+listed_leaves t [] = (refl, refl)
+listed_leaves t (Opened s ∷ list) = listed_leaves (listed t (Opened s)) list
+listed_leaves t (Seems s ∷ list) = listed_leaves (listed t (Seems s)) list
 
 pub polled_waits : (t : Table) (list : List Ready) → (polled_on list t).waiting ≡ t.waiting
-polled_waits t list = listed_waits (rested t) list
+polled_waits t list = (listed_leaves (rested t) list).0
 
 pub polled_seats : (t : Table) (list : List Ready) → (polled_on list t).seats ≡ map rests t.seats
-polled_seats t list = listed_seats (rested t) list
+polled_seats t list = (listed_leaves (rested t) list).1
 
 rests_fit : (game : Game) (me : ℕ) (cs : List Seat) → EachIs (IsOthers game me) cs → EachIs (IsOthers game me) (map rests cs)
 rests_fit game me [] e = tt

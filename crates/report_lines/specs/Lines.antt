@@ -108,6 +108,12 @@ needs_text (n ∷ ns) = need_text n ++ flat_map need_text ns
 unfoldable pub score_text : (turns given taken : ℕ) → List ℕ
 score_text turns given taken = codes "score turns " ++ decimal turns ++ codes " given " ++ decimal given ++ codes " taken " ++ decimal taken ++ codes "\n"
 
+-- what is written about a player when all turns are over: where it stands, with which charge, and the hits that it gave and took
+unfoldable pub world_line_text : (q : ℕ) → Track → (gave took : ℕ) → List ℕ
+world_line_text q track gave took =
+    codes "world " ++ decimal q ++ codes " at " ++ decimal track.at.x ++ codes " " ++ decimal track.at.y ++ codes " charge " ++
+    decimal track.charge ++ codes " given " ++ decimal gave ++ codes " taken " ++ decimal took ++ codes "\n"
+
 -- what is written about the byte from which on a log is dropped
 unfoldable pub dropped_line : ℕ → List ℕ
 dropped_line at = codes "dropped " ++ decimal at ++ codes "\n"

@@ -135,8 +135,8 @@ pub fn got_line(from: PlayerId, place: u64, answer: &GotAnswer) -> ReportLine
     }
 }
 
-/// The word for one of a turn's two frames.
-fn name_of_what(what: What) -> &'static [u8]
+/// The word for one of a turn's two frames, and a space.
+pub fn name_of_what(what: What) -> &'static [u8]
     ensures { result.now ≡ L.what_name what }
 {
     match what {
@@ -286,6 +286,35 @@ pub fn score_line(turns: u32, given: u32, taken: u32) -> ReportLine
         .unwrap();
     line.try_extend_from_slice(b" taken ").unwrap();
     line.try_extend_from_slice(Buffer::new().format(taken).as_bytes())
+        .unwrap();
+    line.push(b'\n');
+    line
+}
+
+/// What is written about a player when all turns are over: its track after the last one, and the hits that it gave and took in all of
+/// them.
+#[tactic(auto, unfolding(crate::specs::Lines::world_line_text))]
+pub fn world_line(player: PlayerId, track: Track, gave: u32, took: u32) -> ReportLine
+    ensures { result.items ≡ L.world_line_text player track gave took }
+{
+    let mut line = ArrayVec::new();
+    line.try_extend_from_slice(b"world ").unwrap();
+    line.try_extend_from_slice(Buffer::new().format(player).as_bytes())
+        .unwrap();
+    line.try_extend_from_slice(b" at ").unwrap();
+    line.try_extend_from_slice(Buffer::new().format(track.at.x).as_bytes())
+        .unwrap();
+    line.push(b' ');
+    line.try_extend_from_slice(Buffer::new().format(track.at.y).as_bytes())
+        .unwrap();
+    line.try_extend_from_slice(b" charge ").unwrap();
+    line.try_extend_from_slice(Buffer::new().format(track.charge).as_bytes())
+        .unwrap();
+    line.try_extend_from_slice(b" given ").unwrap();
+    line.try_extend_from_slice(Buffer::new().format(gave).as_bytes())
+        .unwrap();
+    line.try_extend_from_slice(b" taken ").unwrap();
+    line.try_extend_from_slice(Buffer::new().format(took).as_bytes())
         .unwrap();
     line.push(b'\n');
     line

@@ -1,9 +1,10 @@
 -- The frame of every command: what is to be written and how it is to end, and what a run makes of that.
-use Rattle.std.specs.Prelude.{◌≡◌, ◌⊎◌, ℕ, Bool, true, false, List, [], ◌++◌}
+use Rattle.std.specs.Prelude.{◌≡◌, ◌⊎◌, ℕ, Bool, true, false, List, [], ◌++◌, if◌then◌else◌}
 use Rattle.station.specs.Sinks.{SinkState, after_bytes}
 use Rattle.line_io.specs.Texts.{CutShort, Underway}
 use Rattle.run_frame.specs.declared.statuses.Status.{Status}
-use Rattle.run_frame.specs.declared.statuses.Status.TheVariants.{Done, NoMemory, InputFault, OutputFault}
+use Rattle.run_frame.specs.declared.statuses.Status.TheVariants.{Done, NoMemory, InputFault, OutputFault, BadLine}
+use Rattle.run_frame.specs.declared.statuses.TextName.TheVariants.{Script}
 
 -- What a command writes and how it ends, where the sink and the shelf don't fail and memory suffices. The line of a refusal is
 -- no part of the body.
@@ -18,6 +19,11 @@ after_text text answer = record { body = text ++ answer.body; status = answer.st
 -- the answer that is this status alone
 abbrev pub bare_answer : Status → Answer
 bare_answer status = record { body = []; status = status }
+
+-- Of a command that reads a script, the answer from the line on that is the n-th: a line outside the grammar ends the run; else what is
+-- written about the line stands before the rest.
+abbrev pub answer_by : (bad : Bool) → (n : ℕ) → (text : List ℕ) → (rest : Answer) → Answer
+answer_by bad n text rest = if bad then bare_answer (BadLine Script n) else after_text text rest
 
 -- A run goes on: some of what was due was written, and the rest is still due.
 pub record Onward (before now : SinkState) (due rest : Answer) : Type 0 where

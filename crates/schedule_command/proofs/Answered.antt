@@ -3,7 +3,7 @@ use Rattle.std.proofs.Common.{◌≡◌, ◌+◌, ℕ, Bool, true, false, List, 
 use Rattle.station.specs.Sinks.{SinkState, after_bytes}
 use Rattle.line_io.specs.Inputs.{Input, Line}
 use Rattle.line_io.specs.Texts.{CutShort}
-use Rattle.run_frame.specs.Frame.{Answer, Onward, after_text, bare_answer}
+use Rattle.run_frame.specs.Frame.{Answer, Onward, after_text, bare_answer, answer_by}
 use Rattle.run_frame.specs.declared.statuses.Status.TheVariants.{BadLine}
 use Rattle.run_frame.specs.declared.statuses.TextName.TheVariants.{Script}
 use Rattle.run_frame.proofs.Frames.{cut_text, onward_text}
@@ -11,7 +11,7 @@ use Rattle.schedule.specs.Tables.{TableState}
 use Rattle.schedule_command.specs.declared.grammar.ScheduleLine.{ScheduleLine}
 use Rattle.schedule_command.specs.declared.grammar.ScheduleLine.TheVariants as says
 use Rattle.schedule_command.specs.Grammar.{is_bad}
-use Rattle.schedule_command.specs.Schedule.{answer_by, said_behind, schedule_from, table_behind, text_behind}
+use Rattle.schedule_command.specs.Schedule.{said_behind, schedule_from, table_behind, text_behind}
 
 -- a line that says this, where the table behind it is this one
 module _ (t t' : TableState) (n : ℕ) (words : List ℕ) (d : ScheduleLine) (said : d ≡ said_behind t.game n words) where

@@ -4,7 +4,7 @@ use Rattle.std.specs.Prelude.{map, if◌then◌else◌}
 use Rattle.definitions.specs.World.{Game}
 use Rattle.definitions.specs.Steps.{run}
 use Rattle.line_io.specs.Inputs.{AtEnd, AtFault, End, Fault, Input, Line, ending_of, lines_in}
-use Rattle.run_frame.specs.Frame.{Answer, after_text}
+use Rattle.run_frame.specs.Frame.{Answer, after_text, answer_by}
 use Rattle.run_frame.specs.declared.statuses.Status.{Status}
 use Rattle.run_frame.specs.declared.statuses.Status.TheVariants.{BadLine, Done}
 use Rattle.run_frame.specs.declared.statuses.TextName.TheVariants.{Script}
@@ -25,7 +25,7 @@ use Rattle.schedule_command.specs.Causes.{AreClean, IsPlayedOut, ScheduleCause, 
 use Rattle.schedule_command.specs.Grammar.{is_bad}
 use Rattle.schedule_command.specs.Matches.{EndsWith, bad_from, bad_line, by_naming, hostile_from, logs_behind, named_bad_from, named_or, named_steps_from, stand_behind, step_in, steps_from}
 use Rattle.schedule_command.specs.Played.{OnEnd, is_end}
-use Rattle.schedule_command.specs.Schedule.{answer_by, end_text, first_table, named_answer, naming_behind, opened_from, said_behind, schedule_answer, schedule_from, status_of, step_text, table_after, table_behind, tally_text, text_behind}
+use Rattle.schedule_command.specs.Schedule.{end_text, first_table, named_answer, naming_behind, opened_from, said_behind, schedule_answer, schedule_from, status_of, step_text, table_after, table_behind, tally_text, text_behind}
 
 -- An answer to lines of which this is the first bad one, or else to all of them, behind which the match stands so.
 abbrev EndsSo : Answer → Option ℕ → Stand → Type 0

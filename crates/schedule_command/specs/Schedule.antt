@@ -7,7 +7,7 @@ use Rattle.definitions.specs.World.{Game, players_of}
 use Rattle.definitions.specs.Steps.{after, has_log, log_of}
 use Rattle.line_io.specs.Inputs.{Input, Line, End, Fault}
 use Rattle.report_lines.specs.Lines.{end_line_text}
-use Rattle.run_frame.specs.Frame.{Answer, after_text, bare_answer}
+use Rattle.run_frame.specs.Frame.{Answer, answer_by, bare_answer}
 use Rattle.run_frame.specs.declared.statuses.Status.{Status}
 use Rattle.run_frame.specs.declared.statuses.Status.TheVariants.{Done, InputFault, Caught, BadLine}
 use Rattle.run_frame.specs.declared.statuses.TextName.TheVariants.{Script}
@@ -101,11 +101,6 @@ status_of S.Finished = Done
 -- the answer at the end, where the match stands so
 abbrev pub end_answer : Stand → Answer
 end_answer s = record { body = end_text s; status = status_of s }
-
--- the answer from the line on that is the n-th: a line outside the grammar ends the run; else what is written about the line
--- stands before the rest
-abbrev pub answer_by : (bad : Bool) → (n : ℕ) → (text : List ℕ) → (rest : Answer) → Answer
-answer_by bad n text rest = if bad then bare_answer (BadLine Script n) else after_text text rest
 
 -- the answer to this input, which comes behind n lines, where the table is this one: a fault of the source ends the run where it comes
 abbrev pub schedule_from : TableState → ℕ → Input → Answer

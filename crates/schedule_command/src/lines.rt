@@ -1,12 +1,12 @@
 //! The lines of a schedule, each in a buffer of its own.
 
 ghost use Rattle.std.specs.Prelude.{◌≡◌, ◌≤◌, length};
-ghost use Rattle.report_lines.specs.Lines.{what_name};
 ghost use Rattle.schedule_command.specs.Lines as L;
 
 use arrayvec::ArrayVec;
-use definitions::{Entry, GotAnswer, MoveFault, OwnFault, PlayerId, Turn, TurnFrame, What};
+use definitions::{Entry, GotAnswer, OwnFault, PlayerId, Turn, TurnFrame, What};
 use itoa::Buffer;
+use report_lines::{name_of_fault, name_of_what};
 use schedule::{Stand, Tally};
 
 /// Room for a line, which has at most 140 bytes.
@@ -54,12 +54,7 @@ fn name_of_refusal(fault: OwnFault) -> &'static [u8]
 {
     match fault {
         OwnFault::NotNow => b"not now",
-        OwnFault::Illegal(MoveFault::Outside) => b"M1",
-        OwnFault::Illegal(MoveFault::Wall) => b"M2",
-        OwnFault::Illegal(MoveFault::TooFar) => b"M3",
-        OwnFault::Illegal(MoveFault::StrikeOutside) => b"M4",
-        OwnFault::Illegal(MoveFault::StrikeFar) => b"M5",
-        OwnFault::Illegal(MoveFault::NoCharge) => b"M6",
+        OwnFault::Illegal(fault) => name_of_fault(fault),
     }
 }
 
@@ -112,16 +107,6 @@ pub(crate) fn got_line(from: PlayerId, to: PlayerId, place: u64, answer: &GotAns
     line.try_extend_from_slice(name_of_answer(answer)).unwrap();
     line.push(b'\n');
     line
-}
-
-/// The word for one of a turn's two frames, and a space.
-fn name_of_what(what: What) -> &'static [u8]
-    ensures { result.now ≡ what_name what }
-{
-    match what {
-        What::Commit => b"commit ",
-        What::Reveal => b"reveal ",
-    }
 }
 
 /// The line of a frame that a player made.

@@ -54,17 +54,25 @@ took_rooms h s bytes t = rooms_spent t (took_on h s bytes t) (seats_took SpendsM
 
 -- ---- a name stays
 
-abbrev SameName : Line → Line → Type 0
-SameName l m = (m.socket ≡ l.socket) × (m.name ≡ l.name)
+-- the same socket, of which the same is read
+abbrev SameOf : {X : Type 0} → (Line → X) → Line → Line → Type 0
+SameOf read l m = (m.socket ≡ l.socket) × (read m ≡ read l)
 
-lets_same_name : (s : ℕ) → LetsLine s SameName
-lets_same_name s = record {
+lets_same : {X : Type 0} (read : Line → X) (s : ℕ) → ((l : Line) → read (doomed l) ≡ read l) → ((place : ℕ) (l : Line) → read (record l { jump = Some place }) ≡ read l) →
+    ((place : ℕ) (l : Line) → read (record l { cursor = place }) ≡ read l) → LetsLine s (SameOf read)
+lets_same read s dooms jumps turns = record {
   stays = λ l. (refl, refl);
   goes_on = λ k l m a b. (b.0 ∙ a.0, b.1 ∙ a.1);
-  dooms = λ l. (refl, refl);
-  jumps = λ place l e. (refl, refl);
-  turns = λ place l e. (refl, refl);
+  dooms = λ l. (refl, dooms l);
+  jumps = λ place l e. (refl, jumps place l);
+  turns = λ place l e. (refl, turns place l);
 }
+
+abbrev SameName : Line → Line → Type 0
+SameName = SameOf (λ l. l.name)
+
+lets_same_name : (s : ℕ) → LetsLine s SameName
+lets_same_name s = lets_same (λ l. l.name) s (λ l. refl) (λ place l. refl) (λ place l. refl)
 
 -- the socket is named so
 abbrev IsNamedSo : Table → (s q : ℕ) → Type 0
@@ -114,16 +122,10 @@ named_read s q count g l t n =
 -- ---- less is left of the one that sent them
 
 abbrev SameTaken : Line → Line → Type 0
-SameTaken l m = (m.socket ≡ l.socket) × (m.taken ≡ l.taken)
+SameTaken = SameOf (λ l. l.taken)
 
 lets_same_taken : (s : ℕ) → LetsLine s SameTaken
-lets_same_taken s = record {
-  stays = λ l. (refl, refl);
-  goes_on = λ k l m a b. (b.0 ∙ a.0, b.1 ∙ a.1);
-  dooms = λ l. (refl, refl);
-  jumps = λ place l e. (refl, refl);
-  turns = λ place l e. (refl, refl);
-}
+lets_same_taken s = lets_same (λ l. l.taken) s (λ l. refl) (λ place l. refl) (λ place l. refl)
 
 abbrev left_by : Table → Line → Option ℕ → ℕ
 left_by t l o = room_by t l o + more_unnamed o

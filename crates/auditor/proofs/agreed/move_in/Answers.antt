@@ -1,6 +1,6 @@
 use Rattle.std.proofs.Common.{None, Some, ap, sym, ◌∙◌, ◌≡◌}
 use Rattle.auditor.specs.declared.turns.Resolved.{Resolved}
-use Rattle.auditor.specs.Reading.{shown}
+use Rattle.frame_index.specs.Plain.{shown}
 use Rattle.auditor.proofs.Moved.{resolved, unresolved}
 use Rattle.auditor.proofs.agreed.move_in.Goals as goal
 

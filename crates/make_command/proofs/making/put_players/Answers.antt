@@ -11,7 +11,7 @@ returns-in-Failed g c =
     let lines = c.args.lines.now in
     let lt : i < length lines = grind (arith, common_steps) in
     underway_cut _ _ _ _ _ c.as_slice.result.now (player_lines (c.lines.player + 1) (drop (i + 1) lines)) c.lines.invariant.rest
-    (lines_next c.lines.player lines i c.as_slice.result.now lt (c.as_slice.ensures.value ∙ c.player_line.ensures)) c.in-Failed.ensures
+    (lines_next c.lines.player lines i c.as_slice.result.now lt (c.as_slice.ensures.value ∙ c.world_line.ensures)) c.in-Failed.ensures
 
 pub lines-preserved : goal.lines-preserved
 lines-preserved g c =
@@ -22,7 +22,7 @@ lines-preserved g c =
     record {
       player = omega (arith, at);
       rest = underway_more _ _ _ _ _ c.as_slice.result.now (player_lines (c.lines.player + 1) (drop (i + 1) lines)) c.lines.invariant.rest
-          (lines_next c.lines.player lines i c.as_slice.result.now lt (c.as_slice.ensures.value ∙ c.player_line.ensures)) c.in-All.ensures;
+          (lines_next c.lines.player lines i c.as_slice.result.now lt (c.as_slice.ensures.value ∙ c.world_line.ensures)) c.in-All.ensures;
     }
 
 pub returns : goal.returns

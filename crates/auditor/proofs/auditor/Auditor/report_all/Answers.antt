@@ -7,7 +7,8 @@ use Rattle.auditor.specs.Agreed.{all_agreed_moves, world_by}
 use Rattle.auditor.specs.Audits.{IsAuditOf}
 use Rattle.auditor.specs.Played.{AreLegalIfWhole}
 use Rattle.auditor.specs.Reports.{IsReportOf}
-use Rattle.auditor.proofs.Worlds.{agreed_item, agreed_legal, item_length, item_past, line_past, map_lengths}
+use Rattle.playout.proofs.Items.{item_past}
+use Rattle.auditor.proofs.Worlds.{agreed_item, agreed_legal, item_length, line_past, map_lengths}
 use Rattle.auditor.proofs.auditor.Auditor.report_all.Goals as goal
 
 pub returns : goal.returns

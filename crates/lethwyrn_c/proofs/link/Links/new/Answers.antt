@@ -1,8 +1,14 @@
-use Rattle.std.proofs.Common.{rules}
+use Rattle.std.proofs.Common.{◌≡◌, ◌∙◌, ◌<◌, arith, get_or, replicate, rules, sym}
+use Rattle.std.proofs.lemmas.List.{ext_get_or, get_or-replicate, length-replicate}
 use Rattle.wire_frames.specs.Reading.{at_start}
 use Rattle.lethwyrn_c.specs.declared.link.TheConstants.{LINKS}
-use Rattle.lethwyrn_c.proofs.Links.{all_same}
 use Rattle.lethwyrn_c.proofs.link.Links.new.Goals as goal
 
 pub returns : goal.returns
-returns c = all_same LINKS at_start _ c.from_fn-links.ensures.items.long (λ i lt. let called = c.from_fn-links.ensures.items.at i at_start lt in search rules)
+returns c =
+    let long = c.from_fn-links.ensures.items.long in
+    ext_get_or at_start _ (replicate LINKS at_start) (long ∙ sym (length-replicate LINKS at_start)) (λ i lt.
+    let within : i < LINKS = omega (arith, long, lt) in
+    let called = c.from_fn-links.ensures.items.at i at_start within in
+    let fresh : get_or _ i at_start ≡ at_start = search rules in
+    fresh ∙ sym (get_or-replicate LINKS i at_start at_start within))

@@ -1,10 +1,11 @@
-use Rattle.std.proofs.Common.{◌≡◌, List, length, sym, ap, subst, ◌∙◌, arith, map}
+use Rattle.std.proofs.Common.{◌≡◌, List, length, refl, sym, ap, subst, ◌∙◌, arith, map}
+use Rattle.std.proofs.lemmas.List.{length-map}
 use Rattle.memory_station.specs.declared.rows.Row.{Row}
 use Rattle.memory_station.specs.HeldRows.{HeldTable, HeldRow}
 use Rattle.memory_station.specs.Rows.{held_row, AreNumbered, AreSound}
 use Rattle.memory_station.specs.Rows.{row_uncounted}
 use Rattle.memory_station.specs.HeldRows.{uncounted}
-use Rattle.memory_station.proofs.Polls.{map-uncounted, AreNumbered-uncounted, AreSound-uncounted, length-uncounted}
+use Rattle.memory_station.proofs.Polls.{counted-map, map-uncounted, AreSound-uncounted}
 use Rattle.memory_station.proofs.table.Table.count_writes.Goals as goal
 
 pub invariant_of-self : goal.invariant_of-self
@@ -12,11 +13,11 @@ invariant_of-self c =
     let rows = c.self.inside.rows.items in
     let ps = c.self.inside.pieces.items in
     let all : c.uncount.new.rows.items ≡ map row_uncounted rows = c.uncount.ensures.items in
-    let n : length c.uncount.new.rows.items ≡ length rows = ap length all ∙ length-uncounted rows in
+    let n : length c.uncount.new.rows.items ≡ length rows = ap length all ∙ length-map rows row_uncounted in
     let P : List Row → Type 0 = λ ls. AreNumbered 0 ls in
     let Q : List Row → Type 0 = λ ls. AreSound ps ls in
     record {
-      numbered = subst P (sym all) (AreNumbered-uncounted 0 rows c.self.invariant.numbered);
+      numbered = subst P (sym all) (counted-map (λ (l : Row). l.number) (λ (l : Row). l.number) row_uncounted (λ l. refl) 0 rows c.self.invariant.numbered);
       sound = subst Q (sym all) (AreSound-uncounted ps rows c.self.invariant.sound);
       few = omega (arith, c.self.invariant.few);
       rows = omega (arith, c.self.invariant.rows, c.uncount.ensures.capacity);

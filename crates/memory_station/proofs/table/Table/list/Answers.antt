@@ -1,4 +1,5 @@
-use Rattle.std.proofs.Common.{◌≡◌, List, length, sym, ap, subst, ◌∙◌, arith, rules, map, if◌then◌else◌}
+use Rattle.std.proofs.Common.{◌≡◌, List, length, refl, sym, ap, subst, ◌∙◌, arith, rules, map, if◌then◌else◌}
+use Rattle.std.proofs.lemmas.List.{length-map}
 use Rattle.memory_station.specs.declared.rows.Row.{Row}
 use Rattle.memory_station.specs.HeldRows.{HeldTable, HeldRow, row_in}
 use Rattle.memory_station.specs.Rows.{held_row, AreNumbered, AreSound}
@@ -7,7 +8,7 @@ use Rattle.socket_station.specs.declared.answers.Standing.TheVariants.{Open}
 use Rattle.socket_station.specs.Standings.{opens, AreNew}
 use Rattle.memory_station.specs.HeldRows.{polled, listing}
 use Rattle.memory_station.specs.Rows.{polled_row}
-use Rattle.memory_station.proofs.Polls.{map-polled, AreNumbered-polled, AreSound-polled, length-polled, AreNew-listing, moves-listing}
+use Rattle.memory_station.proofs.Polls.{map-polled, counted-map, AreSound-polled, AreNew-listing, moves-listing}
 use Rattle.memory_station.proofs.table.Table.list.Goals as goal
 
 pub invariant_of-self : goal.invariant_of-self
@@ -15,11 +16,11 @@ invariant_of-self c =
     let rows = c.self.inside.rows.items in
     let ps = c.self.inside.pieces.items in
     let all : c.mark_polled.new.rows.items ≡ map (polled_row c.list_ready.new.ready) rows = search rules in
-    let n : length c.mark_polled.new.rows.items ≡ length rows = ap length all ∙ length-polled c.list_ready.new.ready rows in
+    let n : length c.mark_polled.new.rows.items ≡ length rows = ap length all ∙ length-map rows (polled_row c.list_ready.new.ready) in
     let P : List Row → Type 0 = λ ls. AreNumbered 0 ls in
     let Q : List Row → Type 0 = λ ls. AreSound ps ls in
     record {
-      numbered = subst P (sym all) (AreNumbered-polled c.list_ready.new.ready 0 rows c.self.invariant.numbered);
+      numbered = subst P (sym all) (counted-map (λ (l : Row). l.number) (λ (l : Row). l.number) (polled_row c.list_ready.new.ready) (λ l. refl) 0 rows c.self.invariant.numbered);
       sound = subst Q (sym all) (AreSound-polled ps c.list_ready.new.ready rows c.self.invariant.sound);
       few = omega (arith, c.self.invariant.few);
       rows = omega (arith, c.self.invariant.rows, c.mark_polled.ensures.capacity);
