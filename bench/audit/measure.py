@@ -1,5 +1,6 @@
-# Measures audits for bench/audit.sh: measure.py PROGRAM RUNS CASE.., each case 'KIND LOGS ENTRIES'. The cases' logs are all written before, and
-# their audits run in turn; of each the least processor seconds count, and the most memory.
+# Measures audits for bench/audit.sh: measure.py PROGRAM HASHES RUNS CASE.., each case 'KIND LOGS ENTRIES'. The cases' logs are all written
+# before, and their audits run in turn; of each the least processor seconds count, and the most memory. HASHES is the program that does no more
+# than hash what the logs' chains hash; of honest logs the ratio of its seconds and the audit's is told.
 import os
 import subprocess
 import sys
@@ -29,23 +30,39 @@ def audited(program, folder, names):
     return used.ru_utime + used.ru_stime, used.ru_maxrss, found
 
 
+# the processor seconds of hashing alone
+def hashed(program, folder, names):
+    run = subprocess.Popen([program, *names], cwd=folder, stdin=subprocess.DEVNULL, stdout=subprocess.DEVNULL)
+    _, status, used = os.wait4(run.pid, 0)
+    run.returncode = os.waitstatus_to_exitcode(status)
+    if run.returncode != 0:
+        sys.exit(f"measure.py: the hashing ended with status {run.returncode}")
+    return used.ru_utime + used.ru_stime
+
+
 def main():
-    program, runs, cases = sys.argv[1], int(sys.argv[2]), [case.split() for case in sys.argv[3:]]
+    program, hashes, runs, cases = sys.argv[1], sys.argv[2], int(sys.argv[3]), [case.split() for case in sys.argv[4:]]
     with tempfile.TemporaryDirectory() as room:
         most = {}
         for kind, logs, entries in cases:
             most[kind, entries] = max(int(logs), most.get((kind, entries), 0))
         folders = {of: written(room, *of, logs) for of, logs in most.items()}
         told = [[] for _ in cases]
+        alone = [[] for _ in cases]
         for _ in range(runs):
             for number, (kind, logs, entries) in enumerate(cases):
-                told[number].append(audited(program, folders[kind, entries], [str(log) for log in range(int(logs))]))
-        for (kind, logs, entries), runs_of in zip(cases, told):
+                names = [str(log) for log in range(int(logs))]
+                told[number].append(audited(program, folders[kind, entries], names))
+                if kind == "honest":
+                    alone[number].append(hashed(hashes, folders[kind, entries], names))
+        for (kind, logs, entries), runs_of, hashing in zip(cases, told, alone):
             size = sum(os.path.getsize(os.path.join(folders[kind, entries], str(log))) for log in range(int(logs)))
             seconds = min(run[0] for run in runs_of)
             memory = max(run[1] for run in runs_of)
             print(f"{kind}: {logs} logs, {size:,} bytes, {seconds:.2f} s of processor, {size / seconds / 1e6:.0f} MB a second, "
                   f"at most {memory / 1e3:,.0f} MB, {runs_of[0][2]} findings", flush=True)
+            if hashing:
+                print(f"{kind}: hashing alone {min(hashing):.2f} s, ratio {min(hashing) / seconds:.2f}", flush=True)
 
 
 main()

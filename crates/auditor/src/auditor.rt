@@ -1,4 +1,6 @@
 //! The auditor, and the entries that it takes.
+//!
+//! What hands an entry on is inlined, here and in [`crate::taking`]: each entry of each log goes through it.
 
 ghost use Rattle.std.specs.Prelude.{◌≡◌, ◌<◌, ◌+◌, ℕ, List, [], None, Some, slice_get, length, replicate, IfOk, OnOk, OnErr, IsTrue};
 ghost use Rattle.definitions.specs.declared.logs.Entry.{Entry};
@@ -30,6 +32,7 @@ pub struct Auditor {
 }
 
 /// Takes the frame of the entry at the spot: to the frames that logs got, or to those that their owners made.
+#[inline(always)]
 fn take_entry(
     index: &mut FrameIndex,
     made: &mut FrameIndex,
@@ -94,6 +97,7 @@ impl Auditor {
     /// that log. An error comes where the auditor's allocator has no memory, and then it stands for the logs without the entry.
     ///
     /// A log has no more entries than bytes, and what it got is of the player from whom it came, as the grammar of logs has it.
+    #[inline(always)]
     pub fn take(&mut self, log: u32, entry: &Entry) -> Result<(), AllocError>
         requires log { log < MOST_LOGS }
         requires few { count_in self.old log < LONGEST_LOG }

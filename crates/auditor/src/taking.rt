@@ -28,6 +28,7 @@ impl Auditor {
 
     /// Feeds the bytes up to the end of the first entry that ends in them, and takes that entry: with how many bytes it ended, where
     /// one did.
+    #[inline(always)]
     fn take_next(
         &mut self,
         log: u32,

@@ -14,7 +14,8 @@ use Rattle.definition_laws.specs.Members.{Has}
 use Rattle.definition_laws.proofs.Members.{Has_append, Has_back, Has_flat_map, Has_front, flat_map_Has, map_Has, slice_get_Has}
 use Rattle.frame_index.specs.declared.seen.Seen.{Seen}
 use Rattle.frame_index.specs.declared.kept.KeptFrame.{KeptFrame}
-use Rattle.frame_index.specs.Kept.{AreAlike, AreOf, Grows, IsAdded, IsNotedAt, StandsAt, seen_in, seen_of, seen_with, sight, spot_noted}
+use Rattle.frame_index.specs.Kept.{AreAlike, AreOf, Grows, IsAdded, IsNotedAt, StandsAt, seen_in, seen_of, seen_with, sight}
+use Rattle.frame_index.specs.Spots.{spot_noted}
 
 -- what follows where there is a value, and where there is an error
 pub on_ok : {T E P Q : Type 0} (r : Result T E) → (P → Q) → OnOk r P → OnOk r Q
@@ -30,7 +31,7 @@ Has_map {X} {Y} f (y ∷ ys) x (inl e) = inl (ap f e)
 Has_map f (y ∷ ys) x (inr h) = inr (Has_map f ys x h)
 Has_map f [] x h = absurd h
 
-last_has : {X : Type 0} (xs : List X) (e x : X) → Has (xs ++ e ∷ []) x → Has xs x ⊎ (e ≡ x)
+pub last_has : {X : Type 0} (xs : List X) (e x : X) → Has (xs ++ e ∷ []) x → Has xs x ⊎ (e ≡ x)
 last_has {X} xs e x m = go (Has_append xs (e ∷ []) x m)
   where
     go : Has xs x ⊎ Has (e ∷ []) x → Has xs x ⊎ (e ≡ x)

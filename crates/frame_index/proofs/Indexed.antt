@@ -9,13 +9,13 @@ use Rattle.definitions.specs.declared.logs.Entry.{Entry}
 use Rattle.definitions.specs.declared.logs.Entry.TheVariants.{Got}
 use Rattle.definitions.specs.World.{Game}
 use Rattle.definitions.specs.Logs.{player_of, turn_of}
-use Rattle.definition_laws.specs.Members.{Has}
 use Rattle.frame_index.specs.declared.kept.KeptFrame.{KeptFrame}
 use Rattle.frame_index.specs.declared.frames.FrameIndex.{FrameIndex}
 use Rattle.frame_index.specs.Keeps.{Keeps}
 use Rattle.frame_index.specs.Kept.{AreAlike, AreOf, Grows, seen_in, sight}
 use Rattle.frame_index.specs.Appended.{with_entry}
-use Rattle.frame_index.specs.Frames.{IsIndex, IsRefused, IsTaken, kept_in, kept_of}
+use Rattle.frame_index.specs.Frames.{IsIndex, IsRefused, IsRefusedBy, IsTaken, IsTakenBy, kept_in, kept_of}
+use Rattle.frame_index.proofs.Growing.{alike_same}
 use Rattle.frame_index.proofs.Grows.{keeps_grown, keeps_other}
 
 module _ (game : Game) (logs : List (List Entry)) (h : List Entry) (f : TurnFrame) (s : Spot) (old new : FrameIndex) (there : slice_get logs s.log ≡ Some h) (last : s.entry ≡ length h)
@@ -69,6 +69,26 @@ refused_stands game logs old new same w = record {
   own = λ q t. (same q t).own game q t (w.own q t);
 }
 
+-- what is kept at one place is alike, and the others stay
+pub alike_at : (old new : ℕ → ℕ → List KeptFrame) (p u : ℕ) → AreAlike (old p u) (new p u) → ((q t : ℕ) → ((p ≡ q) × (u ≡ t) → ⊥) → new q t ≡ old q t) → IsRefusedBy old new
+alike_at old new p u alike others q t = go (p == q) refl (u == t) refl
+  where
+    away : ((p ≡ q) × (u ≡ t) → ⊥) → AreAlike (old q t) (new q t)
+    away never = alike_same (old q t) (new q t) (others q t never)
+
+    go : (b : Bool) → (p == q) ≡ b → (c : Bool) → (u == t) ≡ c → AreAlike (old q t) (new q t)
+    go false x c y = away (λ both. eqb-false _ _ x both.0)
+    go true x false y = away (λ both. eqb-false _ _ y both.1)
+    go true x true y = subst (λ (t : ℕ). AreAlike (old q t) (new q t)) (eqb-true _ _ y) (subst (λ (q : ℕ). AreAlike (old q u) (new q u)) (eqb-true _ _ x) alike)
+
+-- the frame is taken at its own place, and the others stay
+pub taken_at : (old new : ℕ → ℕ → List KeptFrame) (p u : ℕ) (game : Game) (f : TurnFrame) (s : Spot) → p ≡ player_of f → u ≡ turn_of f → Grows game f s (old p u) (new p u) → ((q t : ℕ) → ((p ≡ q) × (u ≡ t) → ⊥) → new q t ≡ old q t) →
+    IsTakenBy game f s old new
+taken_at old new p u game f s player turn grows others = record {
+  own = subst (λ (t : ℕ). Grows game f s (old (player_of f) t) (new (player_of f) t)) turn (subst (λ (q : ℕ). Grows game f s (old q u) (new q u)) player grows);
+  others = λ q t never. others q t (λ both. never (sym player ∙ both.0, sym turn ∙ both.1));
+}
+
 -- the table has another value at one key
 module _ {V : Type 0} (items : V → List KeptFrame) (before after : ℕ → ℕ → Option V) (p u : ℕ) (v : V) (changed : (q t : ℕ) → after q t ≡ cond ((p == q) && (u == t)) (Some v) (before q t)) where
   pub kept_here : option_map_or items (after p u) [] ≡ items v
@@ -83,36 +103,18 @@ module _ {V : Type 0} (items : V → List KeptFrame) (before after : ℕ → ℕ
       go true x false y = refl
       go true x true y = absurd (never (eqb-true _ _ x, eqb-true _ _ y))
 
+  abbrev Earlier : ℕ → ℕ → List KeptFrame
+  Earlier q t = option_map_or items (before q t) []
+
+  abbrev Later : ℕ → ℕ → List KeptFrame
+  Later q t = option_map_or items (after q t) []
+
   -- to which a frame was taken
-  pub taken_by : (game : Game) (f : TurnFrame) (s : Spot) (old new : FrameIndex) → ((q t : ℕ) → kept_of old q t ≡ option_map_or items (before q t) []) → ((q t : ℕ) → kept_of new q t ≡ option_map_or items (after q t) []) →
-      p ≡ player_of f → u ≡ turn_of f → (from : List KeptFrame) → from ≡ option_map_or items (before p u) [] → Grows game f s from (items v) → IsTaken game f s old new
-  taken_by game f s old new olds news player turn from was grows = record {
-    own = subst (λ (t : ℕ). Grows game f s (kept_of old (player_of f) t) (kept_of new (player_of f) t)) turn
-        (subst (λ (q : ℕ). Grows game f s (kept_of old q u) (kept_of new q u)) player
-        (subst (λ (ks : List KeptFrame). Grows game f s ks (kept_of new p u)) (was ∙ sym (olds p u))
-        (subst (Grows game f s from) (sym (news p u ∙ kept_here)) grows)));
-    others = λ q t never. news q t ∙ kept_away q t (λ both. never (sym player ∙ both.0, sym turn ∙ both.1)) ∙ sym (olds q t);
-  }
+  pub taken_by : (game : Game) (f : TurnFrame) (s : Spot) → p ≡ player_of f → u ≡ turn_of f → (from : List KeptFrame) → from ≡ Earlier p u → Grows game f s from (items v) → IsTakenBy game f s Earlier Later
+  taken_by game f s player turn from was grows =
+      taken_at Earlier Later p u game f s player turn (subst (λ (ks : List KeptFrame). Grows game f s ks (Later p u)) was (subst (Grows game f s from) (sym kept_here) grows)) kept_away
 
   -- in which the same is kept
-  pub refused_by : (old new : FrameIndex) → ((q t : ℕ) → kept_of old q t ≡ option_map_or items (before q t) []) → ((q t : ℕ) → kept_of new q t ≡ option_map_or items (after q t) []) →
-      (from : List KeptFrame) → from ≡ option_map_or items (before p u) [] → AreAlike from (items v) → IsRefused old new
-  refused_by old new olds news from was alike q t = go (p == q) refl (u == t) refl
-    where
-      same : (x : List KeptFrame) → x ≡ kept_of old q t → AreAlike (kept_of old q t) x
-      same x e = record {
-        own = λ game q t of. subst (AreOf game q t) (sym e) of;
-        to = λ k m. subst (λ (ks : List KeptFrame). Has (seen_in ks) k) (sym e) m;
-        fro = λ k m. subst (λ (ks : List KeptFrame). Has (seen_in ks) k) e m;
-      }
-
-      away : ((p ≡ q) × (u ≡ t) → ⊥) → AreAlike (kept_of old q t) (kept_of new q t)
-      away never = same (kept_of new q t) (news q t ∙ kept_away q t never ∙ sym (olds q t))
-
-      go : (b : Bool) → (p == q) ≡ b → (c : Bool) → (u == t) ≡ c → AreAlike (kept_of old q t) (kept_of new q t)
-      go false x c y = away (λ both. eqb-false _ _ x both.0)
-      go true x false y = away (λ both. eqb-false _ _ y both.1)
-      go true x true y = subst (λ (t : ℕ). AreAlike (kept_of old q t) (kept_of new q t)) (eqb-true _ _ y)
-          (subst (λ (q : ℕ). AreAlike (kept_of old q u) (kept_of new q u)) (eqb-true _ _ x)
-          (subst (λ (ks : List KeptFrame). AreAlike ks (kept_of new p u)) (was ∙ sym (olds p u))
-          (subst (AreAlike from) (sym (news p u ∙ kept_here)) alike)))
+  pub refused_by : (from : List KeptFrame) → from ≡ Earlier p u → AreAlike from (items v) → IsRefusedBy Earlier Later
+  refused_by from was alike =
+      alike_at Earlier Later p u (subst (λ (ks : List KeptFrame). AreAlike ks (Later p u)) was (subst (AreAlike from) (sym kept_here) alike)) kept_away

@@ -20,3 +20,5 @@ pub mod Apart
 pub mod Plainly
 pub mod Commonly
 pub mod Leaving
+pub mod Spotted
+pub mod Parted

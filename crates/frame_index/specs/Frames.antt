@@ -1,7 +1,8 @@
 -- Frames: each different frame with its first spot in each log, by the player's turn.
-use Rattle.std.specs.Prelude.{◌≡◌, ℕ, Bool, ◌&&◌, List, [], ◌==◌}
+use Rattle.std.specs.Prelude.{◌≡◌, ℕ, Bool, ◌&&◌, List, [], ◌==◌, nat_lt, if◌then◌else◌}
 use Rattle.std.specs.Option.{option_map_or}
-use Rattle.indexmap.specs.IndexMap.{get}
+use Rattle.indexmap.specs.IndexMap.{IndexMap, get}
+use Rattle.definitions.specs.declared.limits.TheConstants.{MOST_TURNS}
 use Rattle.definitions.specs.declared.findings.Spot.{Spot}
 use Rattle.definitions.specs.declared.frames.TurnFrame.{TurnFrame}
 use Rattle.definitions.specs.declared.logs.Entry.{Entry}
@@ -12,15 +13,21 @@ use Rattle.frame_index.specs.declared.kept.KeptFrame.{KeptFrame}
 use Rattle.frame_index.specs.declared.frames.TurnKey.{TurnKey}
 use Rattle.frame_index.specs.declared.frames.FrameIndex.{FrameIndex}
 use Rattle.frame_index.specs.Keeps.{Keeps}
+use Rattle.frame_index.specs.declared.kept.TurnFrames.{TurnFrames}
+use Rattle.frame_index.specs.Rows.{kept_by}
 use Rattle.frame_index.specs.Kept.{AreAlike, AreOf, Grows, seen_in}
 
 -- the same player's turn
 abbrev pub key_eq : TurnKey → TurnKey → Bool
 key_eq a b = (a.player == b.player) && (a.turn == b.turn)
 
+-- the frames that are kept of the player's turn behind all that a session may have
+abbrev pub kept_beyond : {S : Type 0} → IndexMap TurnKey TurnFrames S → ℕ → ℕ → List KeptFrame
+kept_beyond beyond q t = option_map_or (λ v. v.kept.items) (get key_eq beyond (record { player = q; turn = t })) []
+
 -- the frames that are kept of the player's turn
 abbrev pub kept_of : FrameIndex → ℕ → ℕ → List KeptFrame
-kept_of index q t = option_map_or (λ v. v.kept.items) (get key_eq index.turns (record { player = q; turn = t })) []
+kept_of index q t = if nat_lt t MOST_TURNS then kept_by index.rows.items q t else kept_beyond index.beyond q t
 
 -- what is kept of the player's turn, each frame once for each log that got it
 abbrev pub kept_in : FrameIndex → ℕ → ℕ → List Seen
@@ -31,14 +38,20 @@ pub record IsIndex (game : Game) (logs : List (List Entry)) (index : FrameIndex)
   pub stands : (q t : ℕ) → Keeps game q t logs (kept_in index q t)
   pub own : (q t : ℕ) → AreOf game q t (kept_of index q t)
 
--- the frame is taken at the spot to those of its player's turn, and the others stay
-pub record IsTaken (game : Game) (f : TurnFrame) (s : Spot) (old new : FrameIndex) : Type 0 where
-  pub own : Grows game f s (kept_of old (player_of f) (turn_of f)) (kept_of new (player_of f) (turn_of f))
-  pub others : (q t : ℕ) → ((player_of f ≡ q) × (turn_of f ≡ t) → ⊥) → kept_of new q t ≡ kept_of old q t
+-- the frame is taken at the spot to those of its player's turn, and the others stay, by what is kept before and after
+pub record IsTakenBy (game : Game) (f : TurnFrame) (s : Spot) (old new : ℕ → ℕ → List KeptFrame) : Type 0 where
+  pub own : Grows game f s (old (player_of f) (turn_of f)) (new (player_of f) (turn_of f))
+  pub others : (q t : ℕ) → ((player_of f ≡ q) × (turn_of f ≡ t) → ⊥) → new q t ≡ old q t
+
+abbrev pub IsTaken : Game → TurnFrame → Spot → FrameIndex → FrameIndex → Type 0
+IsTaken game f s old new = IsTakenBy game f s (kept_of old) (kept_of new)
 
 -- the same is kept of each player's turn
+abbrev pub IsRefusedBy : (old new : ℕ → ℕ → List KeptFrame) → Type 0
+IsRefusedBy old new = (q t : ℕ) → AreAlike (old q t) (new q t)
+
 abbrev pub IsRefused : FrameIndex → FrameIndex → Type 0
-IsRefused old new = (q t : ℕ) → AreAlike (kept_of old q t) (kept_of new q t)
+IsRefused old new = IsRefusedBy (kept_of old) (kept_of new)
 
 -- what cannot be
 abbrev pub Never : Type 0

@@ -1,6 +1,5 @@
 -- Kept: what is kept of a player's turn, frame by frame.
-use Rattle.std.specs.Prelude.{◌≡◌, ◌⊎◌, ℕ, List, [], ◌∷◌, ◌++◌, Some, ◌==◌, if◌then◌else◌, flat_map, map, set, slice_get}
-use Rattle.std.specs.List.{list_any}
+use Rattle.std.specs.Prelude.{◌≡◌, ◌⊎◌, ℕ, List, [], ◌∷◌, ◌++◌, Some, flat_map, map, set, slice_get}
 use Rattle.definitions.specs.declared.findings.Spot.{Spot}
 use Rattle.definitions.specs.declared.openings.Digest.{Digest}
 use Rattle.definitions.specs.declared.frames.TurnFrame.{TurnFrame}
@@ -10,10 +9,7 @@ use Rattle.definitions.specs.Logs.{player_of, turn_of}
 use Rattle.definition_laws.specs.Members.{Has}
 use Rattle.frame_index.specs.declared.seen.Seen.{Seen}
 use Rattle.frame_index.specs.declared.kept.KeptFrame.{KeptFrame}
-
--- the spots with one more, unless its log has one
-abbrev pub spot_noted : List Spot → Spot → List Spot
-spot_noted spots s = if list_any (λ x. x.log == s.log) spots then spots else spots ++ s ∷ []
+use Rattle.frame_index.specs.Spots.{spot_noted}
 
 -- a frame with its digest, at a spot
 abbrev pub seen_with : TurnFrame → Digest → Spot → Seen

@@ -9,3 +9,5 @@ pub mod Kept
 pub mod Pairs
 pub mod Plain
 pub mod Wants
+pub mod Spots
+pub mod Rows

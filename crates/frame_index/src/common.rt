@@ -8,7 +8,7 @@ ghost use Rattle.frame_index.specs.Heads.{front_of};
 ghost use Rattle.frame_index.specs.Plain as P;
 
 use crate::frames::FrameIndex;
-use crate::kept::{KeptFrame, has_log};
+use crate::kept::KeptFrame;
 use crate::limits::MOST_LOGS;
 use crate::plain::{is_plain, move_in, track_behind};
 use definitions::{Move, PlayerId, Spot, Track, Turn};
@@ -28,7 +28,7 @@ fn commit_spots(kept: &[KeptFrame]) -> &[Spot]
         [] => &[],
         [one, rest @ ..] => {
             if is_commit(&one.frame) {
-                &one.spots
+                one.spots.all()
             } else {
                 commit_spots(rest)
             }
@@ -46,7 +46,7 @@ fn reveal_spots(kept: &[KeptFrame]) -> &[Spot]
             if is_commit(&one.frame) {
                 reveal_spots(rest)
             } else {
-                &one.spots
+                one.spots.all()
             }
         }
     }
@@ -56,10 +56,14 @@ fn reveal_spots(kept: &[KeptFrame]) -> &[Spot]
 fn leave(chosen: &mut Chosen, spots: &[Spot])
     ensures { P.AreLeft chosen.old spots.now chosen.new }
 {
-    for log in 0..MOST_LOGS {
-        let at = log as usize;
-        chosen[at] = chosen[at] && has_log(spots, log);
+    let mut left = [false; MOST_LOGS as usize];
+    for spot in spots {
+        let at = spot.log as usize;
+        if at < left.len() {
+            left[at] = chosen[at];
+        }
     }
+    *chosen = left;
 }
 
 /// The first of the logs that are looked at.

@@ -1,6 +1,6 @@
 //! Each different frame once, with its first spot in each log.
 
-ghost use Rattle.std.specs.Prelude.{◌≡◌, ◌<◌, ℕ, List, [], ◌++◌, Some, slice_get, length, OnOk, OnErr, map};
+ghost use Rattle.std.specs.Prelude.{◌≡◌, ◌<◌, ◌≤◌, ℕ, List, [], ◌++◌, Some, slice_get, length, OnOk, OnErr, map};
 ghost use Rattle.definitions.specs.declared.logs.Entry.{Entry};
 ghost use Rattle.definitions.specs.World.{Game};
 ghost use Rattle.definitions.specs.Logs as L;
@@ -11,8 +11,9 @@ ghost use Rattle.frame_index.specs.declared.frames.FrameIndex.{FrameIndex};
 
 use crate::kept::{KeptFrame, TurnFrames};
 use crate::limits::MOST_LOGS;
+use crate::rows::{Row, kept_by, take_frame};
 use crate::seen::Seen;
-use definitions::limits::LONGEST_LOG;
+use definitions::limits::{LONGEST_LOG, MOST_TURNS};
 use definitions::{Digest, PlayerId, Spot, Turn, TurnFrame};
 use grid_world::Session;
 use indexmap::IndexMap;
@@ -29,7 +30,10 @@ pub(crate) struct TurnKey {
 #[derive(Drop)]
 pub struct FrameIndex {
     alloc: Global,
-    turns: IndexMap<TurnKey, TurnFrames>,
+    // of turns that a session may have
+    rows: Vec<Row>,
+    // of all turns behind them, which no log of a session has: only a caller's own frames come here
+    beyond: IndexMap<TurnKey, TurnFrames>,
 }
 
 /// The key of the player's turn of which the frame is.
@@ -69,7 +73,8 @@ impl FrameIndex {
     {
         FrameIndex {
             alloc,
-            turns: IndexMap::new(alloc),
+            rows: Vec::new(alloc),
+            beyond: IndexMap::new(alloc),
         }
     }
 
@@ -84,7 +89,10 @@ impl FrameIndex {
     pub(crate) fn kept(&self, player: PlayerId, turn: Turn) -> &[KeptFrame]
         ensures { result.now ≡ F.kept_of self.now player turn }
     {
-        match self.turns.get(&TurnKey { player, turn }) {
+        if turn < MOST_TURNS {
+            return kept_by(&self.rows, player, turn);
+        }
+        match self.beyond.get(&TurnKey { player, turn }) {
             None => &[],
             Some(frames) => &frames.kept,
         }
@@ -102,12 +110,35 @@ impl FrameIndex {
     {
         out.clear();
         for one in self.kept(player, turn) {
-            put_frame(out, one.frame, one.digest, &one.spots)?;
+            put_frame(out, one.frame, one.digest, one.spots.all())?;
         }
         Ok(())
     }
 
+    /// Takes a frame to those of its player's turn, which is behind all that a session may have.
+    fn take_beyond(
+        &mut self,
+        session: &Session,
+        frame: &TurnFrame,
+        spot: Spot,
+    ) -> Result<(), AllocError>
+        requires { MOST_TURNS ≤ L.turn_of frame.now }
+        ensures ok { OnOk result (F.IsTaken session.now frame.now spot self.old self.new) }
+        ensures err { OnErr result (F.IsRefused self.old self.new) }
+    {
+        let key = key_of(frame);
+        let alloc = self.alloc;
+        if let Some(frames) = self.beyond.get_mut(&key) {
+            return frames.take(alloc, session, frame, spot);
+        }
+        let mut frames = TurnFrames::new(alloc);
+        frames.take(alloc, session, frame, spot)?;
+        self.beyond.insert(key, frames)?;
+        Ok(())
+    }
+
     /// Takes a frame to those of its player's turn.
+    #[inline(always)]
     fn take_frame(
         &mut self,
         session: &Session,
@@ -117,15 +148,19 @@ impl FrameIndex {
         ensures ok { OnOk result (F.IsTaken session.now frame.now spot self.old self.new) }
         ensures err { OnErr result (F.IsRefused self.old self.new) }
     {
-        let key = key_of(frame);
-        let alloc = self.alloc;
-        if let Some(frames) = self.turns.get_mut(&key) {
-            return frames.take(alloc, session, frame, spot);
+        let TurnKey { player, turn } = key_of(frame);
+        if turn >= MOST_TURNS {
+            return self.take_beyond(session, frame, spot);
         }
-        let mut frames = TurnFrames::new(alloc);
-        frames.take(alloc, session, frame, spot)?;
-        self.turns.insert(key, frames)?;
-        Ok(())
+        take_frame(
+            &mut self.rows,
+            self.alloc,
+            session,
+            player,
+            turn,
+            frame,
+            spot,
+        )
     }
 
     /// Takes a frame that a log of the session got from its player: what is kept stands for the logs with this entry at the end of
@@ -134,6 +169,7 @@ impl FrameIndex {
     /// The spot is that of the entry: the log's number among the logs and how many entries the log had before, of whatever kind, both
     /// counted from 0. An error comes where the index's allocator has no memory; what is kept then stands for the logs without the
     /// entry. A frame that is one of the first few of its turn is found without a digest.
+    #[inline(always)]
     pub fn take(
         &mut self,
         session: &Session,

@@ -1,9 +1,10 @@
 //! What is kept of a player's turn: each different frame once.
 
-ghost use Rattle.std.specs.Prelude.{◌≡◌, ◌<◌, ◌==◌, [], length, IfSome, IsTrue, OnOk, OnErr};
-ghost use Rattle.std.specs.List.{list_any};
+ghost use Rattle.std.specs.Prelude.{◌≡◌, ◌<◌, [], length, IfSome, IsTrue, OnOk, OnErr};
 ghost use Rattle.frame_index.specs.Kept as K;
+ghost use Rattle.frame_index.specs.Spots as S;
 
+use crate::spots::Spots;
 use definitions::{Digest, Spot, TurnFrame};
 use grid_world::Session;
 use reveal_check::frame_digest;
@@ -16,7 +17,7 @@ use streams::is_commit;
 pub(crate) struct KeptFrame {
     pub frame: TurnFrame,
     pub digest: Digest,
-    pub spots: Vec<Spot>,
+    pub spots: Spots,
 }
 
 /// By what a frame is looked for among many of its turn. Keys are compared and never hashed, so that no log can be made for which
@@ -39,33 +40,17 @@ pub(crate) struct TurnFrames {
 /// As many frames of a turn as are looked through one by one.
 const FEW: usize = 4;
 
-/// Whether one of the spots is in the log.
-pub(crate) fn has_log(spots: &[Spot], log: u32) -> bool
-    ensures { result ≡ list_any (λ x. x.log == log) spots.now }
-{
-    spots.iter().any(|other| other.log == log)
-}
-
-/// Notes a spot, unless its log has one.
-fn note_spot(spots: &mut Vec<Spot>, spot: Spot) -> Result<(), AllocError>
-    ensures ok { OnOk result (spots.new.items ≡ K.spot_noted spots.old.items spot) }
-    ensures err { OnErr result (spots.new.items ≡ spots.old.items) }
-{
-    if has_log(spots, spot.log) {
-        return Ok(());
-    }
-    spots.push(spot)?;
-    Ok(())
-}
+/// As many as an honest player has.
+const HONEST: usize = 2;
 
 /// Notes a spot of the frame.
 fn note_frame(one: &mut KeptFrame, spot: Spot) -> Result<(), AllocError>
-    ensures ok { OnOk result (one.new.spots.items ≡ K.spot_noted one.old.spots.items spot) }
+    ensures ok { OnOk result (one.new.spots.items ≡ S.spot_noted one.old.spots.items spot) }
     ensures err { OnErr result (one.new.spots.items ≡ one.old.spots.items) }
     ensures frame { one.new.frame ≡ one.old.frame }
     ensures digest { one.new.digest ≡ one.old.digest }
 {
-    note_spot(&mut one.spots, spot)
+    one.spots.note(spot)
 }
 
 /// Notes a spot of the frame that stands at the place.
@@ -102,6 +87,16 @@ fn place_in(kept: &[KeptFrame], frame: &TurnFrame, most: usize) -> Option<usize>
         }
     }
     None
+}
+
+/// Makes room for an honest player's frames where there is none yet, and for no more, since nearly all turns have those.
+fn make_room(alloc: Global, kept: &mut Vec<KeptFrame>) -> Result<(), AllocError>
+    ensures { kept.new.items ≡ kept.old.items }
+{
+    if kept.is_empty() {
+        *kept = Vec::with_capacity(alloc, HONEST)?;
+    }
+    Ok(())
 }
 
 impl TurnFrames {
@@ -150,8 +145,9 @@ impl TurnFrames {
         ensures err { OnErr result (self.new.kept.items ≡ self.old.kept.items) }
     {
         self.note_place(frame, &digest)?;
-        let mut spots = Vec::new(alloc);
-        spots.push(spot)?;
+        let mut spots = Spots::new(alloc);
+        spots.note(spot)?;
+        make_room(alloc, &mut self.kept)?;
         self.kept.push(KeptFrame {
             frame: *frame,
             digest,

@@ -7,10 +7,10 @@
 //! place, all logs at once, and never kept: [`start_heads`], [`read_first`] and [`read_turn`] read it for whoever wants more than
 //! the findings. A player of whom all that is kept is one legal play is judged once for all logs, and [`common_moves`] gives its moves.
 //!
-//! A frame is found among few others of its turn by comparing them, and among many by its digest in an ordered map, so that no log can be
-//! made for which the look-ups take long. An index keeps the allocator that it was made with, and takes
-//! from it the memory for what it keeps; all other calls say in their parameters where memory comes from. A want of memory
-//! changes nothing that the index promises. Nothing outside is touched.
+//! The frames of a turn stand in a row, at the place of their player. There a frame is found among few others by comparing them, and
+//! among many by its digest in an ordered map, so that no log can be made for which the look-ups take long. An index keeps the
+//! allocator that it was made with, and takes from it the memory for what it keeps; all other calls say in their parameters where
+//! memory comes from. A want of memory changes nothing that the index promises. Nothing outside is touched.
 //!
 //! What looks through the frames that are kept of a turn stands open in [`least`] and [`judged`], for callers who keep such frames
 //! themselves.
@@ -29,7 +29,9 @@ mod limits;
 mod listing;
 mod pairs;
 mod plain;
+mod rows;
 mod seen;
+mod spots;
 #[cfg(test)]
 mod tests;
 

@@ -3,7 +3,7 @@
 use crate::pairs::{bad_opening, collision};
 use crate::{FrameIndex, MOST_LOGS, Seen, findings};
 use commitment::digest_of;
-use definitions::limits::LONGEST_LOG;
+use definitions::limits::{LONGEST_LOG, MOST_TURNS};
 use definitions::{
     Cell, Digest, Finding, Kind, Move, Nonce, Opening, PlayerId, Spot, Turn, TurnFrame, What,
 };
@@ -338,6 +338,30 @@ fn logs_show_what_they_hold_together(rt: HostRuntime) -> Result<(), Fail> {
     for (number, row) in ROWS.iter().enumerate() {
         let found = found_in(alloc, row)?;
         assert!(rt; found.as_slice() == row.findings, "{number}");
+    }
+    Ok(())
+}
+
+/// Takes a commitment to the turn twice, and gathers what is kept of it.
+fn kept_of(alloc: Global, session: &Session, turn: Turn) -> Result<Vec<Seen>, AllocError> {
+    let mut index = FrameIndex::new(alloc);
+    let commit = frame_of(session, What::Commit, &opening(turn, 11, 0));
+    take(&mut index, session, &commit, Spot { log: 1, entry: 4 })?;
+    take(&mut index, session, &commit, Spot { log: 1, entry: 5 })?;
+    let mut seen = Vec::new(alloc);
+    index.gather(PLAYER, turn, &mut seen)?;
+    Ok(seen)
+}
+
+// the last turn that a session may have, the first one behind it, and the last one of all
+#[test]
+fn turns_that_no_session_has_are_kept_too(rt: HostRuntime) -> Result<(), Fail> {
+    let alloc = rt.alloc();
+    let session = session_of(alloc, CORRIDOR)?;
+    for turn in [MOST_TURNS - 1, MOST_TURNS, u32::MAX] {
+        let seen = kept_of(alloc, &session, turn)?;
+        assert!(rt; seen.len() == 1, "{turn}");
+        assert!(rt; seen[0].spot == Spot { log: 1, entry: 4 }, "{turn}");
     }
     Ok(())
 }

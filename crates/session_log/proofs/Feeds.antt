@@ -1,5 +1,5 @@
 -- Feeds: what becomes of a log that comes in pieces, by what is kept of the entry begun.
-use Rattle.std.proofs.Common.{◌≡◌, ◌≤◌, ◌<◌, inl, inr, ℕ, ◌+◌, ◌-◌, min, Bool, true, false, List, [], ◌∷◌, ◌++◌, length, take, drop, refl, sym, ◌∙◌, ap, arith, subst, length-append, append_assoc, get_or}
+use Rattle.std.proofs.Common.{◌≡◌, ◌≤◌, ◌<◌, inl, inr, ℕ, ◌+◌, ◌-◌, min, Bool, true, false, List, [], ◌∷◌, ◌++◌, length, take, drop, refl, sym, ◌∙◌, ap, arith, subst, zero-add, length-append, append_assoc, get_or}
 use Rattle.std.specs.Prelude.{Some, None, nat_lt, ◌==◌, if◌then◌else◌}
 use Rattle.std.proofs.lemmas.Bool.{cases_lt, eq-eqb, eqb-true, false≢true, le-ltb, lt-ltb}
 use Rattle.std.proofs.lemmas.List.{take_all, take_rest, take-append-drop, length-take-le}
@@ -18,7 +18,7 @@ use Rattle.session_log.specs.Feeding.{LogFeeding, FeedStep, more_step, fault_ste
 use Rattle.session_log.specs.Fed.{Fed, IsFeedOf, IsStepOf, after_found, what_found}
 use Rattle.session_log.proofs.Texts.{told_more}
 use Rattle.session_log.proofs.Found.{digest_more, found_count, found_more, found_torn, torn_found}
-use Rattle.session_log.proofs.Parts.{part_full, part_torn}
+use Rattle.session_log.proofs.Parts.{nothing_held, part_full, part_torn}
 
 -- what a part takes
 abbrev pub Takes : (p q : Part) (bytes : List ℕ) (count : ℕ) → Type 0
@@ -188,3 +188,22 @@ first_read game [] f r fed some lt step = absurd (omega arith)
 first_read game (me ∷ rest) f r fed some lt step =
     let same : take (length (me ∷ rest) - 1) (drop 1 (me ∷ rest)) ≡ rest = take_rest (me ∷ rest) 1 in
     first_entered game me rest f r fed lt (subst (λ (xs : List ℕ). IsStepOf r fed (entry_fed game me (feed_of f me) xs)) same step)
+
+-- a whole entry came at once
+pub whole_ended : (game : Game) (me : ℕ) (f : LogFeeding) (r : Fed) (next : Part) (bytes : List ℕ) (count : ℕ) (x : Found) → count ≡ told_len bytes + 35 → IsFeedOf r f → f.fault ≡ None → r.part.text_len ≡ 0 → r.part.digest_len ≡ 0 → is_torn bytes ≡ false →
+    ((chain : List ℕ) → HoldsPart r.part chain [] → x ≡ entry_at game me chain bytes) → ((chain : List ℕ) → HoldsPart r.part chain [] → HoldsPart next (digest_at bytes) []) →
+    IsStepOf (after_found (came r next count) x) (record { used = count; what = what_found r.at x }) (entry_fed game me f bytes)
+whole_ended game me f r next bytes count x counted is good text digest whole found nexts =
+    let none : f.held ≡ [] = nothing_held r.part f.chain f.held (is.part good) text digest in
+    let part : HoldsPart r.part f.chain [] = subst (HoldsPart r.part f.chain) none (is.part good) in
+    let here : entry_at game me f.chain (f.held ++ bytes) ≡ x = ap (λ (xs : List ℕ). entry_at game me f.chain (xs ++ bytes)) none ∙ sym (found f.chain part) in
+    let size : length f.held + count ≡ told_len (f.held ++ bytes) + 35 =
+    subst (λ (xs : List ℕ). length xs + count ≡ told_len (xs ++ bytes) + 35) (sym none) (zero-add count ∙ counted) in
+    let ended : HasEnded game me f next bytes count x = record {
+      found = here;
+      size = size;
+      next_part = subst (λ (xs : List ℕ). HoldsPart next (digest_at (xs ++ bytes)) []) (sym none) (nexts f.chain part);
+      whole = λ t. false≢true (sym whole ∙ torn_found game me f.chain bytes (sym (found f.chain part) ∙ t));
+    } in
+    subst (λ (y : Found). IsStepOf (after_found (came r next count) x) (record { used = count; what = what_found r.at x }) (step_by_found f bytes (told_len (f.held ++ bytes) + 35) y)) (sym here)
+    (ended_so game me f r next bytes count x is good ended)

@@ -2,7 +2,7 @@
 use Rattle.std.proofs.Common.{◌≡◌, ◌≤◌, ◌<◌, inl, inr, ℕ, ◌+◌, ◌-◌, min, Bool, true, false, List, [], ◌∷◌, ◌++◌, length, take, drop, refl, sym, ◌∙◌, ap, arith, subst, length-append, append_assoc}
 use Rattle.std.specs.Prelude.{not, bytes_eq, if◌then◌else◌}
 use Rattle.std.proofs.lemmas.Bool.{cases_lt, le-ltb}
-use Rattle.std.proofs.lemmas.List.{take_at, take_all, drop_at, length-take, length-drop, append-nil, take-append-drop, drop-drop}
+use Rattle.std.proofs.lemmas.List.{take_at, take_all, drop_at, length-take, length-drop, append-nil, nil_from_length, take-append-drop, drop-drop}
 use Rattle.std.proofs.Math.Seq.{take-add}
 use Rattle.sha2.specs.Hashers.{Holds256}
 use Rattle.sha2.specs.Sha256.{sha256}
@@ -11,7 +11,7 @@ use Rattle.session_log.specs.declared.finding.Found.TheVariants.{BadChain, BadEn
 use Rattle.session_log.specs.declared.part.Part.{Part}
 use Rattle.session_log.specs.Spelling.{chained}
 use Rattle.session_log.specs.Entries.{told_len, entry_of}
-use Rattle.session_log.specs.Finding.{text_at, digest_at, is_torn, owned_by, entry_at}
+use Rattle.session_log.specs.Finding.{text_at, digest_at, is_torn, owned_by, entry_at, found_by}
 use Rattle.session_log.specs.Parts.{HoldsPart, HoldsText, lacked}
 use Rattle.session_log.proofs.Keeping.{front_front}
 use Rattle.session_log.proofs.Texts.{entry_of-long, told_cut, told_more}
@@ -302,10 +302,10 @@ part_full p chain held part full =
     omega arith
 
 -- what stands there, by whether the digest is the one that chains the text
-found_by : (game : Game) (me : ℕ) (chain held text digest : List ℕ) → IsWhole held text digest →
+found_so : (game : Game) (me : ℕ) (chain held text digest : List ℕ) → IsWhole held text digest →
     entry_at game me chain held ≡ (if not (bytes_eq digest (chained chain text)) then BadChain else owned_by game me (entry_of text) (length text + 32) digest)
 unfolding entry_at
-found_by game me chain held text digest is =
+found_so game me chain held text digest is =
     let torn = is.torn in
     rw torn (ap (λ xs. if not (bytes_eq xs (chained chain (text_at held))) then BadChain else owned_by game me (entry_of (text_at held)) (told_len held + 35) xs) is.digest_is
     ∙ ap (λ xs. if not (bytes_eq digest (chained chain xs)) then BadChain else owned_by game me (entry_of xs) (told_len held + 35) digest) is.text_is
@@ -331,7 +331,7 @@ has_come game me p chain held size whole part =
       kept = part.of_text.kept;
       hashed = part.of_text.hashed;
       digest_is = is.digest_is ∙ sym all;
-      found = found_by game me chain held part.text part.digest is
+      found = found_so game me chain held part.text part.digest is
           ∙ ap (λ xs. if not (bytes_eq xs (chained chain part.text)) then BadChain else owned_by game me (entry_of part.text) (length part.text + 32) xs) (sym all)
           ∙ ap (λ n. if not (bytes_eq p.digest (chained chain part.text)) then BadChain else owned_by game me (entry_of part.text) (n + 32) p.digest) (sym part.of_text.len);
     }
@@ -386,3 +386,24 @@ pub next_held : (game : Game) (me : ℕ) (p q : Part) (chain held : List ℕ) �
 next_held game me p q chain held come hashed =
     let next : Part = record { kept = q.kept; text_len = 0; digest = q.digest; digest_len = 0; hasher = q.hasher } in
     subst (λ (xs : List ℕ). HoldsPart next xs []) (sym come.digest_is) (none_held next p.digest refl refl hashed)
+
+-- where nothing is kept, nothing came
+pub nothing_held : (p : Part) (chain held : List ℕ) → HoldsPart p chain held → p.text_len ≡ 0 → p.digest_len ≡ 0 → held ≡ []
+nothing_held p chain held part text digest =
+    part.all ∙ ap (λ xs. xs ++ part.digest) (nil_from_length part.text (sym part.of_text.len ∙ text)) ∙ nil_from_length part.digest (sym part.digest_len ∙ digest)
+
+-- and the hasher has what the entry is chained to
+pub bare_hashed : (p : Part) (chain held : List ℕ) → HoldsPart p chain held → p.text_len ≡ 0 → Holds256 p.hasher chain
+bare_hashed p chain held part text =
+    let none : part.text ≡ [] = nil_from_length part.text (sym part.of_text.len ∙ text) in
+    subst (Holds256 p.hasher) (ap (λ xs. chain ++ xs) none ∙ append-nil chain) part.of_text.hashed
+
+-- a whole entry, by the digest that its text should have
+pub whole_found : (game : Game) (me : ℕ) (chain bytes hash : List ℕ) → is_torn bytes ≡ false → hash ≡ chained chain (text_at bytes) → found_by game me bytes hash ≡ entry_at game me chain bytes
+unfolding entry_at
+whole_found game me chain bytes hash whole is = rw whole (ap (found_by game me bytes) is)
+
+-- nothing came of the entry behind it
+pub whole_next : (p q : Part) (digest : List ℕ) → p.text_len ≡ 0 → p.digest_len ≡ 0 → q ≡ record p { hasher = q.hasher } → Holds256 q.hasher digest → HoldsPart q digest []
+whole_next p q digest text none others hashed =
+    none_held q digest (ap (λ (r : Part). r.text_len) others ∙ text) (ap (λ (r : Part). r.digest_len) others ∙ none) hashed

@@ -28,6 +28,12 @@ abbrev pub owned_by : Game → ℕ → Option Entry → ℕ → List ℕ → Fou
 owned_by game me None count digest = BadEntry
 owned_by game me (Some e) count digest = if is_well_formed game me e then Whole e count digest else BadEntry
 
+-- what the whole entry is at the front of the bytes, whose text should have this digest
+abbrev pub found_by : Game → ℕ → List ℕ → List ℕ → Found
+found_by game me bytes hash =
+    if not (bytes_eq (digest_at bytes) hash) then BadChain
+    else owned_by game me (entry_of (text_at bytes)) (told_len bytes + 35) (digest_at bytes)
+
 -- the entry at the front of the bytes, behind what has this digest: the faults in the order in which they are tried
 unfoldable pub entry_at : Game → ℕ → List ℕ → List ℕ → Found
 entry_at game me chain bytes =

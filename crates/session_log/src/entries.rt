@@ -60,6 +60,7 @@ fn chose_of(body: &[u8]) -> Option<Entry>
 }
 
 /// The frame made that a body says.
+#[inline(always)]
 fn made_of(body: &[u8]) -> Option<Entry>
     ensures { result ≡ E.made_of body.now }
 {
@@ -70,6 +71,7 @@ fn made_of(body: &[u8]) -> Option<Entry>
 }
 
 /// The frame that was got, and its sender, that a body says.
+#[inline(always)]
 fn got_of(body: &[u8]) -> Option<Entry>
     ensures { result ≡ E.got_of body.now }
 {
@@ -83,6 +85,7 @@ fn got_of(body: &[u8]) -> Option<Entry>
 }
 
 /// The entry of this kind that a body says.
+#[inline(always)]
 fn entry_by(kind: u8, body: &[u8]) -> Option<Entry>
     ensures { result ≡ E.entry_by kind body.now }
 {
@@ -105,6 +108,7 @@ pub(crate) fn told_len(bytes: &[u8]) -> usize
 
 /// The entry that a text spells.
 #[tactic(auto, unfolding(crate::specs::Entries::entry_of))]
+#[inline(always)]
 fn entry_of(text: &[u8]) -> Option<Entry>
     ensures { result ≡ E.entry_of text.now }
 {
@@ -120,6 +124,7 @@ fn entry_of(text: &[u8]) -> Option<Entry>
 /// The entry that a text spells: the length of its body, its kind and its body, with nothing behind them and without the
 /// digest. None comes exactly where it is the text of no entry. Whether the session has such a turn or player, and whether
 /// the log's owner may have such an entry, is not asked here.
+#[inline(always)]
 pub fn read_entry(text: &[u8]) -> Option<Entry>
     ensures exact { result ≡ E.entry_of text.now }
     ensures found { IfSome result (λ e. entry_text e ≡ text.now) }

@@ -1,11 +1,16 @@
 //! A log is read that comes in pieces.
+//!
+//! An entry is handed on by value, from what finds it to who asked for it. Each of these calls would copy it, so they are inlined, here
+//! and in [`crate::finding`] and [`crate::entries`].
 
-ghost use Rattle.std.specs.Prelude.{◌≡◌, ◌+◌, ◌≤◌, ◌<◌, ◌∷◌, [], length, IfSome, None, Some};
+ghost use Rattle.std.specs.Prelude.{◌≡◌, ◌+◌, ◌≤◌, ◌<◌, ◌∷◌, [], false, length, IfSome, None, Some};
 ghost use Rattle.session_log.specs.Feeding as S;
+ghost use Rattle.session_log.specs.Finding as F;
 ghost use Rattle.session_log.specs.Feeding.{LogFeeding};
 ghost use Rattle.session_log.specs.Fed.{IsFedSo, IsFeedOf, IsGivenFirst, IsStepOf, after_found, what_found};
 
-use crate::finding::Found;
+use crate::entries::told_len;
+use crate::finding::{Found, is_torn};
 use crate::part::Part;
 use crate::reader::Next;
 use definitions::limits::LONGEST_LOG;
@@ -119,6 +124,7 @@ impl LogFeed {
     }
 
     /// The answer where this stands at the begin of the entry, of whose bytes the last of so many is the last.
+    #[inline(always)]
     fn answer(&mut self, used: usize, found: Found) -> LogFed
         requires some { 0 < used }
         requires good { self.old.fault ≡ None }
@@ -143,8 +149,27 @@ impl LogFeed {
         }
     }
 
-    /// Reads on in the owner's entries.
-    fn feed_entry(&mut self, session: &Session, owner: PlayerId, bytes: &[u8]) -> LogFed
+    /// Reads the whole entry at the front of the bytes, of which nothing came before.
+    #[inline(always)]
+    fn feed_whole(&mut self, session: &Session, owner: PlayerId, bytes: &[u8]) -> LogFed
+        requires few { self.old.used + length bytes.now ≤ LONGEST_LOG }
+        requires good { self.old.fault ≡ None }
+        requires text { self.old.part.text_len ≡ 0 }
+        requires digest { self.old.part.digest_len ≡ 0 }
+        requires whole { F.is_torn bytes.now ≡ false }
+        ensures so { IsFedSo result.what result.used self.new }
+        ensures step { (f : LogFeeding) → IsFeedOf self.old f → f.fault ≡ None → f.owner ≡ Some owner → IsStepOf self.new result (S.entry_fed session.now owner f bytes.now) }
+        ensures within { result.used ≤ length bytes.now }
+        ensures used { self.new.used ≡ self.old.used + result.used }
+    {
+        let count = told_len(bytes) + 35;
+        self.used += count as u32;
+        let found = self.part.take_whole(session, owner, bytes);
+        self.answer(count, found)
+    }
+
+    /// Reads on in the owner's entry that is begun, or that doesn't end in these bytes.
+    fn feed_part(&mut self, session: &Session, owner: PlayerId, bytes: &[u8]) -> LogFed
         requires few { self.old.used + length bytes.now ≤ LONGEST_LOG }
         requires good { self.old.fault ≡ None }
         ensures so { IsFedSo result.what result.used self.new }
@@ -162,6 +187,23 @@ impl LogFeed {
         }
         let found = self.part.close(session, owner);
         self.answer(count, found)
+    }
+
+    /// Reads on in the owner's entries. One that comes whole is read where it stands.
+    #[inline(always)]
+    fn feed_entry(&mut self, session: &Session, owner: PlayerId, bytes: &[u8]) -> LogFed
+        requires few { self.old.used + length bytes.now ≤ LONGEST_LOG }
+        requires good { self.old.fault ≡ None }
+        ensures so { IsFedSo result.what result.used self.new }
+        ensures step { (f : LogFeeding) → IsFeedOf self.old f → f.fault ≡ None → f.owner ≡ Some owner → IsStepOf self.new result (S.entry_fed session.now owner f bytes.now) }
+        ensures within { result.used ≤ length bytes.now }
+        ensures used { self.new.used ≡ self.old.used + result.used }
+    {
+        if self.part.is_bare() && !is_torn(bytes) {
+            self.feed_whole(session, owner, bytes)
+        } else {
+            self.feed_part(session, owner, bytes)
+        }
     }
 
     /// The first byte came, which is a player's.
@@ -208,6 +250,7 @@ impl LogFeed {
 
     /// Reads on, or answers the fault that was met.
     #[tactic(auto, unfolding(crate::specs::Feeding::fed_step))]
+    #[inline(always)]
     fn feed_on(&mut self, session: &Session, bytes: &[u8]) -> LogFed
         requires { self.old.used + length bytes.now ≤ LONGEST_LOG }
         ensures step { (f : LogFeeding) → IsFeedOf self.old f → IsStepOf self.new result (S.fed_step session.now f bytes.now) }
@@ -233,6 +276,7 @@ impl LogFeed {
     /// Entry, BadChain and BadEntry come with the entry's last byte, BadEntry of 0 also with an owner's byte that is no player's
     /// number, and `used` counts the bytes up to that one: the rest is to be fed next. More comes where all bytes are used and
     /// none of these comes. After a fault each feed answers it again, and uses nothing. A log has at most `LONGEST_LOG` bytes.
+    #[inline(always)]
     pub fn feed(&mut self, session: &Session, bytes: &[u8]) -> LogFed
         requires { self.old.used + length bytes.now ≤ LONGEST_LOG }
         ensures step { (f : LogFeeding) → IsFeedOf self.old f → IsStepOf self.new result (S.fed_step session.now f bytes.now) }

@@ -1,6 +1,6 @@
 //! What stands where an entry of a log begins.
 
-ghost use Rattle.std.specs.Prelude.{◌≡◌, ◌+◌, ◌≤◌, length, take, drop, bytes_eq};
+ghost use Rattle.std.specs.Prelude.{◌≡◌, ◌+◌, ◌≤◌, false, length, take, drop, bytes_eq};
 ghost use Rattle.definitions.specs.Entries as D;
 ghost use Rattle.definitions.specs.Logs.{player_of, turn_of};
 ghost use Rattle.session_log.specs.Spelling as S;
@@ -68,6 +68,7 @@ fn turn_of(frame: &TurnFrame) -> Turn
 }
 
 /// Whether the owner's log may have the entry.
+#[inline(always)]
 fn is_well_formed(session: &Session, owner: PlayerId, entry: &Entry) -> bool
     ensures { result ≡ D.is_well_formed session.now owner entry.now }
 {
@@ -84,6 +85,7 @@ fn is_well_formed(session: &Session, owner: PlayerId, entry: &Entry) -> bool
 }
 
 /// The entry that a text spells, where the owner's log may have it.
+#[inline(always)]
 pub(crate) fn owned_by(
     session: &Session,
     owner: PlayerId,
@@ -106,7 +108,7 @@ pub(crate) fn owned_by(
 }
 
 /// Whether the bytes end before the entry that begins with them does.
-fn is_torn(bytes: &[u8]) -> bool
+pub(crate) fn is_torn(bytes: &[u8]) -> bool
     ensures { result ≡ F.is_torn bytes.now }
 {
     bytes.len() < 35 || bytes.len() < told_len(bytes) + 35
@@ -122,12 +124,23 @@ pub(crate) fn entry_at(session: &Session, owner: PlayerId, chain: &[u8], bytes: 
         return Found::Torn;
     }
     let end = told_len(bytes) + 3;
-    let text = &bytes[..end];
+    let hash = chained(chain, &bytes[..end]);
+    found_by(session, owner, bytes, &hash)
+}
+
+/// What the whole entry is at the front of the bytes, whose text should have this digest.
+#[inline(always)]
+pub(crate) fn found_by(session: &Session, owner: PlayerId, bytes: &[u8], hash: &[u8; 32]) -> Found
+    requires { F.is_torn bytes.now ≡ false }
+    ensures found { result ≡ F.found_by session.now owner bytes.now hash.now }
+    ensures within { F.IsWithin (length bytes.now) result }
+{
+    let end = told_len(bytes) + 3;
     let digest = digest_at(bytes, end);
-    if !same_digest(&digest, &chained(chain, text)) {
+    if !same_digest(&digest, hash) {
         return Found::BadChain;
     }
-    owned_by(session, owner, text, end + 32, digest)
+    owned_by(session, owner, &bytes[..end], end + 32, digest)
 }
 
 /// The 32 bytes from this one on.

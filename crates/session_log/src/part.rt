@@ -1,13 +1,13 @@
 //! The entry of a log that is begun, as its bytes come: what a good one needs of them, and a hash of the rest.
 
-ghost use Rattle.std.specs.Prelude.{◌≡◌, ◌+◌, ◌-◌, ◌<◌, ◌≤◌, ◌^◌, ◌++◌, ℕ, List, [], length, min, take, ◌==◌};
+ghost use Rattle.std.specs.Prelude.{◌≡◌, ◌+◌, ◌-◌, ◌<◌, ◌≤◌, ◌^◌, ◌++◌, ◌&&◌, ℕ, List, [], false, length, min, take, ◌==◌};
 ghost use Rattle.sha2.specs.Hashers.{Holds256};
 ghost use Rattle.sha2.specs.Sha256.{sha256};
 ghost use Rattle.session_log.specs.Finding as F;
 ghost use Rattle.session_log.specs.Parts.{HoldsPart, HoldsText, lacked};
 
 use crate::entries::told_len;
-use crate::finding::{Found, owned_by, same_digest};
+use crate::finding::{Found, found_by, owned_by, same_digest};
 use byte_fields::put_slice;
 use definitions::PlayerId;
 use grid_world::Session;
@@ -137,6 +137,41 @@ impl Part {
         let hasher = mem::replace(&mut self.hasher, Sha256::new());
         hash_on(&mut self.hasher, &self.digest);
         hasher.finalize()
+    }
+
+    /// Whether nothing of the entry came yet.
+    pub(crate) fn is_bare(&self) -> bool
+        ensures { result ≡ ((self.now.text_len == 0) && (self.now.digest_len == 0)) }
+    {
+        self.text_len == 0 && self.digest_len == 0
+    }
+
+    /// The digest that this text should have, of which nothing came yet. The hasher goes on with the other one.
+    fn hash_text(&mut self, text: &[u8], digest: &[u8]) -> [u8; 32]
+        ensures hash { (message : List ℕ) → Holds256 self.old.hasher message → result ≡ sha256 (message ++ text.now) }
+        ensures hasher { Holds256 self.new.hasher digest.now }
+        ensures others { self.new ≡ record self.old { hasher = self.new.hasher } }
+    {
+        hash_on(&mut self.hasher, text);
+        let hasher = mem::replace(&mut self.hasher, Sha256::new());
+        hash_on(&mut self.hasher, digest);
+        hasher.finalize()
+    }
+
+    /// What the whole entry is at the front of the bytes, of which nothing came before: it is read where it stands, and nothing of it
+    /// is kept. The next one is chained to its digest, and nothing of that came yet.
+    #[inline(always)]
+    pub(crate) fn take_whole(&mut self, session: &Session, owner: PlayerId, bytes: &[u8]) -> Found
+        requires text { self.old.text_len ≡ 0 }
+        requires digest { self.old.digest_len ≡ 0 }
+        requires whole { F.is_torn bytes.now ≡ false }
+        ensures found { (chain : List ℕ) → HoldsPart self.old chain [] → result ≡ F.entry_at session.now owner chain bytes.now }
+        ensures part { (chain : List ℕ) → HoldsPart self.old chain [] → HoldsPart self.new (F.digest_at bytes.now) [] }
+        ensures digest { self.new.digest_len ≡ 0 }
+    {
+        let end = told_len(bytes) + 3;
+        let hash = self.hash_text(&bytes[..end], &bytes[end..end + 32]);
+        found_by(session, owner, bytes, &hash)
     }
 
     /// What the entry is that came whole. The next one is chained to its digest, and nothing of that came yet.

@@ -1,4 +1,4 @@
-//! A log of one choice, fed in three pieces, and then a copy of its entry, which is chained to nothing there.
+//! A log of one choice: fed in three pieces, and then a copy of its entry, which is chained to nothing there; and fed at once.
 
 ghost use Rattle.std.specs.Prelude.{◌≡◌, ◌+◌, ◌≤◌, length};
 
@@ -41,6 +41,17 @@ static REST: LogFed = LogFed {
 static COPY: LogFed = LogFed {
     used: 76,
     what: LogFedWhat::BadChain(77),
+};
+
+/// All of the log at once, and a few bytes that end no entry.
+static WHOLE: LogFed = LogFed {
+    used: 77,
+    what: LogFedWhat::Entry(ENTRY),
+};
+
+static LATER: LogFed = LogFed {
+    used: 19,
+    what: LogFedWhat::More,
 };
 
 fn corridor(alloc: Global) -> Result<Session, Fail> {
@@ -103,5 +114,20 @@ fn an_entry_comes_with_its_last_byte(rt: HostRuntime) -> Result<(), Fail> {
     assert!(rt; stands(&feed, Some(1), Next::End));
     assert!(rt; finds(&mut feed, &session, &bytes[1..], &COPY));
     assert!(rt; stands(&feed, Some(1), Next::BadChain(77)));
+    Ok(())
+}
+
+#[test]
+fn an_entry_that_comes_whole_leaves_what_stands_behind_it(rt: HostRuntime) -> Result<(), Fail> {
+    let session = corridor(rt.alloc())?;
+    let mut bytes = [0; 96];
+    let count = put_log(&session, &mut bytes);
+    assert_eq!(rt; count, 77);
+
+    let mut feed = fresh(&session);
+    assert!(rt; finds(&mut feed, &session, &bytes, &WHOLE));
+    assert!(rt; stands(&feed, Some(1), Next::End));
+    assert!(rt; finds(&mut feed, &session, &bytes[77..], &LATER));
+    assert!(rt; stands(&feed, Some(1), Next::Torn(77)));
     Ok(())
 }

@@ -1,9 +1,6 @@
-use Rattle.std.proofs.Common.{◌≡◌, length}
-use Rattle.frame_index.proofs.Leaving.{HalfLeft}
+use Rattle.std.proofs.Common.{take}
+use Rattle.frame_index.proofs.Leaving.{LeftBy}
 use Rattle.frame_index.proofs.common.leave.Given as goal
 
-abbrev pub invariant-loop-log : goal.invariant-loop-log
-invariant-loop-log l = record {
-  long : length l.chosen ≡ 64;
-  half : HalfLeft l.initial.chosen l.spots l.log l.chosen;
-}
+abbrev pub invariant-loop-spot : goal.invariant-loop-spot
+invariant-loop-spot l = LeftBy l.initial.chosen (take l.spot-index l.spots) l.left

@@ -1,48 +1,20 @@
-use Rattle.std.proofs.Common.{◌≡◌, ◌∙◌, ap, cond, refl, rules, sym, List, Option, Some, []}
-use Rattle.std.specs.Prelude.{◌&&◌, ◌==◌}
-use Rattle.std.specs.Option.{option_map_or}
-use Rattle.indexmap.specs.IndexMap.{get}
-use Rattle.frame_index.specs.declared.frames.FrameIndex.{FrameIndex}
-use Rattle.frame_index.specs.declared.kept.KeptFrame.{KeptFrame}
-use Rattle.frame_index.specs.declared.kept.TurnFrames.{TurnFrames}
-use Rattle.frame_index.specs.Frames.{key_eq}
+use Rattle.std.proofs.Common.{arith, refl}
 use Rattle.frame_index.proofs.Growing.{on_err, on_ok}
-use Rattle.frame_index.proofs.Indexed.{refused_by, taken_by}
+use Rattle.frame_index.proofs.Indexed.{alike_at, taken_at}
+use Rattle.frame_index.proofs.Parted.{refused_in_rows, taken_in_rows}
+use Rattle.frame_index.specs.Rows.{kept_by}
+use Rattle.frame_index.specs.declared.frames.FrameIndex.{FrameIndex}
 use Rattle.frame_index.proofs.frames.FrameIndex.take_frame.Goals as goal
 
-items : TurnFrames → List KeptFrame
-items v = v.kept.items
-
-pub returns-in-Some-clause-ok : goal.returns-in-Some-clause-ok
-unfolding items
-returns-in-Some-clause-ok c =
-    let old : items c.in-Some.frames.now ≡ option_map_or items (get key_eq c.args.self.now.turns (record { player = c.key_of-key.result.player; turn = c.key_of-key.result.turn })) [] =
-    ap (λ (o : Option TurnFrames). option_map_or items o []) c.in-Some.ensures.value in
-    let updates = (c.get_mut.follows.holds c.take.new.self).3 (search rules) in
-    let new : FrameIndex = record { alloc = c.args.self.now.alloc; turns = c.get_mut.follows.lender c.take.new.self } in
-    on_ok c.take.result (taken_by items (λ q t. get key_eq c.args.self.now.turns (record { player = q; turn = t })) (λ q t. get key_eq (c.get_mut.follows.lender c.take.new.self) (record { player = q; turn = t }))
-    c.key_of-key.result.player c.key_of-key.result.turn c.take.new.self (λ q t. updates.0 (record { player = q; turn = t })) c.args.session.now c.args.frame.now c.args.spot c.args.self.now new (λ q t. refl) (λ q t. refl)
-    c.key_of-key.ensures.player c.key_of-key.ensures.turn (items c.in-Some.frames.now) old) c.take.ensures.ok
-
-pub returns-in-Some-clause-err : goal.returns-in-Some-clause-err
-unfolding items
-returns-in-Some-clause-err c =
-    let old : items c.in-Some.frames.now ≡ option_map_or items (get key_eq c.args.self.now.turns (record { player = c.key_of-key.result.player; turn = c.key_of-key.result.turn })) [] =
-    ap (λ (o : Option TurnFrames). option_map_or items o []) c.in-Some.ensures.value in
-    let updates = (c.get_mut.follows.holds c.take.new.self).3 (search rules) in
-    let new : FrameIndex = record { alloc = c.args.self.now.alloc; turns = c.get_mut.follows.lender c.take.new.self } in
-    on_err c.take.result (refused_by items (λ q t. get key_eq c.args.self.now.turns (record { player = q; turn = t })) (λ q t. get key_eq (c.get_mut.follows.lender c.take.new.self) (record { player = q; turn = t }))
-    c.key_of-key.result.player c.key_of-key.result.turn c.take.new.self (λ q t. updates.0 (record { player = q; turn = t })) c.args.self.now new (λ q t. refl) (λ q t. refl) (items c.in-Some.frames.now) old) c.take.ensures.err
-
 pub returns-clause-ok : goal.returns-clause-ok
-unfolding items
 returns-clause-ok c =
-    let stayed : c.get_mut.follows.lender-at-none ≡ c.args.self.now.turns = c.get_mut.follows.holds-at-none in
-    let none : option_map_or items (get key_eq c.args.self.now.turns (record { player = c.key_of-key.result.player; turn = c.key_of-key.result.turn })) [] ≡ [] =
-    ap (λ (o : Option TurnFrames). option_map_or items o []) (sym c.in_default.ensures.value) in
-    let new : FrameIndex = record { alloc = c.args.self.now.alloc; turns = c.insert.new.self } in
-    taken_by items (λ q t. get key_eq c.args.self.now.turns (record { player = q; turn = t })) (λ q t. get key_eq c.insert.new.self (record { player = q; turn = t }))
-    c.key_of-key.result.player c.key_of-key.result.turn c.take-2.new.self
-    (λ q t. c.in_ok-insert.ensures.updates.0 (record { player = q; turn = t })
-    ∙ (λ i. cond ((c.key_of-key.result.player == q) && (c.key_of-key.result.turn == t)) (Some c.take-2.new.self) (get key_eq (stayed i) (record { player = q; turn = t }))))
-    c.args.session.now c.args.frame.now c.args.spot c.args.self.now new (λ q t. refl) (λ q t. refl) c.key_of-key.ensures.player c.key_of-key.ensures.turn (items c.new-frames.result) (c.new-frames.ensures ∙ sym none) c.in_ok-take.ensures.ok
+    let new : FrameIndex = record { alloc = c.args.self.now.alloc; rows = c.take_frame.new.rows; beyond = c.args.self.now.beyond } in
+    on_ok c.take_frame.result (λ grows. taken_in_rows c.args.self.now new refl c.args.session.now c.args.frame.now c.args.spot (let t = c.key_of-player.ensures.turn in omega (arith, c.if-turn-ge-MOST_TURNS.false))
+    (taken_at (kept_by c.args.self.now.rows.items) (kept_by c.take_frame.new.rows.items) _ _ c.args.session.now c.args.frame.now c.args.spot c.key_of-player.ensures.player c.key_of-player.ensures.turn grows c.take_frame.ensures.others))
+    c.take_frame.ensures.ok
+
+pub returns-clause-err : goal.returns-clause-err
+returns-clause-err c =
+    let new : FrameIndex = record { alloc = c.args.self.now.alloc; rows = c.take_frame.new.rows; beyond = c.args.self.now.beyond } in
+    on_err c.take_frame.result (λ alike. refused_in_rows c.args.self.now new refl
+    (alike_at (kept_by c.args.self.now.rows.items) (kept_by c.take_frame.new.rows.items) _ _ alike c.take_frame.ensures.others)) c.take_frame.ensures.err

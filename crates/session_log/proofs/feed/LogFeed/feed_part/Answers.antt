@@ -1,7 +1,7 @@
 use Rattle.std.proofs.Common.{subst, sym}
 use Rattle.session_log.specs.Fed.{Fed, IsFeedOf}
 use Rattle.session_log.proofs.Feeds.{entry_ended, entry_going, full, not_full, step_same}
-use Rattle.session_log.proofs.feed.LogFeed.feed_entry.Goals as goal
+use Rattle.session_log.proofs.feed.LogFeed.feed_part.Goals as goal
 
 pub returns-then-not-is_whole-clause-step : goal.returns-then-not-is_whole-clause-step
 returns-then-not-is_whole-clause-step c = λ f is good mine.

@@ -1,0 +1,17 @@
+-- Spots: where a frame stands, at most once in each log.
+use Rattle.std.specs.Prelude.{ℕ, ◌≤◌, List, [], ◌∷◌, ◌++◌, ◌==◌, if◌then◌else◌}
+use Rattle.std.specs.List.{list_any}
+use Rattle.definitions.specs.declared.findings.Spot.{Spot}
+use Rattle.definition_laws.specs.Members.{Has}
+
+-- the spots, in the order in which they came
+pub record Spotted : Type 0 where
+  pub items : List Spot
+
+-- the spots with one more, unless its log has one
+abbrev pub spot_noted : List Spot → Spot → List Spot
+spot_noted spots s = if list_any (λ x. x.log == s.log) spots then spots else spots ++ s ∷ []
+
+-- none of them is in a log above this one
+abbrev pub AreUpTo : ℕ → List Spot → Type 0
+AreUpTo top spots = (s : Spot) → Has spots s → s.log ≤ top

@@ -1,0 +1,73 @@
+//! Where a frame stands first in each log that got it.
+
+ghost use Rattle.std.specs.Prelude.{◌≡◌, ◌==◌, [], OnErr, OnOk};
+ghost use Rattle.std.specs.List.{list_any};
+ghost use Rattle.frame_index.specs.Spots as S;
+
+use definitions::Spot;
+use std::alloc::{AllocError, Global};
+use std::marker::Model;
+
+/// Spots of which no two are in one log, in the order in which they came.
+#[derive(Drop)]
+pub(crate) struct Spots {
+    list: Vec<Spot>,
+    // no log that has a spot is above it: logs mostly come one behind the other, and then none has to be looked for
+    top: u32,
+}
+
+impl Model for Spots {
+    ghost use Rattle.frame_index.specs.Spots.{AreUpTo, Spotted};
+
+    ghost Value = { Spotted };
+
+    ghost view = { λ s. record { items = s.list.items } };
+
+    ghost invariant = { λ s. AreUpTo s.top s.list.items };
+}
+
+/// Whether one of the spots is in the log.
+fn has_log(spots: &[Spot], log: u32) -> bool
+    ensures { result ≡ list_any (λ x. x.log == log) spots.now }
+{
+    spots.iter().any(|other| other.log == log)
+}
+
+impl Spots {
+    /// None, and no memory is taken for them.
+    pub(crate) fn new(alloc: Global) -> Spots
+        ensures { result.items ≡ [] }
+    {
+        Spots {
+            list: Vec::new(alloc),
+            top: 0,
+        }
+    }
+
+    /// All of them.
+    pub(crate) fn all(&self) -> &[Spot]
+        ensures { result.now ≡ self.now.items }
+    {
+        &self.list
+    }
+
+    /// Whether one of them is in the log.
+    fn has(&self, log: u32) -> bool
+        ensures { result ≡ list_any (λ x. x.log == log) self.now.items }
+    {
+        log <= self.top && has_log(&self.list, log)
+    }
+
+    /// Notes a spot, unless its log has one.
+    pub(crate) fn note(&mut self, spot: Spot) -> Result<(), AllocError>
+        ensures ok { OnOk result (self.new.items ≡ S.spot_noted self.old.items spot) }
+        ensures err { OnErr result (self.new.items ≡ self.old.items) }
+    {
+        if self.has(spot.log) {
+            return Ok(());
+        }
+        self.list.push(spot)?;
+        self.top = self.top.max(spot.log);
+        Ok(())
+    }
+}
