@@ -1,5 +1,4 @@
-//! Loops of players over stations in memory, as tests: one failing call at each place, floods, stops at each place, breaches, links that are lost,
-//! and orders of readiness.
+//! Loops of players over stations in memory, as tests: floods, breaches, what sockets bring, and links that are lost.
 //!
 //! The harness is that of `acceptance_loops`. A library without functions of its own: everything in it is a test.
 #![tactic(auto)]
@@ -7,14 +6,8 @@
 #[cfg(test)]
 mod brought;
 #[cfg(test)]
-mod faults;
-#[cfg(test)]
 mod floods;
 #[cfg(test)]
 mod hostile;
 #[cfg(test)]
 mod links;
-#[cfg(test)]
-mod orders;
-#[cfg(test)]
-mod stops;
