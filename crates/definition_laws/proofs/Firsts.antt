@@ -1,8 +1,9 @@
 -- Firsts: each move that is resolved is that of the first reveal that opens the digest held and is legal.
-use Rattle.std.proofs.Common.{Bool, List, None, Some, [], ap, arith, false, inl, inr, length, refl, true, suc, zero, ℕ, ◌*◌, ◌++◌, ◌+◌, ◌∙◌, ◌∷◌, ◌≡◌, ◌⊎◌, Option, slice_get, take}
-use Rattle.std.specs.Prelude.{if◌then◌else◌, min, nat_lt}
+use Rattle.std.proofs.Common.{List, None, Some, [], ap, arith, inl, inr, length, refl, suc, zero, ℕ, ◌*◌, ◌++◌, ◌+◌, ◌∙◌, ◌∷◌, ◌≡◌, ◌⊎◌, Option, slice_get, take}
+use Rattle.std.specs.Prelude.{min, nat_lt}
 use Rattle.std.proofs.lemmas.List.{take-append-le}
 use Rattle.std.proofs.lemmas.Option.{slice_get_within}
+use Rattle.plain_lemmas.proofs.Tests.{of_chosen}
 use Rattle.definitions.specs.declared.world.Move.{Move}
 use Rattle.definitions.specs.declared.openings.Digest.{Digest}
 use Rattle.definitions.specs.declared.frames.TurnFrame.{TurnFrame}
@@ -46,10 +47,6 @@ move_first game q fs k (Some d) e w t m h = go (first_opening game q k.moves d f
               ap (λ (ms : List Move). first_opening game q ms d fs t) front ∙ ap (first_opening game q k.moves d fs) b.0 ∙ f ∙ ap (λ (x : Move). Some x) b.1,
             )
 
-choice_first : (game : Game) (q : ℕ) (fs : List TurnFrame) (k l : Known) (b : Bool) → AreFirst game q fs k → AreFirst game q fs l → AreFirst game q fs (if b then k else l)
-choice_first game q fs k l true a b = a
-choice_first game q fs k l false a b = b
-
 known_to_first : (game : Game) (q : ℕ) (fs : List TurnFrame) (n : ℕ) → AreFirst game q fs (known_to game q fs n)
 unfolding known_to next_known
 known_to_first game q fs zero = λ t m h. absurd (let none : None ≡ Some m = h in cc)
@@ -57,8 +54,8 @@ known_to_first game q fs (suc n) = go (known_to game q fs n) (known_to_first gam
   where
     go : (k : Known) → AreFirst game q fs k → AreFirst game q fs (next_known game q fs k)
     go k w =
-        choice_first game q fs _ _ (nat_lt (length k.digests) (min (length k.moves + game.ahead) game.turns)) (commit_first game q fs k (first_commit fs (length k.digests)) w)
-        (choice_first game q fs _ _ (nat_lt (length k.moves) game.turns) (move_first game q fs k (slice_get k.digests (length k.moves)) refl w) w)
+        of_chosen (AreFirst game q fs) (nat_lt (length k.digests) (min (length k.moves + game.ahead) game.turns)) _ _ (commit_first game q fs k (first_commit fs (length k.digests)) w)
+        (of_chosen (AreFirst game q fs) (nat_lt (length k.moves) game.turns) _ _ (move_first game q fs k (slice_get k.digests (length k.moves)) refl w) w)
 
 -- a move that is resolved is the first that opens the digest held, legal after the moves before
 pub resolved_is_first : (game : Game) (me q t : ℕ) (h : List Entry) (m : Move) → resolved game me h q t ≡ Some m →

@@ -1,6 +1,7 @@
 -- What is known of a player only grows as its frames come.
 use Rattle.std.proofs.Common.{Bool, List, None, Some, [], ap, append_assoc, arith, false, inl, inr, length, refl, subst, suc, sym, true, zero, ℕ, ◌*◌, ◌++◌, ◌+◌, ◌∙◌, ◌∷◌, ◌≡◌, ◌⊎◌}
 use Rattle.std.specs.Prelude.{Option, if◌then◌else◌, min, nat_lt, slice_get, ◌==◌}
+use Rattle.plain_lemmas.proofs.Tests.{of_chosen}
 use Rattle.definitions.specs.Logs.{frames_of, got_in, got_of, made, made_in}
 use Rattle.definitions.specs.declared.openings.Digest.{Digest}
 use Rattle.definitions.specs.declared.frames.TurnFrame.TheVariants.{Commit, Reveal}
@@ -54,15 +55,11 @@ move_grows : (k : Known) (o : Option Move) → IsBeginning k (with_move k o)
 move_grows k None = IsBeginning_refl k
 move_grows k (Some m) = record { digests_after = []; moves_after = m ∷ []; digests_are = sym (append_nil k.digests); moves_are = refl }
 
-choice_grows : (k l m : Known) (b : Bool) → IsBeginning k l → IsBeginning k m → IsBeginning k (if b then l else m)
-choice_grows k l m true p q = p
-choice_grows k l m false p q = q
-
 pub next_grows : (game : Game) (q : ℕ) (fs : List TurnFrame) (k : Known) → IsBeginning k (next_known game q fs k)
 unfolding next_known
 next_grows game q fs k =
-    choice_grows k _ _ (nat_lt (length k.digests) (min (length k.moves + game.ahead) game.turns)) (commit_grows k _)
-    (choice_grows k _ _ (nat_lt (length k.moves) game.turns) (move_grows k _) (IsBeginning_refl k))
+    of_chosen (IsBeginning k) (nat_lt (length k.digests) (min (length k.moves + game.ahead) game.turns)) _ _ (commit_grows k _)
+    (of_chosen (IsBeginning k) (nat_lt (length k.moves) game.turns) _ _ (move_grows k _) (IsBeginning_refl k))
 
 -- with more frames the same comes next, or nothing came
 commit_same : (k : Known) (o p : Option Digest) → ((d : Digest) → o ≡ Some d → p ≡ Some d) → (with_commit k o ≡ with_commit k p) ⊎ (with_commit k o ≡ k)

@@ -4,6 +4,7 @@ use Rattle.std.specs.Prelude.{Option, if◌then◌else◌, is_some, min, nat_lt,
 use Rattle.std.specs.Option.{option_or}
 use Rattle.std.proofs.lemmas.Bool.{and_parts, eqb-true, false≢true, or_cases}
 use Rattle.std.specs.List.{list_all}
+use Rattle.plain_lemmas.proofs.Tests.{of_chosen}
 use Rattle.definitions.specs.declared.frames.TurnFrame.TheVariants.{Commit, Reveal}
 use Rattle.definitions.specs.Logs.{digest_eq, frames_of}
 use Rattle.definitions.specs.Moves.{is_legal, track_after}
@@ -105,15 +106,11 @@ with_move_sound game q fs k s = at (slice_get k.digests (length k.moves)) refl
                 let P : ℕ → Type 0 = λ u. IsOpened game fs u n d in
                 (d, there, subst P (sym b.0) (first_opening_opens game q k.moves d fs (length k.moves) n is))
 
-choice_sound : (game : Game) (fs : List TurnFrame) (k l : Known) (b : Bool) → IsSound game fs k → IsSound game fs l → IsSound game fs (if b then k else l)
-choice_sound game fs k l true h i = h
-choice_sound game fs k l false h i = i
-
 next_known_sound : (game : Game) (q : ℕ) (fs : List TurnFrame) (k : Known) → IsSound game fs k → IsSound game fs (next_known game q fs k)
 unfolding next_known
 next_known_sound game q fs k s =
-    choice_sound game fs _ _ (nat_lt (length k.digests) (min (length k.moves + game.ahead) game.turns)) (with_commit_sound game fs k s)
-    (choice_sound game fs _ _ (nat_lt (length k.moves) game.turns) (with_move_sound game q fs k s) s)
+    of_chosen (IsSound game fs) (nat_lt (length k.digests) (min (length k.moves + game.ahead) game.turns)) _ _ (with_commit_sound game fs k s)
+    (of_chosen (IsSound game fs) (nat_lt (length k.moves) game.turns) _ _ (with_move_sound game q fs k s) s)
 
 pub known_to_sound : (game : Game) (q : ℕ) (fs : List TurnFrame) (n : ℕ) → IsSound game fs (known_to game q fs n)
 unfolding known_to

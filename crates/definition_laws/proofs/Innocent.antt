@@ -4,6 +4,7 @@ use Rattle.std.specs.Prelude.{Option, find, flat_map, if◌then◌else◌, map, 
 use Rattle.std.specs.Option.{option_or}
 use Rattle.std.proofs.lemmas.Bool.{and_parts, and_right, cond-false, eqb-true, false≢true, leb-true}
 use Rattle.plain_lemmas.proofs.Each.{each_append, each_kept}
+use Rattle.plain_lemmas.proofs.Tests.{of_chosen}
 use Rattle.definitions.specs.declared.findings.Kind.TheVariants.{BadOpening, Collision, Illegal, TwoCommits}
 use Rattle.definitions.specs.Findings.{Sighting, are_bad_opening, are_collision, are_illegal, are_two_commits, finding_at, finding_of, first_pair, got_known, is_illegal_at, is_reveal, same_digest, show_kind, sightings, sightings_from}
 use Rattle.definitions.specs.declared.openings.Opening.{Opening}
@@ -148,14 +149,10 @@ known_chosen game q os fs (suc n) all = go (known_to game q fs n) (known_chosen 
     commits k None h = h
     commits k (Some d) h = h
 
-    choice : (k l : Known) (b : Bool) → AreChosenMoves os k → AreChosenMoves os l → AreChosenMoves os (if b then k else l)
-    choice k l true h i = h
-    choice k l false h i = i
-
     go : (k : Known) → AreChosenMoves os k → AreChosenMoves os (next_known game q fs k)
     go k h =
-        choice _ _ (nat_lt (length k.digests) (min (length k.moves + game.ahead) game.turns)) (commits k (first_commit fs (length k.digests)) h)
-        (choice _ _ (nat_lt (length k.moves) game.turns) (moves_chosen game q os fs k all h) h)
+        of_chosen (AreChosenMoves os) (nat_lt (length k.digests) (min (length k.moves + game.ahead) game.turns)) _ _ (commits k (first_commit fs (length k.digests)) h)
+        (of_chosen (AreChosenMoves os) (nat_lt (length k.moves) game.turns) _ _ (moves_chosen game q os fs k all h) h)
 
 take_map_take : (t n : ℕ) (os : List Opening) → t ≤ n → take t (map (λ o. o.mv) (take n os)) ≡ map (λ o. o.mv) (take t os)
 take_map_take zero n os h = refl

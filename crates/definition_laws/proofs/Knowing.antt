@@ -3,6 +3,7 @@ use Rattle.std.proofs.Common.{Bool, List, None, Some, [], ap, arith, false, inl,
 use Rattle.std.specs.Prelude.{Option, if◌then◌else◌, min, nat_lt, slice_get, ◌==◌, ◌||◌}
 use Rattle.std.proofs.lemmas.Bool.{cond-false, cond-true, le-ltb, lt-ltb, ltb-false, ltb-true}
 use Rattle.std.proofs.Math.Nat.{suc-add}
+use Rattle.plain_lemmas.proofs.Tests.{of_chosen}
 use Rattle.definitions.specs.Held.{Known, first_commit, first_opening, known_to, next_known, opened, places_in, with_commit, with_move}
 use Rattle.definitions.specs.declared.openings.Digest.{Digest}
 use Rattle.definitions.specs.declared.frames.TurnFrame.TheVariants.{Commit, Reveal}
@@ -27,14 +28,10 @@ places_in_le game q fs (suc n) = go (known_to game q fs n) (places_in_le game q 
     move_le k None h = omega arith
     move_le k (Some d) h = let l = length-append k.moves (d ∷ []) in omega arith
 
-    choice_le : (k l : Known) (b : Bool) → places_in k ≤ suc n → places_in l ≤ suc n → places_in (if b then k else l) ≤ suc n
-    choice_le k l true h i = h
-    choice_le k l false h i = i
-
     go : (k : Known) → places_in k ≤ n → places_in (next_known game q fs k) ≤ suc n
     go k h =
-        choice_le _ _ (nat_lt (length k.digests) (min (length k.moves + game.ahead) game.turns)) (commit_le k _ h)
-        (choice_le _ _ (nat_lt (length k.moves) game.turns) (move_le k _ h) (omega arith))
+        of_chosen (λ (x : Known). places_in x ≤ suc n) (nat_lt (length k.digests) (min (length k.moves + game.ahead) game.turns)) _ _ (commit_le k _ h)
+        (of_chosen (λ (x : Known). places_in x ≤ suc n) (nat_lt (length k.moves) game.turns) _ _ (move_le k _ h) (omega arith))
 
 pub known_from : (k l : Known) → k.digests ≡ l.digests → k.moves ≡ l.moves → k ≡ l
 known_from k l a b =

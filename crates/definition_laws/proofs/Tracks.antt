@@ -3,6 +3,7 @@ use Rattle.std.proofs.Common.{Bool, List, None, Some, [], arith, false, length, 
 use Rattle.std.specs.Prelude.{Option, if◌then◌else◌, is_none, min, nat_lt, not, slice_get, ◌&&◌}
 use Rattle.std.proofs.lemmas.Bool.{and_from, and_parts, false≢true}
 use Rattle.std.proofs.Math.Nat.{suc-add}
+use Rattle.plain_lemmas.proofs.Tests.{of_chosen}
 use Rattle.definitions.specs.declared.openings.Digest.{Digest}
 use Rattle.definitions.specs.declared.world.Cell.{Cell}
 use Rattle.definitions.specs.Moves.{are_legal_from, is_legal, next_track, start_track, strike_fault, track_after, track_from}
@@ -100,15 +101,11 @@ unfolding AreKnownLegal
 with_commit_legal game q k None h = h
 with_commit_legal game q k (Some d) h = h
 
-choice_legal : (game : Game) (q : ℕ) (k l : Known) (b : Bool) → AreKnownLegal game q k → AreKnownLegal game q l → AreKnownLegal game q (if b then k else l)
-choice_legal game q k l true h i = h
-choice_legal game q k l false h i = i
-
 next_known_legal : (game : Game) (q : ℕ) (fs : List TurnFrame) (k : Known) → AreKnownLegal game q k → AreKnownLegal game q (next_known game q fs k)
 unfolding next_known
 next_known_legal game q fs k h =
-    choice_legal game q _ _ (nat_lt (length k.digests) (min (length k.moves + game.ahead) game.turns)) (with_commit_legal game q k _ h)
-    (choice_legal game q _ _ (nat_lt (length k.moves) game.turns)
+    of_chosen (AreKnownLegal game q) (nat_lt (length k.digests) (min (length k.moves + game.ahead) game.turns)) _ _ (with_commit_legal game q k _ h)
+    (of_chosen (AreKnownLegal game q) (nat_lt (length k.moves) game.turns) _ _
     (with_move_legal game q k _ h (λ m e. opened_legal game q k.moves fs (length k.moves) (slice_get k.digests (length k.moves)) m e))
     h)
 

@@ -9,4 +9,3 @@ pub mod Digits
 pub mod Streams
 pub mod Runs
 pub mod Commanded
-pub mod Fresh

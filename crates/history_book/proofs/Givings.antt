@@ -20,11 +20,6 @@ pub within-push : (n m : ℕ) (parts : List Part) (p : Part) → AreWithin n par
 within-push n m [] p w h e = (e, tt)
 within-push n m (x ∷ parts) p w h e = (omega (arith, w.0), within-push n m parts p w.1 h e)
 
-pub within-get : (n : ℕ) (parts : List Part) (i : ℕ) (d : Part) → AreWithin n parts → i < length parts → (get_or parts i d).at + (get_or parts i d).len ≤ n
-within-get n [] i d w h = absurd (omega arith)
-within-get n (p ∷ parts) zero d w h = w.0
-within-get n (p ∷ parts) (suc i) d w h = within-get n parts i d w.1 (omega arith)
-
 -- the byte strings stay as bytes are appended
 parts-kept : (bytes more : List ℕ) (parts : List Part) → AreWithin (length bytes) parts → map (part_of (bytes ++ more)) parts ≡ map (part_of bytes) parts
 parts-kept bytes more [] w = refl

@@ -3,6 +3,7 @@ use Rattle.std.proofs.Common.{◌≡◌, ℕ, Bool, true, false, refl, sym, ap, 
 use Rattle.std.specs.Prelude.{Option, Some, None, ◌==◌, drop, find, map, length, if◌then◌else◌}
 use Rattle.std.specs.List.{fold}
 use Rattle.std.proofs.lemmas.Bool.{eqb-true, eq-eqb, false≢true}
+use Rattle.plain_lemmas.proofs.Pairs.{Pairs, pairs_same, pairs_then, pairs_map, pairs_each}
 use Rattle.definitions.specs.Lists.{EachIs, is_empty}
 use Rattle.definitions.specs.declared.frames.TurnFrame.{TurnFrame}
 use Rattle.definitions.specs.Logs as L
@@ -43,26 +44,16 @@ same_then k l m a b = record { socket = b.socket ∙ a.socket; opened = λ e. a.
 
 -- line by line
 abbrev pub Alike : List Line → List Line → Type 0
-Alike [] [] = Unit {0}
-Alike [] (m ∷ ms) = ⊥
-Alike (l ∷ ls) [] = ⊥
-Alike (l ∷ ls) (m ∷ ms) = Same l m × Alike ls ms
+Alike ls ms = Pairs Same ls ms
 
 pub alike : (ls : List Line) → Alike ls ls
-alike [] = tt
-alike (l ∷ ls) = (same l, alike ls)
+alike ls = pairs_same Same same ls
 
 pub alike_then : (ks ls ms : List Line) → Alike ks ls → Alike ls ms → Alike ks ms
-alike_then [] [] [] a b = tt
-alike_then [] [] (m ∷ ms) a b = b
-alike_then [] (l ∷ ls) ms a b = absurd a
-alike_then (k ∷ ks) [] ms a b = absurd a
-alike_then (k ∷ ks) (l ∷ ls) [] a b = b
-alike_then (k ∷ ks) (l ∷ ls) (m ∷ ms) a b = (same_then k l m a.0 b.0, alike_then ks ls ms a.1 b.1)
+alike_then ks ls ms a b = pairs_then Same same_then ks ls ms a b
 
 pub alike_map : (f : Line → Line) → ((l : Line) → Same l (f l)) → (ls : List Line) → Alike ls (map f ls)
-alike_map f s [] = tt
-alike_map f s (l ∷ ls) = (s l, alike_map f s ls)
+alike_map f s ls = pairs_map Same f s ls
 
 same_if : (b : Bool) (l m : Line) → Same l m → Same l (if b then m else l)
 same_if true l m s = s
@@ -74,10 +65,7 @@ alike_at s f k ls = alike_map (λ l. if l.socket == s then f l else l) (λ l. sa
 -- ---- what is so of each line stays so
 
 pub each_alike : (P : Line → Type 0) → ((l m : Line) → Same l m → P l → P m) → (ls ms : List Line) → Alike ls ms → EachIs P ls → EachIs P ms
-each_alike P k [] [] a e = tt
-each_alike P k [] (m ∷ ms) a e = absurd a
-each_alike P k (l ∷ ls) [] a e = absurd a
-each_alike P k (l ∷ ls) (m ∷ ms) a e = (k l m a.0 e.0, each_alike P k ls ms a.1 e.1)
+each_alike P k ls ms a e = pairs_each Same P k ls ms a e
 
 pub not_in_alike : (s : ℕ) (ls ms : List Line) → Alike ls ms → IsNotIn s ls → IsNotIn s ms
 not_in_alike s ls ms a n = each_alike (λ l. l.socket ≡ s → ⊥) (λ l m k d e. d (sym k.socket ∙ e)) ls ms a n

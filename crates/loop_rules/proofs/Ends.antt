@@ -9,15 +9,16 @@ use Rattle.socket_lines.specs.declared.line.Line.{Line}
 use Rattle.socket_lines.specs.declared.seat.Seat.{Seat}
 use Rattle.loop_rules.specs.declared.phases.Phase.{Phase}
 use Rattle.loop_rules.specs.declared.phases.Phase.TheVariants.{Fresh, Logged, Running, KeepFault, PollFault}
-use Rattle.loop_rules.specs.Tables.{line_of, seat_of}
+use Rattle.loop_rules.specs.Tables.{asks_shut, line_of, seat_of}
 use Rattle.loop_rules.specs.Views.{View, start}
 use Rattle.loop_rules.specs.Keeping.{may_keep_in, may_keep_as, entry_in}
 use Rattle.loop_rules.specs.After.{after, after_failed, view_of}
 use Rattle.loop_rules.specs.Licence.{is_running, is_licensed}
-use Rattle.loop_rules.specs.Rules.{is_fresh, is_logged, may_listen, may_sync, may_dial_at, may_read_line, may_write_line, may_shut_line, is_allowed}
+use Rattle.loop_rules.specs.Rules.{is_fresh, is_logged, may_listen, may_sync, may_dial_at, may_write_line, is_allowed, wants_read}
 use Rattle.loop_rules.specs.Histories.{are_allowed, log_name}
 use Rattle.loop_rules.specs.Laws.{FaultsAreLast, LogsAreBegunFirst, ends_run}
 use Rattle.loop_rules.proofs.Prefixes.{behind}
+use Rattle.loop_rules.proofs.Serving.{serves, serving_where}
 
 -- the run ended in a fault
 abbrev pub is_ended : Phase → Bool
@@ -75,17 +76,12 @@ no_dial : (v : View) (addr : Addr) (o : Option Seat) → is_still v.phase ≡ tr
 no_dial v addr None e h = cc
 no_dial v addr (Some c) e h = not_running v.phase e (and_parts _ _ (and_parts _ _ (and_parts _ _ h).0).0).0
 
-no_read : (v : View) (o : Option Line) → is_still v.phase ≡ true → may_read_line v o ≡ true → ⊥
-no_read v None e h = cc
-no_read v (Some l) e h = not_running v.phase e (and_parts _ _ (and_parts _ _ h).0).0
+no_line : (asks : Line → Bool) (v : View) (o : Option Line) → is_still v.phase ≡ true → serves asks v o ≡ true → ⊥
+no_line asks v o e h = not_running v.phase e (and_parts _ _ (serving_where asks v o h)).0
 
 no_write : (v : View) (o : Option Line) → is_still v.phase ≡ true → may_write_line v o ≡ true → ⊥
 no_write v None e h = cc
 no_write v (Some l) e h = not_running v.phase e (and_parts _ _ (and_parts _ _ (and_parts _ _ (and_parts _ _ (and_parts _ _ h).0).0).0).0).0
-
-no_shut : (v : View) (o : Option Line) → is_still v.phase ≡ true → may_shut_line v o ≡ true → ⊥
-no_shut v None e h = cc
-no_shut v (Some l) e h = not_running v.phase e (and_parts _ _ (and_parts _ _ h).0).0
 
 no_poll : (v : View) → is_still v.phase ≡ true → is_licensed v ≡ true → ⊥
 no_poll v e h = not_running v.phase e (and_parts _ _ (and_parts _ _ (and_parts _ _ (and_parts _ _ (and_parts _ _ (and_parts _ _ h).0).0).0).0).0).0
@@ -99,19 +95,19 @@ still_begins v (LogBegun name) e h = (refl, h)
 still_begins v (Listening addr) e h = absurd (no_listen v addr e h)
 still_begins v (Dialled s q addr) e h = absurd (no_dial v addr (seat_of v.table q) e h)
 still_begins v (Polled list) e h = absurd (no_poll v e h)
-still_begins v (Took s bytes) e h = absurd (no_read v (line_of v.table s) e (and_parts _ _ (and_parts _ _ h).0).0)
+still_begins v (Took s bytes) e h = absurd (no_line (wants_read v.table) v (line_of v.table s) e (and_parts _ _ (and_parts _ _ h).0).0)
 still_begins v (Gave s bytes) e h = absurd (no_write v (line_of v.table s) e (and_parts _ _ h).0)
-still_begins v (ReadNotYet s) e h = absurd (no_read v (line_of v.table s) e h)
+still_begins v (ReadNotYet s) e h = absurd (no_line (wants_read v.table) v (line_of v.table s) e h)
 still_begins v (WriteNotYet s) e h = absurd (no_write v (line_of v.table s) e h)
-still_begins v (Ended s) e h = absurd (no_read v (line_of v.table s) e h)
-still_begins v (Shut s) e h = absurd (no_shut v (line_of v.table s) e h)
+still_begins v (Ended s) e h = absurd (no_line (wants_read v.table) v (line_of v.table s) e h)
+still_begins v (Shut s) e h = absurd (no_line (asks_shut v.table) v (line_of v.table s) e h)
 still_begins v (Kept bytes) e h = absurd (no_keep v bytes (entry_in v.writer bytes) e h)
 still_begins v Synced e h = absurd (no_sync v e h)
 still_begins v (Failed (ListenCall addr)) e h = absurd (no_listen v addr e h)
 still_begins v (Failed (LogCall name)) e h = (refl, h)
 still_begins v (Failed (DialCall q addr)) e h = absurd (no_dial v addr (seat_of v.table q) e h)
 still_begins v (Failed PollCall) e h = absurd (no_poll v e h)
-still_begins v (Failed (ReadCall s)) e h = absurd (no_read v (line_of v.table s) e h)
+still_begins v (Failed (ReadCall s)) e h = absurd (no_line (wants_read v.table) v (line_of v.table s) e h)
 still_begins v (Failed (WriteCall s)) e h = absurd (no_write v (line_of v.table s) e h)
 still_begins v (Failed (KeepCall bytes)) e h = absurd (no_keep v bytes (entry_in v.writer bytes) e h)
 still_begins v (Failed SyncCall) e h = absurd (no_sync v e h)

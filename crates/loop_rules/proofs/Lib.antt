@@ -1,4 +1,5 @@
 pub mod Prefixes
+mod Serving
 pub mod Ends
 mod Findings
 pub mod Given

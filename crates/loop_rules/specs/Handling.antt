@@ -1,8 +1,9 @@
 -- Handling: what becomes of the frames that wait.
-use Rattle.std.specs.Prelude.{ℕ, Bool, not, List, [], ◌∷◌, if◌then◌else◌}
+use Rattle.std.specs.Prelude.{◌≡◌, ℕ, Bool, true, not, List, [], ◌∷◌, if◌then◌else◌}
+use Rattle.definitions.specs.World.{Game}
 use Rattle.definitions.specs.Held.{next_place}
 use Rattle.definitions.specs.Findings.{is_clean}
-use Rattle.definitions.specs.Answers.{is_far, is_new}
+use Rattle.definitions.specs.Answers.{is_far, is_new, is_of_another}
 use Rattle.socket_lines.specs.Seats.{asks}
 use Rattle.loop_rules.specs.declared.arrivals.Arrival.{Arrival}
 use Rattle.loop_rules.specs.Tables.{at_seat}
@@ -15,6 +16,10 @@ next_of v q = next_place v.setting.game v.setting.me v.kept q
 
 abbrev pub hearer_of : View → Hearer
 hearer_of v = record { id = v.setting.game.id; next = next_of v }
+
+-- the frame that waits is its player's own, another one than me
+abbrev pub IsOfOther : Game → (me : ℕ) → Arrival → Type 0
+IsOfOther game me a = is_of_another game me a.player a.frame ≡ true
 
 -- these frames wait
 abbrev pub with_waiting : List Arrival → View → View

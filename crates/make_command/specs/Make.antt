@@ -1,10 +1,9 @@
--- Make: the answer to the command, and why it ends as it does.
+-- Make: the answer to the command.
 use Rattle.std.specs.Prelude.{ℕ, ◌+◌, List, [], ◌∷◌, ◌++◌, codes, decimal}
 use Rattle.auditor.specs.declared.world.WorldLine.{WorldLine}
 use Rattle.report_lines.specs.Lines.{end_line_text, world_line_text}
 use Rattle.run_frame.specs.Frame.{Answer}
-use Rattle.run_frame.specs.declared.statuses.Status.{Status}
-use Rattle.run_frame.specs.declared.statuses.Status.TheVariants.{Done, NoMemory, OutputFault}
+use Rattle.run_frame.specs.declared.statuses.Status.TheVariants.{Done}
 use Rattle.make_command.specs.declared.summary.Summary.{Summary}
 use Rattle.make_command.specs.Summaries.{made_match, summary_of}
 
@@ -34,10 +33,3 @@ summary_text s = head_text s ++ world_text s.players ++ end_line_text
 -- The answer to the command for this number.
 abbrev pub make_answer : (number : ℕ) → Answer
 make_answer number = record { body = summary_text (summary_of (made_match number)); status = Done }
-
--- Why a run may end so: at the end of the command. Want of memory and faults have their causes outside.
-abbrev pub MakeCause : Status → Type 0
-MakeCause Done = Unit {0}
-MakeCause NoMemory = Unit {0}
-MakeCause OutputFault = Unit {0}
-MakeCause status = ⊥

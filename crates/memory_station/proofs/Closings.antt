@@ -4,7 +4,7 @@ use Rattle.std.proofs.lemmas.Bool.Decides.{nat_tests}
 use Rattle.socket_station.specs.declared.answers.Standing.{Standing}
 use Rattle.socket_station.specs.declared.answers.Standing.TheVariants.{Fresh, Open, Closed}
 use Rattle.memory_station.specs.Answers.{gave_mark}
-use Rattle.memory_station.specs.HeldRows.{HeldRow, held_at, row_in, new_row, marked, closed, finished, seeming, refused, taken, with_piece}
+use Rattle.memory_station.specs.HeldRows.{HeldRow, held_at, row_in, new_row, marked, closed, finished, seeming, refused}
 use Rattle.memory_station.proofs.Tables.{same, differ}
 
 -- a change of a row that keeps how it stands
@@ -84,8 +84,9 @@ standing-closed s n (l ∷ rows) o =
     by-s true e h r o = let x : (l.number == n) ≡ (s == n) = both l.number s n e in rw x (hit (s == n) refl o)
     by-s false e h r o = miss (l.number == n) refl e (r h)
 
-pub keeps-taken : (n : ℕ) → KeepsStanding (taken n)
-keeps-taken n = record { number = λ l. refl; standing = λ l. refl }
+-- a change of the pieces alone
+pub keeps-pieces : (change : List (List ℕ) → List (List ℕ)) → KeepsStanding (λ (row : HeldRow). record row { pieces = change row.pieces })
+keeps-pieces change = record { number = λ l. refl; standing = λ l. refl }
 
 pub keeps-refused : KeepsStanding refused
 keeps-refused = record { number = λ l. refl; standing = λ l. refl }
@@ -99,9 +100,6 @@ keeps-finished = record { number = λ l. refl; standing = λ l. refl }
 
 pub keeps-seeming : KeepsStanding seeming
 keeps-seeming = record { number = λ l. refl; standing = λ l. refl }
-
-pub keeps-piece : (piece : List ℕ) → KeepsStanding (with_piece piece)
-keeps-piece piece = record { number = λ l. refl; standing = λ l. refl }
 
 -- a socket that was brought stands as none did
 pub standing-brought : (s n : ℕ) (rows : List HeldRow) → (row_in (rows ++ new_row s Fresh ∷ []) n).standing ≡ (row_in rows n).standing

@@ -23,14 +23,14 @@ use Rattle.socket_station.proofs.Histories.{standing-more}
 use Rattle.memory_station.specs.Answers.{did_by, dial_answer, is_dialled, IsFreshDial, at_socket, read_table, write_table, dial_table, gave_mark}
 use Rattle.history_book.specs.Books.{with_item}
 use Rattle.history_book.specs.HeldBooks.{HeldBook}
-use Rattle.memory_station.specs.HeldRows.{HeldTable, HeldRow, row_in, closed, marked, taken, refused, polled_table, brought_on, with_piece, brought_row, uncounted}
+use Rattle.memory_station.specs.HeldRows.{HeldTable, HeldRow, row_in, closed, marked, taken, refused, polled_table, brought_on, with_piece, brought_row, uncounted, pieces_behind}
 use Rattle.memory_station.specs.HeldStations.{goes_on, begun, fails_next}
 use Rattle.memory_station.specs.Plans.{HeldPlan}
 use Rattle.history_book.specs.Rooms.{fits, spent_by, cut_at}
 use Rattle.history_book.specs.declared.room.Room.{Room}
 use Rattle.memory_station.specs.Stations.{IsTied}
 use Rattle.history_book.proofs.Spendings.{spent}
-use Rattle.memory_station.proofs.Closings.{KeepsStanding, standing-kept, standing-closed, standing-brought, keeps-taken, keeps-refused, keeps-gave, keeps-piece}
+use Rattle.memory_station.proofs.Closings.{KeepsStanding, standing-kept, standing-closed, standing-brought, keeps-pieces, keeps-refused, keeps-gave}
 
 cut-items : (k : ℕ) (room : Room) → (cut_at k room).items ≡ room.items
 cut-items k room = grind (arith, common_steps)
@@ -147,7 +147,7 @@ fresh-poll DidFailed list book table t a = tt
 -- how a read, a write and a shut move them
 pub moves-read : (s : ℕ) (read : SocketRead) (buf : List ℕ) (before after : HeldTable) → (row_in before.rows s).standing ≡ Open → after ≡ read_table s read before
     → (n : ℕ) → (row_in after.rows n).standing ≡ standing_after n (row_in before.rows n).standing (read_item s read buf)
-moves-read s (R.Took k) buf before after o e n = ap (λ (t : HeldTable). (row_in t.rows n).standing) e ∙ standing-kept (taken k) s n before.rows (keeps-taken k)
+moves-read s (R.Took k) buf before after o e n = ap (λ (t : HeldTable). (row_in t.rows n).standing) e ∙ standing-kept (taken k) s n before.rows (keeps-pieces (pieces_behind k))
 moves-read s R.NotYet buf before after o e n = ap (λ (t : HeldTable). (row_in t.rows n).standing) e
 moves-read s R.Ended buf before after o e n = ap (λ (t : HeldTable). (row_in t.rows n).standing) e ∙ standing-closed s n before.rows o
 moves-read s R.Failed buf before after o e n = ap (λ (t : HeldTable). (row_in t.rows n).standing) e ∙ standing-closed s n before.rows o
@@ -191,7 +191,7 @@ tied-bring b book before after s piece t e =
     subst P (sym e) (by-test b)
   where
     by-test : (b : Bool) → IsTied book (if b then brought_on s piece before else before)
-    by-test true = tied-along book before (brought_on s piece before) t (λ n. standing-kept (with_piece piece) s n before.rows (keeps-piece piece)) refl t.brought
+    by-test true = tied-along book before (brought_on s piece before) t (λ n. standing-kept (with_piece piece) s n before.rows (keeps-pieces (λ (ps : List (List ℕ)). ps ++ piece ∷ []))) refl t.brought
     by-test false = t
 
 standing-uncounted : (rows : List HeldRow) (n : ℕ) → (row_in (map uncounted rows) n).standing ≡ (row_in rows n).standing

@@ -31,26 +31,18 @@ drives_none (a ∷ b ∷ []) e = absurd (false≢true (sym e))
 drives_none (a ∷ b ∷ c ∷ []) e = absurd (false≢true (sym e))
 drives_none (a ∷ b ∷ c ∷ d ∷ more) e = refl
 
-upgrades_none : (words : List (List ℕ)) → takes N.Upgrade (length words) ≡ false → upgrading_in words ≡ None
-upgrades_none [] e = refl
-upgrades_none (a ∷ []) e = absurd (false≢true (sym e))
-upgrades_none (a ∷ b ∷ more) e = refl
+-- of a command that takes one word
+one_none : {X : Type 0} (said : List (List ℕ) → Option X) (words : List (List ℕ)) → said [] ≡ None → ((a b : List ℕ) (more : List (List ℕ)) → said (a ∷ b ∷ more) ≡ None) →
+    takes N.Make (length words) ≡ false → said words ≡ None
+one_none said [] fewer more e = fewer
+one_none said (a ∷ []) fewer more e = absurd (false≢true (sym e))
+one_none said (a ∷ b ∷ words) fewer more e = more a b words
 
 judges_none : (words : List (List ℕ)) → takes N.Judge (length words) ≡ false → judging_in words ≡ None
 judges_none [] e = refl
 judges_none (a ∷ []) e = refl
 judges_none (a ∷ b ∷ []) e = absurd (false≢true (sym e))
 judges_none (a ∷ b ∷ c ∷ more) e = refl
-
-schedules_none : (words : List (List ℕ)) → takes N.Schedule (length words) ≡ false → scheduling_in words ≡ None
-schedules_none [] e = refl
-schedules_none (a ∷ []) e = absurd (false≢true (sym e))
-schedules_none (a ∷ b ∷ more) e = refl
-
-makes_none : (words : List (List ℕ)) → takes N.Make (length words) ≡ false → making_in words ≡ None
-makes_none [] e = refl
-makes_none (a ∷ []) e = absurd (false≢true (sym e))
-makes_none (a ∷ b ∷ more) e = refl
 
 peers_none : (words : List (List ℕ)) → takes N.Peer (length words) ≡ false → peering_in words ≡ None
 peers_none [] e = refl
@@ -90,10 +82,10 @@ untaken : (name : Name) (words : List (List ℕ)) → takes name (length words) 
 untaken N.Audit words e = ap (option_map Audit) (audits_none words e)
 untaken N.Drive words e = ap (option_map Drive) (drives_none words e)
 untaken N.Judge words e = ap (option_map Judge) (judges_none words e)
-untaken N.Make words e = ap (option_map Make) (makes_none words e)
+untaken N.Make words e = ap (option_map Make) (one_none making_in words refl (λ a b more. refl) e)
 untaken N.Peer words e = refl
-untaken N.Schedule words e = ap (option_map Schedule) (schedules_none words e)
-untaken N.Upgrade words e = ap (option_map Upgrade) (upgrades_none words e)
+untaken N.Schedule words e = ap (option_map Schedule) (one_none scheduling_in words refl (λ a b more. refl) e)
+untaken N.Upgrade words e = ap (option_map Upgrade) (one_none upgrading_in words refl (λ a b more. refl) e)
 
 -- a word that names no command
 record IsNone (name : List ℕ) : Type 0 where

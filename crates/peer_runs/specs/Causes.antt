@@ -3,6 +3,7 @@ use Rattle.std.specs.Prelude.{◌≡◌, ℕ, ◌<◌, ◌≤◌, List, [], Opti
 use Rattle.definitions.specs.declared.logs.LogWhy.{LogWhy}
 use Rattle.definitions.specs.World.{Game, players_of}
 use Rattle.line_io.specs.Inputs.{Input}
+use Rattle.run_frame.specs.Frame.{EndCause}
 use Rattle.run_frame.specs.declared.statuses.Status.{Status}
 use Rattle.run_frame.specs.declared.statuses.Status.TheVariants.{NoMemory, Usage, BadSession, InputFault, OutputFault, BadLog, BadLine}
 use Rattle.run_frame.specs.declared.statuses.TextName.TheVariants.{Evidence}
@@ -15,13 +16,12 @@ use Rattle.old_log.specs.Old.{old_fault}
 use Rattle.drive_command.specs.Begin.{Beginning, TellsPlay}
 use Rattle.drive_command.specs.Causes.{DriveCause, IsPlayed}
 use Rattle.drive_command.specs.Words.{Driving}
-use Rattle.upgrade_command.specs.Upgrade.{TellsUpgrade, UpgradeCause}
+use Rattle.upgrade_command.specs.Upgrade.{TellsUpgrade}
 use Rattle.judge_command.specs.Judge.{JudgeCause, is_shown}
 use Rattle.definitions.specs.Findings.{findings}
 use Rattle.audit_command.specs.Audit.{AuditCause}
 use Rattle.audit_command.specs.Laws.{TellsAudit}
 use Rattle.schedule_command.specs.Causes.{AreClean, IsPlayedOut, ScheduleCause, TellsMatch}
-use Rattle.make_command.specs.Make.{MakeCause}
 use Rattle.make_command.specs.Summaries.{EndsFairly}
 use Rattle.log_files.specs.Several.{behind_first, first_fault, logs_in, owners_in}
 use Rattle.peer_runs.specs.Audits.{AreFiles}
@@ -109,7 +109,7 @@ HasCause (Some (Drive d)) contents input (BadSession line what) = session_fault 
 HasCause (Some (Drive d)) contents input (BadLog log at why) = IsBadOld d contents log at why
 HasCause (Some (Drive d)) contents input status = IsBegunSo d contents input status
 HasCause (Some (Upgrade session)) contents input (BadSession line what) = session_fault (front_of (content contents 0)) ≡ Some (At line what)
-HasCause (Some (Upgrade session)) contents input status = HasGame (content contents 0) × UpgradeCause status
+HasCause (Some (Upgrade session)) contents input status = HasGame (content contents 0) × EndCause status
 HasCause (Some (Judge j)) contents input (BadSession line what) = session_fault (front_of (content contents 0)) ≡ Some (At line what)
 HasCause (Some (Judge j)) contents input (BadLine Evidence line) = HasGame (content contents 0) × (exhibit_fault (evidence_front_of (content contents 1)) ≡ Some (text.At line))
 HasCause (Some (Judge j)) contents input status = IsJudged contents status
@@ -118,7 +118,7 @@ HasCause (Some (Audit a)) contents input (BadLog log at why) = IsBadLog contents
 HasCause (Some (Audit a)) contents input status = IsAuditedSo contents (length a.logs) status
 HasCause (Some (Schedule session)) contents input (BadSession line what) = session_fault (front_of (content contents 0)) ≡ Some (At line what)
 HasCause (Some (Schedule session)) contents input status = IsScheduledSo contents input status
-HasCause (Some (Make number)) contents input status = MakeCause status
+HasCause (Some (Make number)) contents input status = EndCause status
 
 -- Words, files and input are such that the command can come to its end.
 abbrev pub IsGood : Option Command → Contents → Input → Type 0

@@ -3,6 +3,7 @@ use Rattle.std.proofs.Common.{◌≡◌, ℕ, ◌+◌, ◌*◌, ◌<◌, ◌≤�
 use Rattle.std.specs.Prelude.{if◌then◌else◌, max, min}
 use Rattle.std.specs.Option.{option_or}
 use Rattle.std.proofs.lemmas.Bool.{cases_lt, false≢true}
+use Rattle.plain_lemmas.proofs.Lists.{some_within}
 use Rattle.definitions.specs.declared.findings.Kind.TheVariants.{BadOpening}
 use Rattle.definitions.specs.declared.world.Move.{Move}
 use Rattle.definitions.specs.declared.world.Track.{Track}
@@ -31,7 +32,7 @@ use Rattle.peer_window.specs.Windows.{IsHeld}
 use Rattle.peer_window.proofs.Halted.{never_committed, never_resolved}
 use Rattle.peer_window.proofs.Pairs.{digest_sym, or_none, range_none}
 use Rattle.peer_window.proofs.Reached.{by_commit, by_reveal, commit_next, next_slot, reveal_next, step_revealed}
-use Rattle.peer_window.proofs.Stretches.{commitment_at, is_reveal, slot_within}
+use Rattle.peer_window.proofs.Stretches.{commitment_at, is_reveal}
 use Rattle.peer_window.proofs.Turns.{end_clash, end_here, pair_clash, turn_value}
 
 halts_apart : (game : Game) (track : Track) (m : Move) (c g : Received) (b : Bool) (o : Option MoveFault) → judged_step c g (if b then by_rules (judged game track m o) else V.BadOpening) ≡ Halt → b ≡ false
@@ -82,7 +83,7 @@ next_empty game q ss at is h clean = elim (cases_lt at.commits (min (at.resolved
     reveals : min (at.resolved + game.ahead) game.turns ≤ at.commits → (o : Option Received) → slot ss (2 * at.resolved + 1) ≡ o → slot ss (2 * at.resolved + 1) ≡ None
     reveals ge None e = e
     reveals ge (Some g) e =
-        let within = slot_within ss (2 * at.resolved + 1) g e in
+        let within = some_within ss (2 * at.resolved + 1) g e in
         let places = h.places in
         let one = is.ahead.0 in
         let lt : at.resolved < game.turns = omega arith in

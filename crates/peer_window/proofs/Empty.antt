@@ -4,6 +4,7 @@ use Rattle.std.specs.List.{range_with_len}
 use Rattle.std.specs.Option.{option_or}
 use Rattle.std.proofs.Math.ListN.{replicate}
 use Rattle.std.proofs.lemmas.List.{length-replicate}
+use Rattle.plain_lemmas.proofs.Lists.{get_or-repeated}
 use Rattle.definitions.specs.declared.world.Track.{Track}
 use Rattle.definitions.specs.Lists.{first_of}
 use Rattle.definitions.specs.World.{Game, players_of}
@@ -13,7 +14,7 @@ use Rattle.definitions.specs.Held.{Known, known_to}
 use Rattle.definition_laws.proofs.ForPeers.{known_of_none}
 use Rattle.peer_window.specs.declared.received.Received.{Received}
 use Rattle.peer_window.specs.Clashes.{clash_among, clash_in, first_clash}
-use Rattle.peer_window.specs.Slots.{AreSlots, digests_to, frames_in, in_order, moves_to, shown, slot}
+use Rattle.peer_window.specs.Slots.{AreSlots, digests_to, frames_in, in_order, moves_to, shown}
 use Rattle.peer_window.specs.Windows.{IsWindow, seen_of}
 
 abbrev no_slots : ℕ → List (Option Received)
@@ -22,11 +23,6 @@ no_slots n = replicate n None
 none_in_order : (n : ℕ) → in_order (no_slots n) ≡ []
 none_in_order zero = refl
 none_in_order (suc n) = none_in_order n
-
-none_in_slot : (n p : ℕ) → slot (no_slots n) p ≡ None
-none_in_slot zero p = refl
-none_in_slot (suc n) zero = refl
-none_in_slot (suc n) (suc p) = none_in_slot n p
 
 shows_nothing : (ss : List (Option Received)) → shown ss 0 0 ≡ record { digests = []; moves = [] }
 unfolding digests_to moves_to
@@ -48,7 +44,7 @@ empty_slots : (q n : ℕ) → n ≤ 8192 → AreSlots q (no_slots n) 0 0
 empty_slots q n few =
     let len = length-replicate {A = Option Received} n None in
     record {
-      own = λ p r e. absurd (let none : None ≡ Some r = sym (none_in_slot n p) ∙ e in cc);
+      own = λ p r e. absurd (let none : None ≡ Some r = sym (get_or-repeated {A = Option Received} n p None) ∙ e in cc);
       committed = λ t lt. absurd (omega arith);
       revealed = λ t lt. absurd (omega arith);
       before = omega arith;

@@ -2,6 +2,7 @@
 use Rattle.std.proofs.Common.{◌≡◌, ℕ, suc, ◌+◌, ◌*◌, ◌<◌, List, refl, sym, ◌∙◌, ap, arith, inl, inr, Option, Some}
 use Rattle.std.specs.Prelude.{min}
 use Rattle.std.proofs.lemmas.Bool.{cases_lt}
+use Rattle.plain_lemmas.proofs.Lists.{some_within}
 use Rattle.definitions.specs.declared.world.Track.{Track}
 use Rattle.definitions.specs.World.{Game}
 use Rattle.definitions.specs.Held.{known_to, next_known, places_in}
@@ -16,7 +17,6 @@ use Rattle.peer_window.specs.Slots.{frames_in, in_order, shown, slot}
 use Rattle.peer_window.specs.Windows.{IsHeld}
 use Rattle.peer_window.proofs.Lookups.{count_places}
 use Rattle.peer_window.proofs.Reached.{by_commit, slots_committed, slots_resolved, step_committed, step_resolved}
-use Rattle.peer_window.proofs.Stretches.{slot_within}
 
 -- what a window holds is reached
 pub held_reach : (game : Game) (q : ℕ) (ss : List (Option Received)) (at : Reach) → IsHeld game q ss at → IsReach game q ss at
@@ -60,7 +60,7 @@ held_here game q ss at c is h e = elim (cases_lt at.resolved at.commits) [
   | inr ge ↦
       let before = h.slots.before in
       let same : at.commits ≡ at.resolved = omega arith in
-      let within = slot_within ss (2 * at.resolved) c e in
+      let within = some_within ss (2 * at.resolved) c e in
       let places = h.places in
       let ahead = is.ahead.0 in
       let next : at.commits < min (at.resolved + game.ahead) game.turns = omega arith in

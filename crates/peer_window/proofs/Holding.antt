@@ -4,6 +4,7 @@ use Rattle.std.specs.Prelude.{if◌then◌else◌, max, min, nat_lt}
 use Rattle.std.specs.Option.{option_or}
 use Rattle.std.proofs.lemmas.Bool.{ltb-false, ltb-true}
 use Rattle.std.specs.List.{range_with_len}
+use Rattle.plain_lemmas.proofs.Lists.{some_within}
 use Rattle.definitions.specs.declared.findings.Kind.TheVariants.{BadOpening}
 use Rattle.definitions.specs.declared.frames.TurnFrame.{TurnFrame}
 use Rattle.definitions.specs.declared.frames.TurnFrame.TheVariants.{Commit, Reveal}
@@ -26,7 +27,6 @@ use Rattle.peer_window.specs.Windows.{IsHeld, new_answer}
 use Rattle.peer_window.proofs.Grown.{cases_eq, slot_other, slot_same}
 use Rattle.peer_window.proofs.Ordered.{AllBefore, slot_each}
 use Rattle.peer_window.proofs.Pairs.{digest_sym, none_range, or_none, range_at, range_none}
-use Rattle.peer_window.proofs.Stretches.{slot_within}
 use Rattle.peer_window.proofs.Turns.{clash_same, end_clash, end_here, end_none, pair_clash, turn_value}
 
 -- in a window without a clash the frames of a turn agree
@@ -108,7 +108,7 @@ illegal_turn game q ss at x w h = revealed (slot ss (2 * at.resolved + 1)) refl 
         let high = near.1 in
         let own = (w.own (2 * at.resolved + 1) g i).0 in
         let turn = framed g g.frame e in
-        (omega arith, slot_within ss (2 * at.resolved + 1) g i)
+        (omega arith, some_within ss (2 * at.resolved + 1) g i)
 
 -- the first clash, with a frame in the empty slot of its place
 pub held_clash : (game : Game) (q : ℕ) (ss : List (Option Received)) (at to : Reach) (r : Received) → IsSession game → IsHeld game q ss at → first_clash game q (in_order ss) ≡ None → slot_of r.frame < length ss →

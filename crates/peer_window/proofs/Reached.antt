@@ -2,6 +2,7 @@
 use Rattle.std.proofs.Common.{◌≡◌, ℕ, suc, ◌+◌, ◌*◌, ◌<◌, ◌≤◌, List, [], ◌∷◌, ◌++◌, length, refl, Bool, true, false, sym, ◌∙◌, ap, arith, inl, inr, Option, Some, None}
 use Rattle.std.specs.Prelude.{◌&&◌, if◌then◌else◌, is_none, is_some, min}
 use Rattle.std.proofs.lemmas.Bool.{cases_lt, cond-true, cond-false, false≢true, lt-ltb, le-ltb}
+use Rattle.plain_lemmas.proofs.Lists.{some_within}
 use Rattle.definitions.specs.declared.world.Move.{Move}
 use Rattle.definitions.specs.declared.world.Track.{Track}
 use Rattle.definitions.specs.declared.world.MoveFault.{MoveFault}
@@ -26,7 +27,7 @@ use Rattle.peer_window.specs.Clashes.{illegal_clash}
 use Rattle.peer_window.specs.Steps.{IsReach, commit_step, frame_step, is_commit_next, judged_step, reveal_step, slot_step, step_from, turn_step, is_stop}
 use Rattle.peer_window.specs.Slots.{AreSlots, frames_in, in_order, moves_to, shown, slot}
 use Rattle.peer_window.proofs.Ordered.{of_slot}
-use Rattle.peer_window.proofs.Stretches.{commitment_at, is_commitment, is_reveal, slot_within}
+use Rattle.peer_window.proofs.Stretches.{commitment_at, is_commitment, is_reveal}
 use Rattle.peer_window.proofs.Fitting.{next_at_commit, next_at_end, next_at_reveal, opening_here, with_commit_more, with_move_more}
 use Rattle.definitions.specs.declared.openings.Opening.{Opening}
 use Rattle.reveal_check.specs.declared.judging.Verdict.{Verdict}
@@ -174,7 +175,7 @@ step_resolving game q ss at track is len w h = elim (cases_lt at.commits (min (a
     framed : min (at.resolved + game.ahead) game.turns ≤ at.commits → (r : Received) → slot ss (2 * at.resolved + 1) ≡ Some r → (m : Move) (k : Nonce) → r.frame ≡ Reveal q at.resolved m k →
         slot_step game at.track (slot ss (2 * at.resolved)) (Some r) ≡ Resolved track → IsResolving game q ss at track
     framed ge r e m k f g =
-        let within = slot_within ss (2 * at.resolved + 1) r e in
+        let within = some_within ss (2 * at.resolved + 1) r e in
         let one = is.ahead.0 in
         let lt : at.resolved < game.turns = omega arith in
         let c = commitment_at q at.resolved at.commits at.resolved ss w (omega arith) in

@@ -1,5 +1,5 @@
 -- Stretches: what the slots of the first turns show, turn by turn.
-use Rattle.std.proofs.Common.{◌≡◌, ℕ, zero, suc, ◌+◌, ◌*◌, ◌<◌, ◌≤◌, List, [], ◌∷◌, ◌++◌, length, length-append, refl, sym, ◌∙◌, ap, arith, inl, inr, Option, Some, None}
+use Rattle.std.proofs.Common.{◌≡◌, ℕ, zero, suc, ◌+◌, ◌*◌, ◌<◌, ◌≤◌, List, [], ◌∷◌, ◌++◌, length, length-append, refl, sym, ◌∙◌, ap, arith, inl, inr, Option, Some}
 use Rattle.std.specs.Prelude.{slice_get}
 use Rattle.std.proofs.lemmas.Bool.{cases_lt}
 use Rattle.plain_lemmas.proofs.Options.{some_of}
@@ -12,12 +12,6 @@ use Rattle.definitions.specs.Logs.{player_of}
 use Rattle.definition_laws.proofs.Listing.{slice_get_front, slice_get_last}
 use Rattle.peer_window.specs.declared.received.Received.{Received}
 use Rattle.peer_window.specs.Slots.{AreSlots, digest_in, digests_to, move_in, moves_to, slot_of, slot}
-
--- past the last slot there is nothing
-pub slot_within : (ss : List (Option Received)) (p : ℕ) (r : Received) → slot ss p ≡ Some r → p < length ss
-slot_within [] p r h = absurd (let none : None ≡ Some r = h in cc)
-slot_within (s ∷ ss) zero r h = omega arith
-slot_within (s ∷ ss) (suc p) r h = let lt = slot_within ss p r h in omega arith
 
 -- a frame of a commitment's slot is a commitment, and one of a reveal's a reveal
 pub is_commitment : (f : TurnFrame) (q t : ℕ) → slot_of f ≡ 2 * t → player_of f ≡ q → (d : Digest) × (f ≡ Commit q t d)

@@ -1,5 +1,5 @@
 -- Each: what holds of each item of a list holds of lists made of it.
-use Rattle.std.proofs.Common.{ℕ, zero, suc, ◌++◌, List, [], ◌∷◌, slice_set}
+use Rattle.std.proofs.Common.{ℕ, zero, suc, ◌<◌, ◌++◌, List, [], ◌∷◌, length, get_or, slice_set, arith}
 use Rattle.std.specs.Prelude.{map}
 use Rattle.std.specs.List.{AllByRecursion}
 
@@ -16,6 +16,12 @@ each_push P xs x each is = each_append P xs (x ∷ []) each (is, tt)
 pub each_kept : {X : Type 0} (P Q : X → Type 0) (xs : List X) → ((x : X) → P x → Q x) → AllByRecursion P xs → AllByRecursion Q xs
 each_kept P Q [] f each = tt
 each_kept P Q (x ∷ xs) f each = (f x each.0, each_kept P Q xs f each.1)
+
+-- of the item at a place
+pub each_get : {X : Type 0} (P : X → Type 0) (xs : List X) (i : ℕ) (d : X) → AllByRecursion P xs → i < length xs → P (get_or xs i d)
+each_get P [] i d each lt = absurd (omega arith)
+each_get P (x ∷ xs) zero d each lt = each.0
+each_get P (x ∷ xs) (suc i) d each lt = each_get P xs i d each.1 (omega arith)
 
 -- of a list of which one item was written
 pub each_set : {X : Type 0} (P : X → Type 0) (xs : List X) (i : ℕ) (x : X) → AllByRecursion P xs → P x → AllByRecursion P (slice_set xs i x)

@@ -1,6 +1,6 @@
 -- Lists: their fronts, lists by number, and lists of bytes.
-use Rattle.std.proofs.Common.{◌≡◌, ℕ, zero, suc, ◌+◌, ◌-◌, ◌<◌, ◌≤◌, min, List, [], ◌∷◌, ◌++◌, length, take, drop, refl, sym, ap, ◌∙◌, arith, inl, inr, length-append, append_assoc, append-nil, add-zero, zero-add}
-use Rattle.std.specs.Prelude.{Some, None, if◌then◌else◌, bytes_eq, slice_index, flat_map}
+use Rattle.std.proofs.Common.{◌≡◌, ℕ, zero, suc, ◌+◌, ◌-◌, ◌<◌, ◌≤◌, min, List, [], ◌∷◌, ◌++◌, length, take, drop, get_or, replicate, refl, sym, ap, ◌∙◌, arith, inl, inr, length-append, append_assoc, append-nil, add-zero, zero-add}
+use Rattle.std.specs.Prelude.{Option, Some, None, if◌then◌else◌, bytes_eq, slice_index, flat_map}
 use Rattle.std.specs.List.{range_with_len}
 use Rattle.std.proofs.Math.Seq.{take-append-add}
 use Rattle.std.proofs.lemmas.Bool.{cases_lt}
@@ -52,6 +52,18 @@ written_behind {A} kept xs out size len count long few c e =
     let all : size ≡ length front + (size - len) = omega arith in
     let right : take size (front ++ xs) ≡ front ++ take (size - len) xs = ap (λ n. take n (front ++ xs)) all ∙ take-append-add front xs (size - len) in
     left ∙ ap (λ ys. front ++ ys) (sym cut.1) ∙ sym right
+
+-- one item repeated is read at every place, where it also stands for what is past the last
+pub get_or-repeated : {A : Type 0} (n i : ℕ) (x : A) → get_or (replicate n x) i x ≡ x
+get_or-repeated zero i x = refl
+get_or-repeated (suc n) zero x = refl
+get_or-repeated (suc n) (suc i) x = get_or-repeated n i x
+
+-- where a value is read, and nothing past the last, the place is there
+pub some_within : {A : Type 0} (xs : List (Option A)) (i : ℕ) (x : A) → get_or xs i None ≡ Some x → i < length xs
+some_within [] i x e = absurd (let none : None ≡ Some x = e in cc)
+some_within (y ∷ xs) zero x e = omega arith
+some_within (y ∷ xs) (suc i) x e = let lt = some_within xs i x e in omega arith
 
 -- one number more
 pub range_more : (a n : ℕ) → range_with_len a (n + 1) ≡ range_with_len a n ++ (a + n) ∷ []

@@ -8,6 +8,11 @@ pub chosen : {A : Type 0} (b : Bool) (x y z : A) → (if b then x else y) ≡ z 
 chosen true x y z h = inl (refl, h)
 chosen false x y z h = inr (refl, h)
 
+-- what holds of both holds of the chosen one
+pub of_chosen : {A : Type 0} (P : A → Type 0) (b : Bool) (x y : A) → P x → P y → P (if b then x else y)
+of_chosen P true x y p q = p
+of_chosen P false x y p q = q
+
 -- tests that pass together are the same
 pub same_tests : (a b : Bool) → (a ≡ true → b ≡ true) → (b ≡ true → a ≡ true) → a ≡ b
 same_tests a b to from = grind arith

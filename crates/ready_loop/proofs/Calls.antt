@@ -19,11 +19,12 @@ use Rattle.loop_rules.specs.Tables.{Table, line_of, room_on}
 use Rattle.loop_rules.specs.Hearing.{Hearer}
 use Rattle.loop_rules.specs.Rules.{wants_read}
 use Rattle.loop_rules.specs.Told.{IsTold}
+use Rattle.loop_rules.specs.Handling.{IsOfOther}
 use Rattle.socket_table.specs.Finding.{IsAt}
 use Rattle.socket_table.specs.Hearers.{hearer_by, ArePlayers}
 use Rattle.table_laws.proofs.Waiting.{took_of_others}
 use Rattle.table_laws.proofs.Reading.{wants_parts}
-use Rattle.ready_loop.specs.States.{LoopState, IsFit, IsOthers, IsOfOther, view_of}
+use Rattle.ready_loop.specs.States.{LoopState, IsFit, IsOthers, view_of}
 use Rattle.ready_loop.specs.Steps.{with_table, read_on}
 use Rattle.ready_loop.specs.Going.{IsIdle}
 use Rattle.ready_loop.specs.Handling.{IsReadyToRead, WantsAt, ReadsOnce}

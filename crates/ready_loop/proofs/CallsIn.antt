@@ -32,7 +32,8 @@ use Rattle.loop_rules.specs.declared.arrivals.Arrival.{Arrival}
 use Rattle.loop_rules.specs.declared.phases.Phase.{Phase}
 use Rattle.loop_rules.specs.declared.phases.Phase.TheVariants.{Running, KeepFault}
 use Rattle.loop_rules.specs.Told.{IsTold}
-use Rattle.ready_loop.specs.States.{LoopState, IsFit, IsOthers, IsOfOther, setting_of, kept_of, choices_of, view_of}
+use Rattle.loop_rules.specs.Handling.{IsOfOther}
+use Rattle.ready_loop.specs.States.{LoopState, IsFit, IsOthers, setting_of, kept_of, choices_of, view_of}
 use Rattle.ready_loop.specs.Steps.{did_by, next_bytes, kept_next, with_table}
 use Rattle.ready_loop.specs.Going.{Goes, IsPlayed, undialled}
 use Rattle.ready_loop.specs.Handling.{KeepsMade, Advances, IsGot, Hears, IsHearing, Handles, KeepsLines, has_next, passed_as, ReadsOnce, Reads, ReadsOut, IsReadyToRead, WantsAt, WantsNone, SameSockets}

@@ -30,9 +30,10 @@ use Rattle.loop_rules.specs.Licence.{all_is_shut}
 use Rattle.loop_rules.specs.Rules.{due_at}
 use Rattle.loop_rules.specs.After.{gave_with, dialled_on}
 use Rattle.loop_rules.specs.Told.{HasNone, DiffersBy, IsNotIn}
+use Rattle.loop_rules.specs.Handling.{IsOfOther}
 use Rattle.peer_core.specs.Standing.{IsStanding}
 use Rattle.socket_table.specs.Finding.{IsAt, IsSeatAt}
-use Rattle.ready_loop.specs.States.{LoopState, IsFit, IsOthers, IsOfOther}
+use Rattle.ready_loop.specs.States.{LoopState, IsFit, IsOthers}
 use Rattle.ready_loop.specs.Steps.{with_table}
 use Rattle.ready_loop.specs.Serving.{speaker_by, own_by, IsServing, WritesAt, Writes, Shuts, IsNextDial, Dials}
 use Rattle.ready_loop.proofs.Served.{stands_open, line_found, shuts}

@@ -38,11 +38,11 @@ use Rattle.loop_rules.specs.declared.phases.Phase.{Phase}
 use Rattle.loop_rules.specs.declared.phases.Phase.TheVariants.{Running}
 use Rattle.loop_rules.specs.Settings.{Setting}
 use Rattle.loop_rules.specs.Views.{View}
-use Rattle.loop_rules.specs.Handling.{sorted}
+use Rattle.loop_rules.specs.Handling.{sorted, IsOfOther}
 use Rattle.loop_rules.specs.Keeping.{may_keep_in}
 use Rattle.loop_rules.specs.Told.{IsTold}
 use Rattle.loop_rules.proofs.Kept.{Keeps, keeps_sorted}
-use Rattle.ready_loop.specs.States.{LoopState, IsFit, IsOfOther, setting_of, kept_of, base_of, rest_of, view_of}
+use Rattle.ready_loop.specs.States.{LoopState, IsFit, setting_of, kept_of, base_of, rest_of, view_of}
 use Rattle.ready_loop.specs.Steps.{did_by, next_bytes, kept_next}
 use Rattle.ready_loop.specs.Going.{Grows, IsSteady, undialled}
 use Rattle.ready_loop.specs.Handling.{Advances, StandsPlayed}

@@ -21,11 +21,11 @@ use Rattle.loop_rules.specs.declared.arrivals.Arrival.{Arrival}
 use Rattle.loop_rules.specs.declared.phases.Phase.{Phase}
 use Rattle.loop_rules.specs.declared.phases.Phase.TheVariants.{KeepFault}
 use Rattle.loop_rules.specs.Views.{View}
-use Rattle.loop_rules.specs.Handling.{with_waiting, is_new_to, passed, sorted, sorted_out}
+use Rattle.loop_rules.specs.Handling.{with_waiting, is_new_to, passed, sorted, sorted_out, IsOfOther}
 use Rattle.loop_rules.specs.Keeping.{may_keep_in, with_entry}
 use Rattle.loop_rules.specs.Told.{IsTold}
 use Rattle.loop_rules.proofs.Kept.{Keeps, keeps_sorted}
-use Rattle.ready_loop.specs.States.{LoopState, IsOfOther, kept_of, writer_of, base_of, rest_of, view_of}
+use Rattle.ready_loop.specs.States.{LoopState, kept_of, writer_of, base_of, rest_of, view_of}
 use Rattle.ready_loop.specs.Steps.{did_by, in_phase, written_for, next_bytes, kept_next}
 use Rattle.ready_loop.specs.Going.{Goes}
 use Rattle.ready_loop.specs.Handling.{IsGot}

@@ -22,7 +22,8 @@ use Rattle.loop_rules.specs.Settings.{Setting}
 use Rattle.loop_rules.specs.Keeping.{is_frame, may_keep_in}
 use Rattle.loop_rules.specs.Told.{IsTold}
 use Rattle.loop_rules.proofs.Kept.{Keeps, keeps_sorted}
-use Rattle.ready_loop.specs.States.{LoopState, IsOfOther, kept_of, base_of, rest_of, view_of}
+use Rattle.loop_rules.specs.Handling.{IsOfOther}
+use Rattle.ready_loop.specs.States.{LoopState, kept_of, base_of, rest_of, view_of}
 use Rattle.ready_loop.specs.Steps.{did_by, next_bytes, kept_next}
 use Rattle.ready_loop.specs.Going.{Goes}
 use Rattle.ready_loop.specs.Handling.{KeepsMade}

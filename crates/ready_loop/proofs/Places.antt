@@ -3,11 +3,11 @@ use Rattle.std.proofs.Common.{◌≡◌, ℕ, zero, suc, Bool, true, refl, sym, 
 use Rattle.std.specs.Prelude.{Some, None, map, slice_get}
 use Rattle.std.specs.List.{list_all}
 use Rattle.std.proofs.lemmas.Bool.{and_parts, and_from}
+use Rattle.plain_lemmas.proofs.Pairs.{Pairs}
 use Rattle.socket_lines.specs.declared.line.Line.{Line}
 use Rattle.loop_rules.specs.Tables.{Table}
 use Rattle.loop_rules.specs.Told.{HasNone, Differ}
 use Rattle.socket_table.specs.Finding.{IsAt}
-use Rattle.table_laws.specs.Pairs.{Pairs}
 use Rattle.ready_loop.specs.Handling.{SameSockets}
 
 there_by : (ls ms : List Line) (k : ℕ) (x : Line) → map (λ l. l.socket) ms ≡ map (λ l. l.socket) ls → slice_get ls k ≡ Some x → (y : Line) × (slice_get ms k ≡ Some y) × (y.socket ≡ x.socket)

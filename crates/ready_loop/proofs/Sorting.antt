@@ -21,9 +21,8 @@ use Rattle.loop_rules.specs.declared.arrivals.Arrival.{Arrival}
 use Rattle.loop_rules.specs.declared.phases.Phase.{Phase}
 use Rattle.loop_rules.specs.Tables.{at_seat}
 use Rattle.loop_rules.specs.Views.{View}
-use Rattle.loop_rules.specs.Handling.{next_of, with_waiting, passed, is_new_to, sorted}
+use Rattle.loop_rules.specs.Handling.{next_of, with_waiting, passed, is_new_to, sorted, IsOfOther}
 use Rattle.loop_rules.specs.After.{in_phase}
-use Rattle.ready_loop.specs.States.{IsOfOther}
 use Rattle.ready_loop.proofs.Tests.{not_of}
 
 -- ---- a change that says the same of the frames that wait

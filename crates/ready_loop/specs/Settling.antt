@@ -21,11 +21,12 @@ use Rattle.socket_station.specs.Items.{Item}
 use Rattle.loop_rules.specs.declared.phases.Phase.TheVariants.{Running, KeepFault}
 use Rattle.loop_rules.specs.Licence.{bytes_wait, is_licensed}
 use Rattle.loop_rules.specs.Told.{IsTold}
+use Rattle.loop_rules.specs.Handling.{IsOfOther}
 use Rattle.ready_loop.specs.declared.settling.Settled.{Settled}
 use Rattle.ready_loop.specs.declared.settling.Settled.TheVariants as S
 use Rattle.ready_loop.specs.declared.playing.Played.{Played}
 use Rattle.ready_loop.specs.declared.playing.Played.TheVariants as P
-use Rattle.ready_loop.specs.States.{LoopState, IsOfOther, view_of}
+use Rattle.ready_loop.specs.States.{LoopState, view_of}
 use Rattle.ready_loop.specs.Steps.{synced_all}
 use Rattle.ready_loop.specs.Going.{Goes, Grows, IsIdle, IsSteady, goes_on, undialled}
 use Rattle.ready_loop.specs.Choices.{Chooser, ChoosesBy}

@@ -1,12 +1,11 @@
 -- States: what a loop knows, and what its station told by then.
-use Rattle.std.specs.Prelude.{◌≡◌, ◌≤◌, ◌*◌, ◌<◌, ℕ, true, List, drop, length, take}
+use Rattle.std.specs.Prelude.{◌≡◌, ◌≤◌, ◌*◌, ◌<◌, ℕ, List, drop, length, take}
 use Rattle.std.specs.List.{fold}
 use Rattle.definitions.specs.Lists.{EachIs}
 use Rattle.definitions.specs.declared.logs.Entry.{Entry}
 use Rattle.definitions.specs.declared.openings.Opening.{Opening}
 use Rattle.definitions.specs.World.{Game, players_of}
 use Rattle.definitions.specs.Logs.{chosen}
-use Rattle.definitions.specs.Answers.{is_of_another}
 use Rattle.rosters.specs.Rosters.{Neighbours}
 use Rattle.session_log.specs.Writing.{Writing, fresh}
 use Rattle.session_log.specs.Writing as W
@@ -19,7 +18,7 @@ use Rattle.loop_rules.specs.Settings.{Setting}
 use Rattle.loop_rules.specs.Tables.{Table}
 use Rattle.loop_rules.specs.Told.{DiffersBy}
 use Rattle.loop_rules.specs.Views.{View}
-use Rattle.loop_rules.specs.Handling.{sorted}
+use Rattle.loop_rules.specs.Handling.{sorted, IsOfOther}
 
 pub record LoopState : Type 0 where
   pub peer : PeerState
@@ -68,10 +67,6 @@ pub record IsOthers (game : Game) (me : ℕ) (c : Seat) : Type 0 where
   pub player : c.link.player < players_of game
   pub other : c.link.player ≡ me → ⊥
   pub most : c.asks.most ≡ 2 * game.turns
-
--- the frame that waits is its player's own, another one than me
-abbrev pub IsOfOther : Game → (me : ℕ) → Arrival → Type 0
-IsOfOther game me a = is_of_another game me a.player a.frame ≡ true
 
 pub record IsFit (l : LoopState) (w : Writing) : Type 0 where
   pub over : l.over ≤ length l.peer.entries

@@ -37,6 +37,13 @@ Ends before now due NoMemory = ⊥
 Ends before now due OutputFault = CutShort before now due.body
 Ends before now due status = (now ≡ after_bytes before due.body) × (status ≡ due.status)
 
+-- Why a run may end so that ends nowhere but at the end of its command. Want of memory and faults have their causes outside.
+abbrev pub EndCause : Status → Type 0
+EndCause Done = Unit {0}
+EndCause NoMemory = Unit {0}
+EndCause OutputFault = Unit {0}
+EndCause status = ⊥
+
 -- What may have been written of this text where memory is wanting: nothing, where all memory is taken before the first byte; else a
 -- front of it. `late` says that memory is taken behind the first byte too.
 abbrev pub MayBeFront : (late : Bool) → (text front : List ℕ) → Type 0

@@ -3,6 +3,7 @@ use Rattle.std.proofs.Common.{◌≡◌, ℕ, zero, suc, ◌+◌, ◌-◌, ◌*�
 use Rattle.std.specs.Prelude.{filter, find, map, min, not, option_map, ◌&&◌, ◌||◌, ◌==◌, if◌then◌else◌}
 use Rattle.std.specs.List.{list_any, range_with_len}
 use Rattle.std.proofs.lemmas.Bool.{cases_eq, eq-eqb, false≢true, le-ltb, ltb-false, ne_eqb, not-false}
+use Rattle.plain_lemmas.proofs.Lists.{some_within}
 use Rattle.plain_lemmas.proofs.Options.{some_of}
 use Rattle.definitions.specs.declared.answers.Need.{Need}
 use Rattle.definitions.specs.declared.frames.What.TheVariants.{Reveal}
@@ -24,6 +25,7 @@ use Rattle.definition_laws.proofs.ForPeers.{own_next}
 use Rattle.definition_laws.proofs.Groups.{needed_is_behind, done_where_still}
 use Rattle.definition_laws.proofs.Members.{Has_each, Has_filter, Has_range, each_Has, range_Has}
 use Rattle.definition_laws.proofs.Nexts.{known_orderly}
+use Rattle.definitions.proofs.Items.{item_is}
 use Rattle.definitions.proofs.Streams.{find-range-none, slot_at-past}
 use Rattle.definition_laws.proofs.Standing.{made_count_most, stands_one_way}
 use Rattle.definition_laws.proofs.FirstFinding.{first_none_in}
@@ -72,9 +74,7 @@ done_where_none_is_behind game logs d honest behind still p h at =
 
 -- an honest player is one of the session's
 pub honest_within : (logs : Logs) (p : ℕ) (h : List Entry) → log_of logs p ≡ Some h → p < length logs
-honest_within [] p h e = absurd (let none : None ≡ Some h = e in cc)
-honest_within (l ∷ ls) zero h e = omega arith
-honest_within (l ∷ ls) (suc p) h e = let lt = honest_within ls p h e in omega arith
+honest_within logs p h e = some_within logs p h (item_is logs p None ∙ e)
 
 -- nothing of the four kinds is there
 record NoneThere (game : Game) (logs : Logs) : Type 0 where

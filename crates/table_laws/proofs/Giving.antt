@@ -2,6 +2,7 @@
 use Rattle.std.proofs.Common.{◌≡◌, ℕ, Bool, true, false, refl, ap, ◌∙◌, List, [], ◌∷◌}
 use Rattle.std.specs.Prelude.{Option, Some, None, drop, if◌then◌else◌}
 use Rattle.std.proofs.lemmas.Bool.{false≢true}
+use Rattle.plain_lemmas.proofs.Pairs.{Pairs, pairs_same}
 use Rattle.definitions.specs.Lists.{is_empty}
 use Rattle.definitions.specs.declared.frames.TurnFrame.{TurnFrame}
 use Rattle.rosters.specs.declared.roster.Link.{Link}
@@ -14,8 +15,7 @@ use Rattle.socket_lines.specs.Giving.{Desk, Speaker, due_on, due_bytes, marked, 
 use Rattle.loop_rules.specs.Tables.{Table, line_of, seat_of, seat_by, desk_with}
 use Rattle.loop_rules.specs.After.{gave_on, gave_with, gave_by, own_at}
 use Rattle.loop_rules.specs.Told.{DiffersBy, Differ}
-use Rattle.table_laws.specs.Pairs.{Pairs}
-use Rattle.table_laws.proofs.Pairs.{pairs_same, pairs_put, found_has}
+use Rattle.table_laws.proofs.Pairs.{pairs_put, found_has}
 
 -- ---- one desk
 

@@ -4,6 +4,7 @@ use Rattle.std.specs.Prelude.{Option, Some, None, ◌==◌, ◌&&◌, is_some, i
 use Rattle.std.specs.List.{fold}
 use Rattle.std.specs.Str.{bytes_eq}
 use Rattle.std.proofs.lemmas.Bool.{and_parts, false≢true}
+use Rattle.plain_lemmas.proofs.Pairs.{Pairs, pairs_same, pairs_then, pairs_map}
 use Rattle.definitions.specs.Logs as L
 use Rattle.wire_frames.specs.declared.frames.Frame.{Frame}
 use Rattle.wire_frames.specs.declared.frames.Frame.TheVariants.{Hello, Turn, Want}
@@ -14,8 +15,7 @@ use Rattle.socket_lines.specs.Seats as S
 use Rattle.socket_lines.specs.Lines.{is_named, lets_name, named_line, doomed, moved_to}
 use Rattle.loop_rules.specs.Tables.{Table, line_of, seat_of, at_line, at_seat}
 use Rattle.loop_rules.specs.Hearing.{Hearer, lets_seat_name, names, ousted, with_name_free, named, heard_first, obeyed, arrived, heard_named, heard_by, heard_on, heard, counted, read_on, read_at, heard_all, took_with}
-use Rattle.table_laws.specs.Pairs.{Pairs}
-use Rattle.table_laws.proofs.Pairs.{pairs_same, pairs_then, pairs_map, pair_if, pairs_key}
+use Rattle.table_laws.proofs.Pairs.{pair_if, pairs_key}
 
 -- ---- lines
 

@@ -3,6 +3,7 @@ use Rattle.std.proofs.Common.{◌≡◌, ℕ, ◌-◌, Bool, true, false, refl, 
 use Rattle.std.specs.Prelude.{Option, Some, None, ◌==◌, ◌&&◌, ◌||◌, not}
 use Rattle.std.specs.List.{list_all}
 use Rattle.std.proofs.lemmas.Bool.{false≢true, and_parts, and_from}
+use Rattle.plain_lemmas.proofs.Pairs.{pairs_same, pairs_then}
 use Rattle.plain_lemmas.proofs.Tests.{not_kept}
 use Rattle.definitions.specs.declared.frames.TurnFrame.{TurnFrame}
 use Rattle.rosters.specs.declared.roster.Link.{Link}
@@ -18,7 +19,7 @@ use Rattle.loop_rules.specs.Licence.{is_read, all_is_read, all_is_shut}
 use Rattle.loop_rules.specs.Told.{DiffersBy, Differ}
 use Rattle.table_laws.specs.Pairs.{Both}
 use Rattle.table_laws.specs.Staying.{MilderLine, Milder}
-use Rattle.table_laws.proofs.Pairs.{pairs_same, pairs_then, pairs_weaker, pairs_key, pairs_all, found_both}
+use Rattle.table_laws.proofs.Pairs.{pairs_weaker, pairs_key, pairs_all, found_both}
 use Rattle.table_laws.proofs.Giving.{KeepsLine, KeepsSeat, keeps_line, gave_keeps, gave_lines, gave_keeps_seats}
 use Rattle.table_laws.proofs.Reading.{wants_parts, wants_from}
 

@@ -2,6 +2,7 @@
 use Rattle.std.proofs.Common.{◌≡◌, ℕ, Bool, true, false, refl, sym, ap, subst, ◌∙◌, List}
 use Rattle.std.specs.Prelude.{Option, Some, None, ◌&&◌, ◌||◌, is_some, nat_lt, not, slice_get}
 use Rattle.std.proofs.lemmas.Bool.{false≢true, not-true}
+use Rattle.plain_lemmas.proofs.Pairs.{Pairs}
 use Rattle.definitions.specs.Lists.{is_empty}
 use Rattle.definitions.specs.declared.frames.TurnFrame.{TurnFrame}
 use Rattle.rosters.specs.declared.roster.Link.{Link}
@@ -13,7 +14,7 @@ use Rattle.loop_rules.specs.Tables.{Table, line_of, seat_of, seat_by, at_line, d
 use Rattle.loop_rules.specs.After.{gave_by}
 use Rattle.loop_rules.specs.Licence.{has_due_at, has_due_on, is_served_out}
 use Rattle.loop_rules.specs.Told.{DiffersBy, Differ}
-use Rattle.table_laws.specs.Pairs.{Pairs, Both}
+use Rattle.table_laws.specs.Pairs.{Both}
 use Rattle.table_laws.proofs.Pairs.{pairs_key, pair_at, found_both}
 use Rattle.table_laws.proofs.Giving.{KeepsSeat, gave_lines, gave_keeps_seats}
 

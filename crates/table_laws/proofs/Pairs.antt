@@ -4,21 +4,10 @@ use Rattle.std.specs.Prelude.{Option, Some, None, ◌==◌, cond, find, map, sli
 use Rattle.std.specs.List.{count_by, list_all}
 use Rattle.std.proofs.lemmas.Bool.{and_parts, and_from, eqb-true, eq-eqb, false≢true}
 use Rattle.std.proofs.lemmas.List.Sums.{sum_by-cons}
+use Rattle.plain_lemmas.proofs.Pairs.{Pairs, pairs_map}
 use Rattle.definitions.specs.Lists.{EachIs}
 use Rattle.loop_rules.specs.Told.{HasNone, DiffersBy}
-use Rattle.table_laws.specs.Pairs.{Pairs, Both}
-
-pub pairs_same : {X : Type 0} (R : X → X → Type 0) → ((x : X) → R x x) → (xs : List X) → Pairs R xs xs
-pairs_same R k [] = tt
-pairs_same R k (x ∷ xs) = (k x, pairs_same R k xs)
-
-pub pairs_then : {X : Type 0} (R : X → X → Type 0) → ((x y z : X) → R x y → R y z → R x z) → (xs ys zs : List X) → Pairs R xs ys → Pairs R ys zs → Pairs R xs zs
-pairs_then R k [] [] [] a b = tt
-pairs_then R k [] [] (z ∷ zs) a b = b
-pairs_then R k [] (y ∷ ys) zs a b = absurd a
-pairs_then R k (x ∷ xs) [] zs a b = absurd a
-pairs_then R k (x ∷ xs) (y ∷ ys) [] a b = b
-pairs_then R k (x ∷ xs) (y ∷ ys) (z ∷ zs) a b = (k x y z a.0 b.0, pairs_then R k xs ys zs a.1 b.1)
+use Rattle.table_laws.specs.Pairs.{Both}
 
 pub pairs_weaker : {X : Type 0} (R Q : X → X → Type 0) → ((x y : X) → R x y → Q x y) → (xs ys : List X) → Pairs R xs ys → Pairs Q xs ys
 pairs_weaker R Q k [] [] a = tt
@@ -27,10 +16,6 @@ pairs_weaker R Q k (x ∷ xs) [] a = a
 pairs_weaker R Q k (x ∷ xs) (y ∷ ys) a = (k x y a.0, pairs_weaker R Q k xs ys a.1)
 
 -- ---- how such a list comes about
-
-pub pairs_map : {X : Type 0} (R : X → X → Type 0) (f : X → X) → ((x : X) → R x (f x)) → (xs : List X) → Pairs R xs (map f xs)
-pairs_map R f k [] = tt
-pairs_map R f k (x ∷ xs) = (k x, pairs_map R f k xs)
 
 -- what is changed is of that kind
 pairs_of : {X : Type 0} (P : X → Type 0) (R : X → X → Type 0) (f : X → X) → ((x : X) → P x → R x (f x)) → (xs : List X) → EachIs P xs → Pairs R xs (map f xs)
@@ -68,12 +53,6 @@ pairs_put R key n m x z s xs d e w r =
     (λ y p. pair_if R (key y == m) y z (λ q. subst (λ u. R u z) (sym (p (eqb-true (key y) m q ∙ w))) r) (s y)) xs (only_one key n x xs d e)
 
 -- ---- what follows
-
-pub pairs_each : {X : Type 0} (R : X → X → Type 0) (P : X → Type 0) → ((x y : X) → R x y → P x → P y) → (xs ys : List X) → Pairs R xs ys → EachIs P xs → EachIs P ys
-pairs_each R P k [] [] a e = tt
-pairs_each R P k [] (y ∷ ys) a e = absurd a
-pairs_each R P k (x ∷ xs) [] a e = absurd a
-pairs_each R P k (x ∷ xs) (y ∷ ys) a e = (k x y a.0 e.0, pairs_each R P k xs ys a.1 e.1)
 
 pub pairs_all : {X : Type 0} (R : X → X → Type 0) (p q : X → Bool) → ((x y : X) → R x y → p x ≡ true → q y ≡ true) → (xs ys : List X) → Pairs R xs ys →
     list_all p xs ≡ true → list_all q ys ≡ true

@@ -2,15 +2,15 @@
 use Rattle.std.proofs.Common.{◌≡◌, ℕ, ◌≤◌, Bool, true, false, refl, sym, subst, ◌∙◌, List, arith, length}
 use Rattle.std.specs.Prelude.{Option, Some, None, ◌==◌, ◌&&◌, ◌||◌, not, slice_get}
 use Rattle.std.proofs.lemmas.Bool.{eq-eqb, eqb-true, false≢true, false_from_ne_true}
+use Rattle.plain_lemmas.proofs.Pairs.{Pairs, pairs_same, pairs_then}
 use Rattle.wire_frames.specs.Streams.{given_of}
 use Rattle.socket_lines.specs.declared.line.Line.{Line}
 use Rattle.loop_rules.specs.Tables.{Table, line_of, room_by, room_on}
 use Rattle.loop_rules.specs.Hearing.{Hearer, read_on, read_at, heard_all, took_with, took_on}
 use Rattle.loop_rules.specs.Rules.{wants_read}
 use Rattle.loop_rules.proofs.Alike.{read_same}
-use Rattle.table_laws.specs.Pairs.{Pairs}
 use Rattle.table_laws.specs.Staying.{Rooms}
-use Rattle.table_laws.proofs.Pairs.{pairs_same, pairs_then, pairs_key, pair_at}
+use Rattle.table_laws.proofs.Pairs.{pairs_key, pair_at}
 use Rattle.table_laws.proofs.Hearing.{LetsLine, lines_heard_all, read_lines}
 use Rattle.table_laws.proofs.Rooms.{took_rooms}
 

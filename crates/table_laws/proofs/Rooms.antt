@@ -3,6 +3,7 @@ use Rattle.std.proofs.Common.{◌≡◌, ℕ, ◌+◌, ◌<◌, ◌≤◌, Bool,
 use Rattle.std.specs.Prelude.{Option, Some, None, ◌==◌, slice_get, if◌then◌else◌}
 use Rattle.std.specs.List.{fold}
 use Rattle.std.proofs.lemmas.Bool.{eq-eqb}
+use Rattle.plain_lemmas.proofs.Pairs.{Pairs}
 use Rattle.rosters.specs.declared.roster.Link.{Link}
 use Rattle.wire_frames.specs.declared.frames.Frame.{Frame}
 use Rattle.wire_frames.specs.Streams.{Given, given_of}
@@ -15,7 +16,7 @@ use Rattle.loop_rules.specs.Tables.{Table, line_of, seat_of, at_line, room_by, r
 use Rattle.loop_rules.specs.Hearing.{Hearer, heard_named, heard_by, heard_on, heard, counted, counted_on, read_on, read_at, heard_all, took_with, took_on}
 use Rattle.loop_rules.specs.Told.{Differ}
 use Rattle.loop_rules.proofs.Alike.{alike_took, differ_alike}
-use Rattle.table_laws.specs.Pairs.{Pairs, Both}
+use Rattle.table_laws.specs.Pairs.{Both}
 use Rattle.table_laws.specs.Staying.{Rooms, more_unnamed, left_on}
 use Rattle.table_laws.proofs.Keys.{found_at}
 use Rattle.table_laws.proofs.Pairs.{pairs_key, pair_at, map_at, found_both, found_key, both_left}

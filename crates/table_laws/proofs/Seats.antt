@@ -2,6 +2,7 @@
 use Rattle.std.proofs.Common.{◌≡◌, ℕ, Bool, true, false, refl, ap, ◌∙◌, List}
 use Rattle.std.specs.Prelude.{not, if◌then◌else◌}
 use Rattle.std.specs.List.{count_by}
+use Rattle.plain_lemmas.proofs.Pairs.{pairs_same, pairs_then, pairs_each}
 use Rattle.definitions.specs.Lists.{EachIs}
 use Rattle.definitions.specs.declared.frames.TurnFrame.{TurnFrame}
 use Rattle.socket_lines.specs.declared.seat.Seat.{Seat}
@@ -13,7 +14,7 @@ use Rattle.loop_rules.specs.Hearing.{Hearer, took_on}
 use Rattle.loop_rules.specs.After.{gave_by}
 use Rattle.loop_rules.specs.Told.{DiffersBy}
 use Rattle.table_laws.specs.Staying.{SameSeat, SeatsSame}
-use Rattle.table_laws.proofs.Pairs.{pairs_same, pairs_then, pairs_weaker, pairs_each, pairs_count}
+use Rattle.table_laws.proofs.Pairs.{pairs_weaker, pairs_count}
 use Rattle.table_laws.proofs.Hearing.{LetsSeat, seats_at, seats_took}
 use Rattle.table_laws.proofs.Giving.{KeepsSeat, gave_keeps_seats}
 

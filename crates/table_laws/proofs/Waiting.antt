@@ -3,6 +3,7 @@ use Rattle.std.proofs.Common.{◌≡◌, ℕ, ◌<◌, Bool, true, false, refl, 
 use Rattle.std.specs.Prelude.{Option, Some, None, ◌==◌, ◌&&◌, not, nat_lt, if◌then◌else◌}
 use Rattle.std.specs.List.{fold}
 use Rattle.std.proofs.lemmas.Bool.{and_from, lt-ltb, ne_eqb, not_from_false}
+use Rattle.plain_lemmas.proofs.Pairs.{Pairs}
 use Rattle.plain_lemmas.proofs.Each.{each_push}
 use Rattle.definitions.specs.Answers.{is_of_another}
 use Rattle.definitions.specs.Lists.{EachIs}
@@ -19,7 +20,7 @@ use Rattle.socket_lines.specs.Lines.{doomed, moved_to}
 use Rattle.loop_rules.specs.declared.arrivals.Arrival.{Arrival}
 use Rattle.loop_rules.specs.Tables.{Table, line_of, seat_of, at_line, at_seat, room_by, room_by_seat, room_on}
 use Rattle.loop_rules.specs.Hearing.{Hearer, names, named, heard_first, obeyed, arrived, heard_named, heard_by, heard_on, heard, counted, counted_on, read_on, read_at, heard_all, took_with, took_on}
-use Rattle.table_laws.specs.Pairs.{Pairs}
+use Rattle.loop_rules.specs.Handling.{IsOfOther}
 use Rattle.table_laws.specs.Staying.{SameSeat}
 use Rattle.table_laws.proofs.Pairs.{pairs_key, found_both, found_has, found_is, both_right}
 use Rattle.table_laws.proofs.Hearing.{LetsLine, LetsNames, lines_heard, read_lines, seats_heard, seats_read}
@@ -32,9 +33,6 @@ IsOther game me q = (q < players_of game) × (q ≡ me → ⊥)
 abbrev IsOthersName : Game → (me : ℕ) → Option ℕ → Type 0
 IsOthersName game me None = Unit {0}
 IsOthersName game me (Some q) = IsOther game me q
-
-abbrev IsOthersFrame : Game → (me : ℕ) → Arrival → Type 0
-IsOthersFrame game me a = is_of_another game me a.player a.frame ≡ true
 
 -- the name of a socket that had another player's is another player's
 abbrev KeepsOther : Game → (me : ℕ) → Line → Line → Type 0
@@ -53,7 +51,7 @@ lets_other game me s = record {
 record Waits (game : Game) (me s : ℕ) (t : Table) : Type 0 where
   seats : EachIs (λ c. IsOther game me c.link.player) t.seats
   named : (l : Line) → line_of t s ≡ Some l → IsOthersName game me l.name
-  waiting : EachIs (IsOthersFrame game me) t.waiting
+  waiting : EachIs (IsOfOther game me) t.waiting
 
 other_seat : (game : Game) (me : ℕ) (t : Table) (q : ℕ) (c : Seat) → EachIs (λ d. IsOther game me d.link.player) t.seats → seat_of t q ≡ Some c → IsOther game me q
 other_seat game me t q c e f =
@@ -84,30 +82,30 @@ obeyed_waits : (t : Table) (s q place : ℕ) (o : Option Seat) → (obeyed t s q
 obeyed_waits t s q place None = refl
 obeyed_waits t s q place (Some c) = waiting_if t.waiting (S.may_want c) (at_seat q S.obeys (at_line s (moved_to place) t)) t refl refl
 
-named_waits : (game : Game) (me : ℕ) (t : Table) (s q : ℕ) (f : Frame) → IsOther game me q → EachIs (IsOthersFrame game me) t.waiting → EachIs (IsOthersFrame game me) (heard_named t s q f).waiting
+named_waits : (game : Game) (me : ℕ) (t : Table) (s q : ℕ) (f : Frame) → IsOther game me q → EachIs (IsOfOther game me) t.waiting → EachIs (IsOfOther game me) (heard_named t s q f).waiting
 named_waits game me t s q (Hello id p pass from) o e = e
 named_waits game me t s q (Turn f) o e = go (L.player_of f == q) refl
   where
-    go : (b : Bool) → (L.player_of f == q) ≡ b → EachIs (IsOthersFrame game me) (if b then arrived t q f else at_line s doomed t).waiting
+    go : (b : Bool) → (L.player_of f == q) ≡ b → EachIs (IsOfOther game me) (if b then arrived t q f else at_line s doomed t).waiting
     go true w =
-        let is : IsOthersFrame game me (record { player = q; frame = f })
+        let is : IsOfOther game me (record { player = q; frame = f })
         = and_from (nat_lt q (players_of game) && not (q == me)) (L.player_of f == q)
         (and_from (nat_lt q (players_of game)) (not (q == me)) (lt-ltb q (players_of game) o.0) (not_from_false (q == me) (ne_eqb q me o.1))) w in
-        each_push (IsOthersFrame game me) t.waiting (record { player = q; frame = f }) e is
+        each_push (IsOfOther game me) t.waiting (record { player = q; frame = f }) e is
     go false w = e
-named_waits game me t s q (Want place) o e = subst (EachIs (IsOthersFrame game me)) (sym (obeyed_waits t s q place (seat_of t q))) e
+named_waits game me t s q (Want place) o e = subst (EachIs (IsOfOther game me)) (sym (obeyed_waits t s q place (seat_of t q))) e
 
-by_waits : (game : Game) (me : ℕ) (h : Hearer) (t : Table) (s : ℕ) (l : Line) (o : Option ℕ) (f : Frame) → IsOthersName game me o → EachIs (IsOthersFrame game me) t.waiting →
-    EachIs (IsOthersFrame game me) (heard_by h t s l o f).waiting
-by_waits game me h t s l None f n e = subst (EachIs (IsOthersFrame game me)) (sym (first_waits h t s l f)) e
+by_waits : (game : Game) (me : ℕ) (h : Hearer) (t : Table) (s : ℕ) (l : Line) (o : Option ℕ) (f : Frame) → IsOthersName game me o → EachIs (IsOfOther game me) t.waiting →
+    EachIs (IsOfOther game me) (heard_by h t s l o f).waiting
+by_waits game me h t s l None f n e = subst (EachIs (IsOfOther game me)) (sym (first_waits h t s l f)) e
 by_waits game me h t s l (Some q) f n e = named_waits game me t s q f n e
 
-on_waits : (game : Game) (me : ℕ) (h : Hearer) (t : Table) (s : ℕ) (f : Frame) (o : Option Line) → ((l : Line) → o ≡ Some l → IsOthersName game me l.name) → EachIs (IsOthersFrame game me) t.waiting →
-    EachIs (IsOthersFrame game me) (heard_on h t s f o).waiting
+on_waits : (game : Game) (me : ℕ) (h : Hearer) (t : Table) (s : ℕ) (f : Frame) (o : Option Line) → ((l : Line) → o ≡ Some l → IsOthersName game me l.name) → EachIs (IsOfOther game me) t.waiting →
+    EachIs (IsOfOther game me) (heard_on h t s f o).waiting
 on_waits game me h t s f None n e = e
 on_waits game me h t s f (Some l) n e = go l.is_wrong
   where
-    go : (b : Bool) → EachIs (IsOthersFrame game me) (if b then t else heard_by h t s l l.name f).waiting
+    go : (b : Bool) → EachIs (IsOfOther game me) (if b then t else heard_by h t s l l.name f).waiting
     go true = e
     go false = by_waits game me h t s l l.name f (n l refl) e
 
@@ -127,11 +125,11 @@ waits_frames game me h s t (f ∷ fs) w = waits_frames game me h s (heard h s t 
 
 -- ---- bytes
 
-all_waits : (game : Game) (me : ℕ) (h : Hearer) (s : ℕ) (g : Given) (t : Table) → Waits game me s t → EachIs (IsOthersFrame game me) (heard_all h s g t).waiting
+all_waits : (game : Game) (me : ℕ) (h : Hearer) (s : ℕ) (g : Given) (t : Table) → Waits game me s t → EachIs (IsOfOther game me) (heard_all h s g t).waiting
 all_waits game me h s g t w = go g.reader.bad (waits_frames game me h s t g.frames w).waiting
   where
-    go : (b : Bool) → EachIs (IsOthersFrame game me) (fold (heard h s) t g.frames).waiting →
-        EachIs (IsOthersFrame game me) (if b then at_line s doomed (fold (heard h s) t g.frames) else fold (heard h s) t g.frames).waiting
+    go : (b : Bool) → EachIs (IsOfOther game me) (fold (heard h s) t g.frames).waiting →
+        EachIs (IsOfOther game me) (if b then at_line s doomed (fold (heard h s) t g.frames) else fold (heard h s) t g.frames).waiting
     go true e = e
     go false e = e
 
@@ -153,7 +151,7 @@ waits_read game me s count g l t w =
     record {
       seats = same_each (λ c. IsOther game me c.link.player) (seat_stays game me) t.seats u.seats (seats_read SameSeat hearing_same s count g l t) w.seats;
       named = line_stays game me s t u (subst (Pairs (KeepsOther game me) t.lines) (sym (read_lines s count g l t)) pairs) w.named;
-      waiting = subst (EachIs (IsOthersFrame game me)) (sym (counted_waits l.name count (at_line s (read_on count g) t))) w.waiting;
+      waiting = subst (EachIs (IsOfOther game me)) (sym (counted_waits l.name count (at_line s (read_on count g) t))) w.waiting;
     }
 
 -- a name under which bytes may be taken has a seat
@@ -172,7 +170,7 @@ took_of_others game me h s bytes t l e none found room =
     let start : Waits game me s t = record {
       seats = e;
       named = λ m f. subst (λ (x : Line). IsOthersName game me x.name) (let q : Some l ≡ Some m = sym found ∙ f in let r : l ≡ m = cc in r) (name_room game me t l l.name e room);
-      waiting = subst (EachIs (IsOthersFrame game me)) (sym none) tt;
+      waiting = subst (EachIs (IsOfOther game me)) (sym none) tt;
     } in
-    subst (λ (o : Option Line). EachIs (IsOthersFrame game me) (took_with h t s bytes o).waiting) (sym found)
+    subst (λ (o : Option Line). EachIs (IsOfOther game me) (took_with h t s bytes o).waiting) (sym found)
     (all_waits game me h s g (read_at s (length bytes) g l t) (waits_read game me s (length bytes) g l t start))

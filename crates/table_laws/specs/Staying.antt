@@ -1,12 +1,12 @@
 -- Staying: what stays as it was where one table came about from another, and how much a loop may still take or give on a line.
 use Rattle.std.specs.Prelude.{◌≡◌, ℕ, ◌+◌, ◌-◌, ◌*◌, ◌≤◌, true, List, Option, Some, None, length, unwrap_or, if◌then◌else◌}
+use Rattle.plain_lemmas.proofs.Pairs.{Pairs}
 use Rattle.definitions.specs.Lists.{is_empty}
 use Rattle.socket_lines.specs.declared.limits.TheConstants.{MOST_BYTES}
 use Rattle.socket_lines.specs.declared.line.Line.{Line}
 use Rattle.socket_lines.specs.declared.seat.Seat.{Seat}
 use Rattle.socket_lines.specs.Giving.{Desk}
 use Rattle.loop_rules.specs.Tables.{Table, seat_of, room_by_seat, room_on}
-use Rattle.table_laws.specs.Pairs.{Pairs}
 
 -- ---- seats
 

@@ -1,11 +1,11 @@
--- Upgrade: the answer to the command, and why it ends as it does.
+-- Upgrade: the answer to the command, and what is behind it.
 use Rattle.std.specs.Prelude.{◌≡◌, ℕ, List, Result, Ok, Err}
 use Rattle.definitions.specs.World.{Game}
 use Rattle.grid_world.specs.Reading.{game_at}
 use Rattle.grid_world.specs.Text.{session_text, upgraded}
 use Rattle.run_frame.specs.Frame.{Answer, bare_answer}
 use Rattle.run_frame.specs.declared.statuses.Status.{Status}
-use Rattle.run_frame.specs.declared.statuses.Status.TheVariants.{Done, NoMemory, OutputFault}
+use Rattle.run_frame.specs.declared.statuses.Status.TheVariants.{Done}
 use Rattle.upgrade_command.specs.Laws.{PlayAlike}
 
 -- the answer to the command: the session's text in version 2, where there is a session
@@ -19,10 +19,3 @@ pub record TellsUpgrade (game : Game) (body : List ℕ) : Type 0 where
   pub read : game_at body ≡ Ok (upgraded game)
   -- which plays as the session does
   pub alike : PlayAlike (upgraded game) game
-
--- Why a run that has a session may end so: at the end of the command. Want of memory and faults have their causes outside.
-abbrev pub UpgradeCause : Status → Type 0
-UpgradeCause Done = Unit {0}
-UpgradeCause NoMemory = Unit {0}
-UpgradeCause OutputFault = Unit {0}
-UpgradeCause status = ⊥

@@ -1,15 +1,16 @@
-use Rattle.std.proofs.Common.{◌≡◌, ◌+◌, ◌++◌, ℕ, List, length, map, take, get_or, ap, sym, subst, ◌∙◌}
+use Rattle.std.proofs.Common.{◌≡◌, ◌+◌, ◌++◌, ◌≤◌, ℕ, List, length, map, take, get_or, ap, sym, subst, ◌∙◌}
+use Rattle.plain_lemmas.proofs.Each.{each_get}
 use Rattle.history_book.specs.declared.store.Part.{Part}
 use Rattle.history_book.specs.declared.store.What.TheVariants.{Given}
 use Rattle.history_book.specs.Stores.{AreWithin, part_of, given_part, given_parts}
-use Rattle.history_book.proofs.Givings.{turn, given-more, within-get}
+use Rattle.history_book.proofs.Givings.{turn, given-more}
 use Rattle.history_book.proofs.store.Store.given.Goals as goal
 
 pub given_bytes-bytes-requires : goal.given_bytes-bytes-requires
 given_bytes-bytes-requires c =
     let P : List Part → Type 0 = λ ps. AreWithin (length c.self.inside.bytes.items) ps in
     let Q : List ℕ → Type 0 = λ b. AreWithin (length b) c.as_slice-part-items.result.now in
-    within-get (length c.as_slice.result.now) c.as_slice-part-items.result.now c.loop-part.part-index _
+    each_get (λ (p : Part). p.at + p.len ≤ length c.as_slice.result.now) c.as_slice-part-items.result.now c.loop-part.part-index _
     (subst Q (sym c.as_slice.ensures.value) (subst P (sym c.as_slice-part-items.ensures.value) c.self.invariant)) c.loop-part-test.true
 
 -- the part that stands for a place that there isn't
