@@ -5,7 +5,6 @@ use Rattle.std.proofs.lemmas.Bool.{eqb-true, eqb-false}
 use Rattle.std.proofs.lemmas.List.{get_or-replicate, length-append, length-replicate, length-set}
 use Rattle.std.proofs.lemmas.Option.{get_or_from_slice_get, slice_get-get_or, slice_get_within}
 use Rattle.definitions.specs.declared.logs.Entry.{Entry}
-use Rattle.definitions.specs.Lists.{item_or}
 use Rattle.frame_index.specs.Appended.{with_entry}
 use Rattle.frame_index.proofs.Grows.{own_after}
 
@@ -69,9 +68,3 @@ none_counted n i h at =
     let counts = length-replicate n (let none : ℕ = 0 in none) in
     slice_get-get_or (replicate n 0) i 0 (omega arith)
     ∙ ap (λ (x : ℕ). Some x) (get_or-replicate n i 0 0 less ∙ sym (ap length (none_in n i h at)))
-
--- each of these is the same, and so is what stands past the end
-pub same_there : {X : Type 0} (n i : ℕ) (d : X) → item_or (replicate n d) i d ≡ d
-same_there zero i d = refl
-same_there (suc n) zero d = refl
-same_there (suc n) (suc i) d = same_there n i d

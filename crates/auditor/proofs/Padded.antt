@@ -13,6 +13,8 @@ use Rattle.definitions.specs.Logs.{got_of}
 use Rattle.definitions.specs.Held.{Known}
 use Rattle.definition_laws.specs.Members.{Has}
 use Rattle.definition_laws.proofs.ForPeers.{known_of_none}
+use Rattle.definitions.proofs.Items.{item_is}
+use Rattle.plain_lemmas.proofs.Lists.{get_or-repeated}
 use Rattle.definition_laws.proofs.Silent.{pair_alike, filter_map_alike, flat_map_alike}
 use Rattle.frame_index.specs.declared.limits.TheConstants.{MOST_LOGS}
 use Rattle.evidence.specs.declared.exhibit.Exhibit.{Exhibit}
@@ -23,7 +25,6 @@ use Rattle.auditor.specs.Audits.{StandsFor, padded}
 use Rattle.auditor.specs.Agreed.{AreOwned, agreed_move, agreed_moves, all_agreed_moves, moves_given, one_move, resolved_at, resolved_by, world_by}
 use Rattle.auditor.specs.Exhibits.{IsExhibitOf}
 use Rattle.auditor.specs.Reports.{IsReportOf}
-use Rattle.auditor.proofs.Counted.{same_there}
 
 -- what follows of a value, if there is one
 pub if_ok : {T E : Type 0} {P Q : T → Type 0} (r : Result T E) → ((x : T) → P x → Q x) → IfOk r P → IfOk r Q
@@ -51,7 +52,7 @@ first_some f a (suc n) k h =
     ap (λ m. filter_map f (range_with_len a m)) all ∙ ap (cons_option (f a)) (first_some f (a + 1) n k (λ i. let at : ((a + 1) + n) + i ≡ (a + suc n) + i = omega arith in ap f at ∙ h i))
 
 pub item_padded : (logs : List (List Entry)) (k i : ℕ) → item_or (padded logs k) i [] ≡ item_or logs i []
-item_padded [] k i = same_there k i (let none : List Entry = [] in none)
+item_padded [] k i = let none : List Entry = [] in sym (item_is (replicate k none) i none) ∙ get_or-repeated k i none
 item_padded (h ∷ logs) k zero = refl
 item_padded (h ∷ logs) k (suc i) = item_padded logs k i
 

@@ -14,8 +14,9 @@ use Rattle.definition_laws.specs.Members.{Has}
 use Rattle.definition_laws.proofs.Members.{Has_append, Has_back, Has_flat_map, Has_front, flat_map_Has, map_Has, slice_get_Has}
 use Rattle.frame_index.specs.declared.seen.Seen.{Seen}
 use Rattle.frame_index.specs.declared.kept.KeptFrame.{KeptFrame}
-use Rattle.frame_index.specs.Kept.{AreAlike, AreOf, Grows, IsAdded, IsNotedAt, StandsAt, seen_in, seen_of, seen_with, sight}
-use Rattle.frame_index.specs.Spots.{spot_noted}
+use Rattle.frame_index.proofs.Once.{logs_noted, logs_one, once_more, once_set}
+use Rattle.frame_index.specs.Kept.{AreAlike, AreOf, AreOnce, Grows, IsAdded, IsNotedAt, StandsAt, seen_in, seen_of, seen_with, sight}
+use Rattle.frame_index.specs.Spots.{AreOfLogs, spot_noted}
 
 -- what follows where there is a value, and where there is an error
 pub on_ok : {T E P Q : Type 0} (r : Result T E) → (P → Q) → OnOk r P → OnOk r Q
@@ -148,6 +149,7 @@ module _ (old new : List KeptFrame) (at : ℕ) (k l : KeptFrame) (there : slice_
     own = own;
     to = stay (λ s m. subst (λ (xs : List Spot). Has xs s) (sym same) m);
     fro = λ x m. only x (flat_map_Has seen_of (set old at l) x (subst (λ (ks : List KeptFrame). Has (seen_in ks) x) new_is m));
+    once = λ w. subst AreOnce (sym new_is) (once_set old at k l there frame (λ apart. subst AreOfLogs (sym same) apart) w);
   }
     where
       only : (x : Seen) → (y : KeptFrame) × Has (set old at l) y × Has (seen_of y) x → Has (seen_in old) x
@@ -166,6 +168,7 @@ module _ (old new : List KeptFrame) (at : ℕ) (k l : KeptFrame) (there : slice_
     stay = stay (λ x m. subst (λ (xs : List Spot). Has xs x) (sym same) (has_noted k.spots.items s x m));
     come = λ q t of x m. here q t of x (come s (λ y n. noted_has k.spots.items s y (subst (λ (xs : List Spot). Has xs y) same n)) x m);
     one = λ q t of. now q t of (noted_now k.spots.items s);
+    once = λ q t of w. subst AreOnce (sym new_is) (once_set old at k l there frame (λ apart. subst AreOfLogs (sym same) (logs_noted k.spots.items s apart)) w);
   }
     where
       right : (q t : ℕ) → AreOf game q t old → (u : Spot) → seen_with k.frame k.digest u ≡ sight game f u
@@ -191,15 +194,21 @@ pub stands_within : (ks : List KeptFrame) (at : ℕ) (f : TurnFrame) → StandsA
 stands_within ks at f (k, there, is) = slice_get_within ks at k there
 
 -- a frame comes behind the others
-pub added_grows : (game : Game) (f : TurnFrame) (d : Digest) (s : Spot) (old new : List KeptFrame) → d ≡ digest_of game f → IsAdded old new f d s → Grows game f s old new
-added_grows game f d s old new right (l, frame, digest, spots, new_is) = record {
+pub added_grows : (game : Game) (f : TurnFrame) (d : Digest) (s : Spot) (old new : List KeptFrame) → d ≡ digest_of game f → ((i : ℕ) (k : KeptFrame) → slice_get old i ≡ Some k → k.frame ≡ f → k.digest ≡ d → ⊥) →
+    IsAdded old new f d s → Grows game f s old new
+added_grows game f d s old new right other (l, frame, digest, spots, new_is) = record {
   own = λ q t of player turn x m. each q t of player turn x (last_has old l x (subst (λ (ks : List KeptFrame). Has ks x) new_is m));
   stay = λ x m. let r = flat_map_Has seen_of old x m in subst (λ (ks : List KeptFrame). Has (seen_in ks) x) (sym new_is) (Has_flat_map seen_of (old ++ l ∷ []) r.0 x (Has_front old (l ∷ []) r.0 r.1) r.2);
   come = λ q t of x m. fresh x (flat_map_Has seen_of (old ++ l ∷ []) x (subst (λ (ks : List KeptFrame). Has (seen_in ks) x) new_is m));
   one = λ q t of. inl (subst (λ (ks : List KeptFrame). Has (seen_in ks) (sight game f s)) (sym new_is)
       (Has_flat_map seen_of (old ++ l ∷ []) l (sight game f s) (Has_back old (l ∷ []) l (inl refl)) (subst (Has (seen_of l)) (is s) (kept_has l s (subst (λ (xs : List Spot). Has xs s) (sym spots) (inl refl))))));
+  once = λ q t of w. subst AreOnce (sym new_is) (once_more old l (unlike q t of) (subst AreOfLogs (sym spots) (logs_one s)) w);
 }
   where
+    -- a frame with the right digest that is the new one has its digest too
+    unlike : (q t : ℕ) → AreOf game q t old → (i : ℕ) (k : KeptFrame) → slice_get old i ≡ Some k → k.frame ≡ l.frame → ⊥
+    unlike q t of i k at same = other i k at (same ∙ frame) ((of k (slice_get_Has old i k at)).2 ∙ ap (digest_of game) (same ∙ frame) ∙ sym right)
+
     is : (u : Spot) → seen_with l.frame l.digest u ≡ sight game f u
     is u = λ i. seen_with (frame i) ((digest ∙ right) i) u
 
@@ -225,4 +234,5 @@ alike_same old new same = record {
   own = λ game q t of. subst (AreOf game q t) (sym same) of;
   to = λ x m. subst (λ (ks : List KeptFrame). Has (seen_in ks) x) (sym same) m;
   fro = λ x m. subst (λ (ks : List KeptFrame). Has (seen_in ks) x) same m;
+  once = λ w. subst AreOnce (sym same) w;
 }

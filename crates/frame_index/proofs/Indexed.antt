@@ -12,7 +12,7 @@ use Rattle.definitions.specs.Logs.{player_of, turn_of}
 use Rattle.frame_index.specs.declared.kept.KeptFrame.{KeptFrame}
 use Rattle.frame_index.specs.declared.frames.FrameIndex.{FrameIndex}
 use Rattle.frame_index.specs.Keeps.{Keeps}
-use Rattle.frame_index.specs.Kept.{AreAlike, AreOf, Grows, seen_in, sight}
+use Rattle.frame_index.specs.Kept.{AreAlike, AreOf, AreOnce, Grows, seen_in, sight}
 use Rattle.frame_index.specs.Appended.{with_entry}
 use Rattle.frame_index.specs.Frames.{IsIndex, IsRefused, IsRefusedBy, IsTaken, IsTakenBy, kept_in, kept_of}
 use Rattle.frame_index.proofs.Growing.{alike_same}
@@ -55,8 +55,21 @@ module _ (game : Game) (logs : List (List Entry)) (h : List Entry) (f : TurnFram
           (subst (λ (p : ℕ). AreOf game p (turn_of f) (kept_of new p (turn_of f))) (eqb-true _ _ x)
           (taken.own.own (player_of f) (turn_of f) (w.own (player_of f) (turn_of f)) refl refl))
 
+  once : (q t : ℕ) → AreOnce (kept_of new q t)
+  once q t = go (player_of f == q) refl (turn_of f == t) refl
+    where
+      away : ((player_of f ≡ q) × (turn_of f ≡ t) → ⊥) → AreOnce (kept_of new q t)
+      away never = subst AreOnce (sym (taken.others q t never)) (w.once q t)
+
+      go : (b : Bool) → (player_of f == q) ≡ b → (c : Bool) → (turn_of f == t) ≡ c → AreOnce (kept_of new q t)
+      go false x c y = away (λ both. eqb-false _ _ x both.0)
+      go true x false y = away (λ both. eqb-false _ _ y both.1)
+      go true x true y = subst (λ (u : ℕ). AreOnce (kept_of new q u)) (eqb-true _ _ y)
+          (subst (λ (p : ℕ). AreOnce (kept_of new p (turn_of f))) (eqb-true _ _ x)
+          (taken.own.once (player_of f) (turn_of f) (w.own (player_of f) (turn_of f)) (w.once (player_of f) (turn_of f))))
+
   pub taken_stands : IsIndex game After new
-  taken_stands = record { stands = stands; own = own }
+  taken_stands = record { stands = stands; own = own; once = once }
 
 -- with the same members, what is kept stands for the same logs
 pub refused_stands : (game : Game) (logs : List (List Entry)) (old new : FrameIndex) → IsRefused old new → IsIndex game logs old → IsIndex game logs new
@@ -67,6 +80,7 @@ refused_stands game logs old new same w = record {
     firsts = λ u v. let r = k.firsts u v in (r.0, (same q t).to r.0 r.1, r.2);
   };
   own = λ q t. (same q t).own game q t (w.own q t);
+  once = λ q t. (same q t).once (w.once q t);
 }
 
 -- what is kept at one place is alike, and the others stay

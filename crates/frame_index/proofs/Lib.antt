@@ -22,3 +22,5 @@ pub mod Commonly
 pub mod Leaving
 pub mod Spotted
 pub mod Parted
+pub mod Once
+pub mod Placed

@@ -8,9 +8,8 @@ use Rattle.definitions.specs.declared.frames.TurnFrame.{TurnFrame}
 use Rattle.definitions.specs.World.{Game}
 use Rattle.definitions.specs.Logs.{player_of, turn_of}
 use Rattle.frame_index.specs.declared.kept.KeptFrame.{KeptFrame}
-use Rattle.frame_index.specs.declared.kept.TurnFrames.{TurnFrames}
 use Rattle.frame_index.specs.declared.frames.FrameIndex.{FrameIndex}
-use Rattle.frame_index.specs.Kept.{AreAlike, Grows}
+use Rattle.frame_index.specs.Kept.{AreAlike, Grows, TurnKept}
 use Rattle.frame_index.specs.Rows.{kept_by}
 use Rattle.frame_index.specs.Frames.{IsRefused, IsRefusedBy, IsTaken, IsTakenBy, kept_beyond}
 use Rattle.frame_index.proofs.Growing.{alike_same}
@@ -33,14 +32,14 @@ module _ (old new : FrameIndex) (rows : new.rows ≡ old.rows) where
   }
     where
       both : (b : Bool) (q t : ℕ) → NewBeyond q t ≡ OldBeyond q t → (if b then kept_by new.rows.items q t else NewBeyond q t) ≡ (if b then kept_by old.rows.items q t else OldBeyond q t)
-      both true q t e = ap (λ (r : Vec (Vec TurnFrames Global) Global). kept_by r.items q t) rows
+      both true q t e = ap (λ (r : Vec (Vec TurnKept Global) Global). kept_by r.items q t) rows
       both false q t e = e
 
   pub refused_beyond : IsRefusedBy OldBeyond NewBeyond → IsRefused old new
   refused_beyond same q t = go (nat_lt t MOST_TURNS)
     where
       go : (b : Bool) → AreAlike (if b then kept_by old.rows.items q t else OldBeyond q t) (if b then kept_by new.rows.items q t else NewBeyond q t)
-      go true = alike_same _ _ (ap (λ (r : Vec (Vec TurnFrames Global) Global). kept_by r.items q t) rows)
+      go true = alike_same _ _ (ap (λ (r : Vec (Vec TurnKept Global) Global). kept_by r.items q t) rows)
       go false = same q t
 
 -- in the rows

@@ -13,16 +13,15 @@ use Rattle.frame_index.specs.declared.kept.KeptFrame.{KeptFrame}
 use Rattle.frame_index.specs.declared.frames.TurnKey.{TurnKey}
 use Rattle.frame_index.specs.declared.frames.FrameIndex.{FrameIndex}
 use Rattle.frame_index.specs.Keeps.{Keeps}
-use Rattle.frame_index.specs.declared.kept.TurnFrames.{TurnFrames}
 use Rattle.frame_index.specs.Rows.{kept_by}
-use Rattle.frame_index.specs.Kept.{AreAlike, AreOf, Grows, seen_in}
+use Rattle.frame_index.specs.Kept.{AreAlike, AreOf, AreOnce, Grows, TurnKept, seen_in}
 
 -- the same player's turn
 abbrev pub key_eq : TurnKey → TurnKey → Bool
 key_eq a b = (a.player == b.player) && (a.turn == b.turn)
 
 -- the frames that are kept of the player's turn behind all that a session may have
-abbrev pub kept_beyond : {S : Type 0} → IndexMap TurnKey TurnFrames S → ℕ → ℕ → List KeptFrame
+abbrev pub kept_beyond : {S : Type 0} → IndexMap TurnKey TurnKept S → ℕ → ℕ → List KeptFrame
 kept_beyond beyond q t = option_map_or (λ v. v.kept.items) (get key_eq beyond (record { player = q; turn = t })) []
 
 -- the frames that are kept of the player's turn
@@ -33,10 +32,11 @@ kept_of index q t = if nat_lt t MOST_TURNS then kept_by index.rows.items q t els
 abbrev pub kept_in : FrameIndex → ℕ → ℕ → List Seen
 kept_in index q t = seen_in (kept_of index q t)
 
--- what is kept stands for these logs, and each frame is kept under its player's turn
+-- what is kept stands for these logs, each frame is kept under its player's turn, none twice, and none with two spots in one log
 pub record IsIndex (game : Game) (logs : List (List Entry)) (index : FrameIndex) : Type 0 where
   pub stands : (q t : ℕ) → Keeps game q t logs (kept_in index q t)
   pub own : (q t : ℕ) → AreOf game q t (kept_of index q t)
+  pub once : (q t : ℕ) → AreOnce (kept_of index q t)
 
 -- the frame is taken at the spot to those of its player's turn, and the others stay, by what is kept before and after
 pub record IsTakenBy (game : Game) (f : TurnFrame) (s : Spot) (old new : ℕ → ℕ → List KeptFrame) : Type 0 where

@@ -1,6 +1,6 @@
 //! The moves of a player of whom all logs show the same, turn by turn for all logs at once.
 
-ghost use Rattle.std.specs.Prelude.{◌≡◌, ◌<◌, ◌+◌, ℕ, Bool, List, false, true, IfNone, IfOk, IfSome, IsTrue, min};
+ghost use Rattle.std.specs.Prelude.{◌≡◌, ◌<◌, ◌≤◌, ◌+◌, ℕ, Bool, List, false, true, length, IfNone, IfOk, IfSome, IsTrue, min};
 ghost use Rattle.definitions.specs.declared.logs.Entry.{Entry};
 ghost use Rattle.definitions.specs.World.{is_open, players_of};
 ghost use Rattle.frame_index.specs.Frames as F;
@@ -218,7 +218,8 @@ pub fn common_moves(
     out: &mut Vec<Move>,
 ) -> Result<bool, AllocError>
     requires { player < players_of session.now }
-    ensures { IfOk result (λ told. IsTrue told → (logs : List (List Entry)) → F.IsIndex session.now logs index.now → P.AreCommon session.now player logs chosen.now out.new.items) }
+    ensures moves { IfOk result (λ told. IsTrue told → (logs : List (List Entry)) → F.IsIndex session.now logs index.now → P.AreCommon session.now player logs chosen.now out.new.items) }
+    ensures few { IfOk result (λ told. IsTrue told → length out.new.items ≤ session.now.turns) }
 {
     session.facts();
     out.clear();

@@ -1,8 +1,9 @@
 //! What is kept of a player's turn: each different frame once.
 
-ghost use Rattle.std.specs.Prelude.{◌≡◌, ◌<◌, [], length, IfSome, IsTrue, OnOk, OnErr};
+ghost use Rattle.std.specs.Prelude.{◌≡◌, ◌<◌, ◌≤◌, ℕ, Some, false, true, [], ◌∷◌, length, slice_get, IfNone, IfOk, IfSome, IsTrue, OnOk, OnErr};
 ghost use Rattle.frame_index.specs.Kept as K;
 ghost use Rattle.frame_index.specs.Spots as S;
+ghost use Rattle.frame_index.specs.declared.kept.KeptFrame.{KeptFrame};
 
 use crate::spots::Spots;
 use definitions::{Digest, Spot, TurnFrame};
@@ -10,6 +11,7 @@ use grid_world::Session;
 use reveal_check::frame_digest;
 use std::alloc::{AllocError, Global};
 use std::collections::BTreeMap;
+use std::marker::Model;
 use streams::is_commit;
 
 /// A frame that logs got, its digest, and its first spot in each log that got it.
@@ -20,21 +22,29 @@ pub(crate) struct KeptFrame {
     pub spots: Spots,
 }
 
-/// By what a frame is looked for among many of its turn. Keys are compared and never hashed, so that no log can be made for which
-/// the look-ups take long.
-#[derive(Clone, Copy, PartialEq, Eq, PartialOrd, Ord)]
-struct FrameKey {
-    commits: bool,
-    digest: [u8; 32],
-}
+/// By what a frame is looked for among many of its turn: its digest, and whether it is a commitment. Keys are compared and never
+/// hashed, so that no log can be made for which the look-ups take long.
+type FrameKey = [u8; 33];
+
+/// Of each frame of a turn but the first few, where it stands.
+type Places = BTreeMap<FrameKey, usize>;
 
 /// The different frames of a player's turn.
 #[derive(Drop)]
 pub(crate) struct TurnFrames {
     // in the order in which they came
     pub kept: Vec<KeptFrame>,
-    // of each frame but the first few, where it stands
-    places: BTreeMap<FrameKey, usize>,
+    places: Places,
+}
+
+impl Model for TurnFrames {
+    ghost use Rattle.frame_index.specs.Kept.{HavePlaces, TurnKept};
+
+    ghost Value = { TurnKept };
+
+    ghost view = { λ f. record { kept = record { items = f.kept.items } } };
+
+    ghost invariant = { λ f. HavePlaces f.kept.items f.places };
 }
 
 /// As many frames of a turn as are looked through one by one.
@@ -58,28 +68,33 @@ fn note_at(kept: &mut Vec<KeptFrame>, at: usize, spot: Spot) -> Result<(), Alloc
     requires { at < length kept.old.items }
     ensures ok { OnOk result (K.IsNotedAt kept.old.items kept.new.items at spot) }
     ensures err { OnErr result (K.AreAlike kept.old.items kept.new.items) }
+    ensures places { K.KeepPlaces kept.old.items kept.new.items }
 {
     note_frame(&mut kept[at], spot)
 }
 
 /// By what the frame is looked for.
-fn key_of(frame: &TurnFrame, digest: &Digest) -> FrameKey {
-    FrameKey {
-        commits: is_commit(frame),
-        digest: digest.bytes,
-    }
+fn key_of(frame: &TurnFrame, digest: &Digest) -> FrameKey
+    ensures { result ≡ K.key_bytes frame.now digest.now }
+{
+    let kind = if is_commit(frame) { 1 } else { 0 };
+    let mut key = [kind; 33];
+    key[..32].copy_from_slice(&digest.bytes);
+    key
 }
 
 /// Whether the frame is the one that is kept.
 fn is_kept(one: &KeptFrame, frame: &TurnFrame) -> bool
-    ensures { IsTrue result → one.now.frame ≡ frame.now }
+    ensures same { IsTrue result → one.now.frame ≡ frame.now }
+    ensures other { result ≡ false → one.now.frame ≡ frame.now → ⊥ }
 {
     one.frame == *frame
 }
 
 /// The place of the frame among the first ones, as many as there are or are asked for.
 fn place_in(kept: &[KeptFrame], frame: &TurnFrame, most: usize) -> Option<usize>
-    ensures { IfSome result (λ at. K.StandsAt kept.now at frame.now) }
+    ensures some { IfSome result (λ at. K.StandsAt kept.now at frame.now) }
+    ensures none { IfNone result ((at : ℕ) (k : KeptFrame) → at < most → slice_get kept.now at ≡ Some k → k.frame ≡ frame.now → ⊥) }
 {
     for at in 0..kept.len().min(most) {
         if is_kept(&kept[at], frame) {
@@ -99,6 +114,99 @@ fn make_room(alloc: Global, kept: &mut Vec<KeptFrame>) -> Result<(), AllocError>
     Ok(())
 }
 
+/// The place of the frame behind the first few, if it is there.
+fn late_place(
+    kept: &[KeptFrame],
+    places: &Places,
+    frame: &TurnFrame,
+    digest: &Digest,
+) -> Option<usize>
+    requires { K.HavePlaces kept.now places.now }
+    ensures some { IfSome result (λ at. K.StandsAt kept.now at frame.now) }
+    ensures none { IfNone result ((at : ℕ) (k : KeptFrame) → FEW ≤ at → slice_get kept.now at ≡ Some k → k.frame ≡ frame.now → k.digest ≡ digest.now → ⊥) }
+{
+    let at = *places.get(&key_of(frame, digest))?;
+    if at < kept.len() && is_kept(&kept[at], frame) {
+        return Some(at);
+    }
+    // another frame of the kind has the same digest
+    place_in(kept, frame, kept.len())
+}
+
+/// Notes that the frame of this key comes to stand at the place, unless that is one of the first few.
+fn note_place(places: &mut Places, key: FrameKey, at: usize) -> Result<(), AllocError>
+    ensures stay { K.StayPlaces places.old places.new }
+    ensures now { OnOk result (FEW ≤ at → K.has_place places.new key ≡ true) }
+{
+    if at >= FEW {
+        places.insert(key, at)?;
+    }
+    Ok(())
+}
+
+/// The frame with its first spot.
+fn first_kept(
+    alloc: Global,
+    frame: &TurnFrame,
+    digest: Digest,
+    spot: Spot,
+) -> Result<KeptFrame, AllocError>
+    ensures { IfOk result (λ l. (l.frame ≡ frame.now) × (l.digest ≡ digest) × (l.spots.items ≡ spot ∷ [])) }
+{
+    let mut spots = Spots::new(alloc);
+    spots.note(spot)?;
+    Ok(KeptFrame {
+        frame: *frame,
+        digest,
+        spots,
+    })
+}
+
+/// Puts a frame behind the others.
+fn add(
+    kept: &mut Vec<KeptFrame>,
+    places: &mut Places,
+    alloc: Global,
+    frame: &TurnFrame,
+    digest: Digest,
+    spot: Spot,
+) -> Result<(), AllocError>
+    requires { K.HavePlaces kept.old.items places.old }
+    ensures ok { OnOk result (K.IsAdded kept.old.items kept.new.items frame.now digest spot) }
+    ensures err { OnErr result (kept.new.items ≡ kept.old.items) }
+    ensures places { K.HavePlaces kept.new.items places.new }
+{
+    let one = first_kept(alloc, frame, digest, spot)?;
+    make_room(alloc, kept)?;
+    note_place(places, key_of(frame, &digest), kept.len())?;
+    kept.push(one)?;
+    Ok(())
+}
+
+/// Takes a frame that a log got: its spot is noted where it is known, and else it is put behind the others.
+fn take_kept(
+    kept: &mut Vec<KeptFrame>,
+    places: &mut Places,
+    alloc: Global,
+    session: &Session,
+    frame: &TurnFrame,
+    spot: Spot,
+) -> Result<(), AllocError>
+    requires { K.HavePlaces kept.old.items places.old }
+    ensures ok { OnOk result (K.Grows session.now frame.now spot kept.old.items kept.new.items) }
+    ensures err { OnErr result (K.AreAlike kept.old.items kept.new.items) }
+    ensures places { K.HavePlaces kept.new.items places.new }
+{
+    if let Some(at) = place_in(kept, frame, FEW) {
+        return note_at(kept, at, spot);
+    }
+    let digest = frame_digest(session, frame);
+    if let Some(at) = late_place(kept, places, frame, &digest) {
+        return note_at(kept, at, spot);
+    }
+    add(kept, places, alloc, frame, digest, spot)
+}
+
 impl TurnFrames {
     /// With no frame.
     pub fn new(alloc: Global) -> TurnFrames
@@ -110,54 +218,7 @@ impl TurnFrames {
         }
     }
 
-    /// The place of the frame behind the first few, if it is there.
-    fn late_place(&self, frame: &TurnFrame, digest: &Digest) -> Option<usize>
-        ensures { IfSome result (λ at. K.StandsAt self.now.kept.items at frame.now) }
-    {
-        let at = *self.places.get(&key_of(frame, digest))?;
-        if at < self.kept.len() && is_kept(&self.kept[at], frame) {
-            return Some(at);
-        }
-        // another frame of the kind has the same digest
-        place_in(&self.kept, frame, self.kept.len())
-    }
-
-    /// Notes that the frame comes to stand behind the others, if these are more than a few.
-    fn note_place(&mut self, frame: &TurnFrame, digest: &Digest) -> Result<(), AllocError>
-        ensures { self.new.kept ≡ self.old.kept }
-    {
-        let count = self.kept.len();
-        if count >= FEW {
-            self.places.insert(key_of(frame, digest), count)?;
-        }
-        Ok(())
-    }
-
-    /// Puts a frame behind the others.
-    fn add(
-        &mut self,
-        alloc: Global,
-        frame: &TurnFrame,
-        digest: Digest,
-        spot: Spot,
-    ) -> Result<(), AllocError>
-        ensures ok { OnOk result (K.IsAdded self.old.kept.items self.new.kept.items frame.now digest spot) }
-        ensures err { OnErr result (self.new.kept.items ≡ self.old.kept.items) }
-    {
-        self.note_place(frame, &digest)?;
-        let mut spots = Spots::new(alloc);
-        spots.note(spot)?;
-        make_room(alloc, &mut self.kept)?;
-        self.kept.push(KeptFrame {
-            frame: *frame,
-            digest,
-            spots,
-        })?;
-        Ok(())
-    }
-
-    /// Takes a frame that a log got: its spot is noted where it is known, and else it is put behind the others. Its digest is
-    /// computed only where it isn't among the first few.
+    /// Takes a frame that a log got. Its digest is computed only where it isn't among the first few.
     pub fn take(
         &mut self,
         alloc: Global,
@@ -168,13 +229,13 @@ impl TurnFrames {
         ensures ok { OnOk result (K.Grows session.now frame.now spot self.old.kept.items self.new.kept.items) }
         ensures err { OnErr result (K.AreAlike self.old.kept.items self.new.kept.items) }
     {
-        if let Some(at) = place_in(&self.kept, frame, FEW) {
-            return note_at(&mut self.kept, at, spot);
-        }
-        let digest = frame_digest(session, frame);
-        if let Some(at) = self.late_place(frame, &digest) {
-            return note_at(&mut self.kept, at, spot);
-        }
-        self.add(alloc, frame, digest, spot)
+        take_kept(
+            &mut self.kept,
+            &mut self.places,
+            alloc,
+            session,
+            frame,
+            spot,
+        )
     }
 }

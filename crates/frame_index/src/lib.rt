@@ -2,10 +2,11 @@
 //!
 //! Frames are taken in any interleaving of the logs, those of one log in the order of its entries. The crate promises that what
 //! is kept stands for the logs so far: of each player's turn, each different frame with the first spot that it has in each log
-//! that got it. From this alone [`findings`] lists every finding of the logs with its least pair of spots, in the words of the
-//! definitions, whatever the number of turns that players commit ahead. What a log shows of a player's stream is read place by
-//! place, all logs at once, and never kept: [`start_heads`], [`read_first`] and [`read_turn`] read it for whoever wants more than
-//! the findings. A player of whom all that is kept is one legal play is judged once for all logs, and [`common_moves`] gives its moves.
+//! that got it; no frame is kept twice, and none with two spots in one log. From this alone [`findings`] lists every finding of the
+//! logs with its least pair of spots, in the words of the definitions, whatever the number of turns that players commit ahead. What a
+//! log shows of a player's stream is read place by place, all logs at once, and never kept: [`start_heads`], [`read_first`] and
+//! [`read_turn`] read it for whoever wants more than the findings. A player of whom all that is kept is one legal play is judged once
+//! for all logs, and [`common_moves`] gives its moves.
 //!
 //! The frames of a turn stand in a row, at the place of their player. There a frame is found among few others by comparing them, and
 //! among many by its digest in an ordered map, so that no log can be made for which the look-ups take long. An index keeps the
@@ -31,6 +32,7 @@ mod pairs;
 mod plain;
 mod rows;
 mod seen;
+mod spot_list;
 mod spots;
 #[cfg(test)]
 mod tests;

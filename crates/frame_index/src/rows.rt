@@ -46,6 +46,7 @@ pub(crate) fn kept_by(rows: &[Row], player: PlayerId, turn: Turn) -> &[KeptFrame
 fn lengthen_row(alloc: Global, row: &mut Row, player: PlayerId) -> Result<(), AllocError>
     ensures same { (q : ℕ) → R.kept_at row.new.items q ≡ R.kept_at row.old.items q }
     ensures room { OnOk result (player < length row.new.items) }
+    ensures full { player < length row.old.items → length row.new.items ≡ length row.old.items }
 {
     'places: while row.len() <= usize::from(player) {
         row.push(TurnFrames::new(alloc))?;
@@ -57,6 +58,7 @@ fn lengthen_row(alloc: Global, row: &mut Row, player: PlayerId) -> Result<(), Al
 fn lengthen(alloc: Global, rows: &mut Vec<Row>, turn: Turn) -> Result<(), AllocError>
     ensures same { (q t : ℕ) → R.kept_by rows.new.items q t ≡ R.kept_by rows.old.items q t }
     ensures room { OnOk result (turn < length rows.new.items) }
+    ensures full { turn < length rows.old.items → length rows.new.items ≡ length rows.old.items }
 {
     'turns: while rows.len() <= turn as usize {
         rows.push(Vec::new(alloc))?;

@@ -4,6 +4,7 @@ ghost use Rattle.std.specs.Prelude.{◌≡◌, ◌==◌, [], OnErr, OnOk};
 ghost use Rattle.std.specs.List.{list_any};
 ghost use Rattle.frame_index.specs.Spots as S;
 
+use crate::spot_list::SpotList;
 use definitions::Spot;
 use std::alloc::{AllocError, Global};
 use std::marker::Model;
@@ -11,7 +12,7 @@ use std::marker::Model;
 /// Spots of which no two are in one log, in the order in which they came.
 #[derive(Drop)]
 pub(crate) struct Spots {
-    list: Vec<Spot>,
+    list: SpotList,
     // no log that has a spot is above it: logs mostly come one behind the other, and then none has to be looked for
     top: u32,
 }
@@ -21,9 +22,9 @@ impl Model for Spots {
 
     ghost Value = { Spotted };
 
-    ghost view = { λ s. record { items = s.list.items } };
+    ghost view = { λ s. record { items = s.list } };
 
-    ghost invariant = { λ s. AreUpTo s.top s.list.items };
+    ghost invariant = { λ s. AreUpTo s.top s.list };
 }
 
 /// Whether one of the spots is in the log.
@@ -39,7 +40,7 @@ impl Spots {
         ensures { result.items ≡ [] }
     {
         Spots {
-            list: Vec::new(alloc),
+            list: SpotList::new(alloc),
             top: 0,
         }
     }
@@ -48,14 +49,14 @@ impl Spots {
     pub(crate) fn all(&self) -> &[Spot]
         ensures { result.now ≡ self.now.items }
     {
-        &self.list
+        self.list.as_slice()
     }
 
     /// Whether one of them is in the log.
     fn has(&self, log: u32) -> bool
         ensures { result ≡ list_any (λ x. x.log == log) self.now.items }
     {
-        log <= self.top && has_log(&self.list, log)
+        log <= self.top && has_log(self.list.as_slice(), log)
     }
 
     /// Notes a spot, unless its log has one.

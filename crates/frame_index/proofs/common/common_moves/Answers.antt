@@ -12,8 +12,8 @@ loop-turn-init c = record {
   told = λ logs w t lt. absurd (omega (arith, lt));
 }
 
-pub returns-in-Over : goal.returns-in-Over
-returns-in-Over c = λ told logs w.
+pub returns-in-Over-clause-moves : goal.returns-in-Over-clause-moves
+returns-in-Over-clause-moves c = λ told logs w.
     all_common c.args.session.now c.args.player logs c.args.chosen.now c.loop-turn.turn c.loop-turn.out.items c.loop-turn.invariant.long
     (c.in-Over.ensures.read logs c.args.chosen.now w (c.loop-turn.invariant.common logs w)) (c.loop-turn.invariant.told logs w)
 

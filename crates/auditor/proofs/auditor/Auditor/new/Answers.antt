@@ -1,10 +1,11 @@
-use Rattle.std.proofs.Common.{◌∙◌, ℕ, List, [], Option, None, replicate}
+use Rattle.std.proofs.Common.{◌∙◌, sym, ℕ, List, [], Option, None, replicate}
 use Rattle.definitions.specs.declared.logs.Entry.{Entry}
 use Rattle.definitions.proofs.Items.{item_is}
 use Rattle.frame_index.specs.declared.limits.TheConstants.{MOST_LOGS}
 use Rattle.std.proofs.lemmas.List.{length-replicate}
 use Rattle.auditor.proofs.Crossed.{crossed_none}
-use Rattle.auditor.proofs.Counted.{none_counted, none_in, same_there}
+use Rattle.plain_lemmas.proofs.Lists.{get_or-repeated}
+use Rattle.auditor.proofs.Counted.{none_counted, none_in}
 use Rattle.auditor.proofs.auditor.Auditor.new.Goals as goal
 
 pub returns-clause-stands : goal.returns-clause-stands
@@ -17,7 +18,7 @@ returns-clause-stands c = record {
 }
 
 pub returns-clause-counts : goal.returns-clause-counts
-returns-clause-counts c = λ log. item_is (replicate MOST_LOGS 0) log 0 ∙ same_there MOST_LOGS log (let nought : ℕ = 0 in nought)
+returns-clause-counts c = λ log. get_or-repeated MOST_LOGS log (let nought : ℕ = 0 in nought)
 
 pub returns-clause-owners : goal.returns-clause-owners
-returns-clause-owners c = λ log. same_there MOST_LOGS log (let none : Option ℕ = None in none)
+returns-clause-owners c = λ log. let none : Option ℕ = None in sym (item_is (replicate MOST_LOGS none) log none) ∙ get_or-repeated MOST_LOGS log none
