@@ -4,9 +4,10 @@ use crate::ahead::AHEAD;
 use crate::brought::BROUGHT;
 use crate::received::RECEIVED;
 use crate::rows::{ROWS, Row};
-use crate::runs::{NONE, run_drive};
+use crate::runs::run_drive;
 use crate::scores::SCORES;
 use crate::walled::WALLED;
+use acceptance_parts::shelves::NONE;
 use std::alloc::{AllocError, Global};
 use std::test::Fail;
 

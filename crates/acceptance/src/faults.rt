@@ -1,6 +1,7 @@
 //! Calls of the outside that fail, and what is written all the same.
 
-use crate::runs::{Fails, Files, NONE, run_drive, run_files};
+use crate::runs::{Files, run_drive, run_files};
+use acceptance_parts::shelves::{Fails, NONE};
 use std::alloc::{AllocError, Global};
 use std::test::Fail;
 

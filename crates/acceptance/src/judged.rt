@@ -1,6 +1,7 @@
 //! Exhibits that are judged.
 
-use crate::runs::{Fails, NONE, run_judge};
+use crate::runs::run_judge;
+use acceptance_parts::shelves::{Fails, NONE};
 use std::test::Fail;
 
 /// The session of all exhibits here.

@@ -1,6 +1,7 @@
 //! A long match of two drives, each fed with the frames that the other one prints.
 
-use crate::runs::{NONE, run_drive};
+use crate::runs::run_drive;
+use acceptance_parts::shelves::NONE;
 use commitment::{digest_of, put_turn};
 use definitions::{Cell, Move, Nonce, Opening, PlayerId, Turn, TurnFrame};
 use grid_world::{Session, read_session};

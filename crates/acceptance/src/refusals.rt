@@ -1,6 +1,7 @@
 //! Words that are no command, and session texts that are no session.
 
-use crate::runs::{NONE, run_words};
+use crate::runs::run_words;
+use acceptance_parts::shelves::NONE;
 use grid_world::{SessionFault, SessionRule, print_session, read_session};
 use std::alloc::{AllocError, Global};
 use std::test::Fail;

@@ -2,39 +2,11 @@
 
 ghost use Rattle.std.specs.Prelude.{◌≡◌, ◌∷◌, [], false, bytes_eq, IfOk};
 
+use acceptance_parts::shelves::{Fails, NONE, file_of, shelf_of_one};
 use peer_cli::run_in_memory;
 use run_frame::Status;
 use station::{MemoryShelf, MemorySink, MemorySource, ShelfFile};
 use std::alloc::{AllocError, Global};
-
-/// The calls of each object that are to fail, counted from 1.
-pub struct Fails {
-    pub shelf: &'static [u32],
-    pub source: &'static [u32],
-    pub sink: &'static [u32],
-}
-
-/// No call fails.
-pub static NONE: Fails = Fails {
-    shelf: &[],
-    source: &[],
-    sink: &[],
-};
-
-/// A shelf with one file, of the name `s`.
-fn shelf_of(
-    alloc: Global,
-    session: &[u8],
-    fails: &'static [u32],
-) -> Result<MemoryShelf, AllocError> {
-    let file = ShelfFile::new(
-        Vec::from_slice(alloc, b"s")?,
-        Vec::from_slice(alloc, session)?,
-    );
-    let mut files = Vec::new(alloc);
-    files.push(file)?;
-    Ok(MemoryShelf::new(files, Vec::from_slice(alloc, fails)?))
-}
 
 /// An input of these bytes.
 fn source_of(
@@ -59,7 +31,7 @@ pub fn run_words(
     script: &[u8],
     fails: &Fails,
 ) -> Result<(Status, Vec<u8>), AllocError> {
-    let mut shelf = shelf_of(alloc, session, fails.shelf)?;
+    let mut shelf = shelf_of_one(alloc, session, fails.shelf)?;
     let mut input = source_of(alloc, script, fails.source)?;
     let mut out = sink_of(alloc, fails.sink)?;
     let status = run_in_memory(alloc, words, &mut input, &mut out, &mut shelf);
@@ -80,15 +52,6 @@ pub fn run_drive(
     words.push(Vec::from_slice(alloc, name)?)?;
     words.push(Vec::from_slice(alloc, player)?)?;
     run_words(alloc, words.as_slice(), session, script, fails)
-}
-
-/// A file.
-fn file_of(alloc: Global, name: &[u8], bytes: &[u8]) -> Result<ShelfFile, AllocError>
-    ensures { IfOk result (λ file. file.name ≡ name.now) }
-{
-    let name = Vec::from_slice(alloc, name)?;
-    let bytes = Vec::from_slice(alloc, bytes)?;
-    Ok(ShelfFile::new(name, bytes))
 }
 
 /// Two files.
@@ -122,8 +85,8 @@ fn shelf_with(
     other: &[u8],
     fails: &'static [u32],
 ) -> Result<MemoryShelf, AllocError> {
-    let first = file_of(alloc, b"s", session)?;
-    let second = file_of(alloc, b"o", other)?;
+    let first = file_of(alloc, b"s", Vec::from_slice(alloc, session)?)?;
+    let second = file_of(alloc, b"o", Vec::from_slice(alloc, other)?)?;
     shelf_of_two(alloc, first, second, fails)
 }
 

@@ -1,6 +1,7 @@
 //! A long match beside players of whom nothing is heard, on the largest ground, which is one long way.
 
-use crate::runs::{NONE, run_drive};
+use crate::runs::run_drive;
+use acceptance_parts::shelves::NONE;
 use itoa::Buffer;
 use std::alloc::{AllocError, Global};
 use std::test::Fail;

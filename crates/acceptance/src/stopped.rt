@@ -1,6 +1,7 @@
 //! A match that is stopped behind each line of its script, and goes on from the log that it printed.
 
-use crate::runs::{NONE, run_drive, run_old};
+use crate::runs::{run_drive, run_old};
+use acceptance_parts::shelves::NONE;
 use hex::decode;
 use std::alloc::{AllocError, Global};
 use std::test::Fail;

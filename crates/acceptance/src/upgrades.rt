@@ -1,6 +1,7 @@
 //! Sessions printed in version 2.
 
-use crate::runs::{Fails, run_words};
+use crate::runs::run_words;
+use acceptance_parts::shelves::Fails;
 use std::alloc::{AllocError, Global};
 use std::test::Fail;
 

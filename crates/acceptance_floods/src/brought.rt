@@ -1,12 +1,13 @@
 //! Sockets that bring what no player of the session brings, and several sockets of one player.
 
 use crate::floods::{bring, dialling, hear, put_want};
-use acceptance_loops::greets::{commit, hello, put, stays};
+use acceptance_loops::greets::{hello, stays};
 use acceptance_loops::grounds::{NEAR, session_of};
 use acceptance_loops::heard::Noted;
 use acceptance_loops::nets::Net;
 use acceptance_loops::setups::{STAY_0, STAY_4, alone, script_of};
 use acceptance_loops::sides::{NARROW, Player};
+use acceptance_parts::frames::{commit, put};
 use definitions::PlayerId;
 use grid_world::Session;
 use pilots::ScriptPilot;
@@ -64,7 +65,8 @@ const BRINGINGS: [(Bringing, u32, u32); 14] = [
 /// A greeting of player 0 to player 1, and then a commitment of this player.
 fn put_greeted(out: &mut Vec<u8>, session: &Session, player: PlayerId) -> Result<(), Fail> {
     put(out, &hello(session, 0, 1, 0))?;
-    put(out, &Frame::Turn(commit(session, &stays(player, 0, 0))))
+    put(out, &Frame::Turn(commit(session, &stays(player, 0, 0))))?;
+    Ok(())
 }
 
 /// Greetings that are none.

@@ -1,11 +1,12 @@
 //! A player that brings too much.
 
-use acceptance_loops::greets::{commit, hello, put, stays};
+use acceptance_loops::greets::{hello, stays};
 use acceptance_loops::grounds::{NEAR, session_of};
 use acceptance_loops::heard::Noted;
 use acceptance_loops::nets::Net;
 use acceptance_loops::setups::{STAY_0, alone, script_of};
 use acceptance_loops::sides::{NARROW, Player, WIDEST};
+use acceptance_parts::frames::{commit, put};
 use definitions::Entry;
 use grid_world::Session;
 use pilots::ScriptPilot;
@@ -210,7 +211,8 @@ fn wants_are_obeyed_up_to_their_number(rt: HostRuntime) -> Result<(), Fail> {
 
 /// Adds a want of place 0.
 pub(crate) fn put_want(out: &mut Vec<u8>) -> Result<(), Fail> {
-    put(out, &Frame::Want { place: 0 })
+    put(out, &Frame::Want { place: 0 })?;
+    Ok(())
 }
 
 /// A greeting of player 1 and so many wants of place 0.

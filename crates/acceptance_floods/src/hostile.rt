@@ -2,12 +2,13 @@
 
 use crate::floods::{bring, hear};
 use acceptance_loops::audits::{replayed, report_of};
-use acceptance_loops::greets::{commit, hello, put, reveal, stays};
+use acceptance_loops::greets::{hello, stays};
 use acceptance_loops::grounds::{NEAR, session_of};
 use acceptance_loops::heard::Call;
 use acceptance_loops::nets::Net;
 use acceptance_loops::setups::{STAY_0, alone, script_of};
 use acceptance_loops::sides::{NARROW, Player};
+use acceptance_parts::frames::{commit, put, reveal};
 use definitions::{Cell, Entry, Finding, Kind, Move, Opening, Spot, Turn, TurnFrame};
 use grid_world::Session;
 use peer_core::Peer;
@@ -17,7 +18,8 @@ use std::test::Fail;
 use wire_frames::Frame;
 
 fn put_turn(out: &mut Vec<u8>, frame: &TurnFrame) -> Result<(), Fail> {
-    put(out, &Frame::Turn(*frame))
+    put(out, &Frame::Turn(*frame))?;
+    Ok(())
 }
 
 /// A greeting of player 1 comes, and behind it these frames' bytes in one piece, and all is handled.

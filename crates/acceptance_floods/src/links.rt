@@ -1,11 +1,12 @@
 //! Links that are lost, and what goes out on one by the place that is asked for.
 
 use crate::floods::{bring, count_got, dialling, hear, hear_frame};
-use acceptance_loops::greets::{commit, hello, put_made_from, stays};
+use acceptance_loops::greets::{hello, put_made_from, stays};
 use acceptance_loops::grounds::{FAR, NEAR, THREE, session_of};
 use acceptance_loops::heard::Noted;
 use acceptance_loops::setups::{STAY_0, script_of};
 use acceptance_loops::sides::Player;
+use acceptance_parts::frames::commit;
 use definitions::Place;
 use grid_world::Session;
 use pilots::ScriptPilot;

@@ -2,7 +2,8 @@
 //! five do.
 
 use crate::runs::run_three;
-use crate::written::{Written, commit, reveal};
+use crate::written::Written;
+use acceptance_parts::frames::{commit, reveal};
 use definitions::{Cell, Move, Nonce, Opening, PlayerId, Turn};
 use grid_world::{Session, read_session};
 use run_frame::Status;

@@ -1,6 +1,7 @@
 //! Audits that are refused or cut short, and what no fault of the input hinders.
 
-use crate::runs::{Fails, Files, run_words};
+use crate::runs::{Files, run_words};
+use acceptance_parts::shelves::Fails;
 use std::test::Fail;
 
 /// Words, files and calls that fail, what is printed, and the status.

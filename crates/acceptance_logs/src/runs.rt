@@ -2,25 +2,12 @@
 
 ghost use Rattle.std.specs.Prelude.{◌≡◌, ◌∷◌, [], false, bytes_eq, IfOk};
 
+use acceptance_parts::shelves::{Fails, NONE, file_of, shelf_of_four};
 use hex::decode;
 use peer_cli::run_in_memory;
 use run_frame::Status;
 use station::{MemoryShelf, MemorySink, MemorySource, ShelfFile};
 use std::alloc::{AllocError, Global};
-
-/// The calls of each object that are to fail, counted from 1.
-pub struct Fails {
-    pub shelf: &'static [u32],
-    pub source: &'static [u32],
-    pub sink: &'static [u32],
-}
-
-/// No call fails.
-pub static NONE: Fails = Fails {
-    shelf: &[],
-    source: &[],
-    sink: &[],
-};
 
 /// The files: the session's has the name `s`, and those of the logs `0`, `1` and `2`, as hexadecimal text; a log that isn't given is
 /// empty.
@@ -39,53 +26,6 @@ fn log_of(alloc: Global, files: &Files, log: usize) -> Result<Vec<u8>, AllocErro
         Ok(bytes) => Ok(bytes),
         Err(_) => Ok(Vec::new(alloc)),
     }
-}
-
-/// A file.
-fn file_of(alloc: Global, name: &[u8], bytes: Vec<u8>) -> Result<ShelfFile, AllocError>
-    ensures { IfOk result (λ file. file.name ≡ name.now) }
-{
-    let name = Vec::from_slice(alloc, name)?;
-    Ok(ShelfFile::new(name, bytes))
-}
-
-/// Four files.
-fn four_of(
-    alloc: Global,
-    first: ShelfFile,
-    second: ShelfFile,
-    third: ShelfFile,
-    fourth: ShelfFile,
-) -> Result<Vec<ShelfFile>, AllocError>
-    ensures { IfOk result (λ files. files.items ≡ first ∷ second ∷ third ∷ fourth ∷ []) }
-{
-    let mut files = Vec::new(alloc);
-    files.push(first)?;
-    files.push(second)?;
-    files.push(third)?;
-    files.push(fourth)?;
-    Ok(files)
-}
-
-/// A shelf with four files.
-fn shelf_of_four(
-    alloc: Global,
-    first: ShelfFile,
-    second: ShelfFile,
-    third: ShelfFile,
-    fourth: ShelfFile,
-    fails: &'static [u32],
-) -> Result<MemoryShelf, AllocError>
-    requires first_second { bytes_eq first.name second.name ≡ false }
-    requires first_third { bytes_eq first.name third.name ≡ false }
-    requires first_fourth { bytes_eq first.name fourth.name ≡ false }
-    requires second_third { bytes_eq second.name third.name ≡ false }
-    requires second_fourth { bytes_eq second.name fourth.name ≡ false }
-    requires third_fourth { bytes_eq third.name fourth.name ≡ false }
-{
-    let files = four_of(alloc, first, second, third, fourth)?;
-    let fails = Vec::from_slice(alloc, fails)?;
-    Ok(MemoryShelf::new(files, fails))
 }
 
 /// The shelf with these files.

@@ -2,30 +2,10 @@
 
 ghost use Rattle.std.specs.Prelude.{◌≤◌, length};
 
-use commitment::digest_of;
-use definitions::{Entry, Opening, PlayerId, TurnFrame};
+use definitions::{Entry, PlayerId, TurnFrame};
 use grid_world::Session;
 use session_log::LogWriter;
 use std::alloc::{AllocError, Global};
-
-/// The commitment to the opening.
-pub fn commit(session: &Session, own: &Opening) -> TurnFrame {
-    TurnFrame::Commit {
-        player: own.player,
-        turn: own.turn,
-        digest: digest_of(session.id(), own),
-    }
-}
-
-/// Its reveal.
-pub fn reveal(own: &Opening) -> TurnFrame {
-    TurnFrame::Reveal {
-        player: own.player,
-        turn: own.turn,
-        mv: own.mv,
-        nonce: own.nonce,
-    }
-}
 
 /// The first bytes, as many as are asked for and are there.
 fn front(bytes: &[u8], count: usize) -> &[u8]

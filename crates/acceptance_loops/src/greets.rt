@@ -1,21 +1,13 @@
 //! What a harness itself says on a socket.
 
 use crate::grounds::pass_of;
-use commitment::digest_of;
-use definitions::{Cell, Move, Nonce, Opening, Place, PlayerId, Turn, TurnFrame};
+use acceptance_parts::frames::put;
+use definitions::{Cell, Move, Nonce, Opening, Place, PlayerId, Turn};
 use grid_world::Session;
 use peer_core::Peer;
 use std::alloc::Global;
 use std::test::Fail;
-use wire_frames::{Frame, put_frame};
-
-/// Adds a frame.
-pub fn put(out: &mut Vec<u8>, frame: &Frame) -> Result<(), Fail> {
-    let mut bytes = [0; 64];
-    let count = put_frame(frame, &mut bytes);
-    out.extend_from_slice(&bytes[..count.min(64)])?;
-    Ok(())
-}
+use wire_frames::Frame;
 
 /// The greeting of one player to another one.
 pub fn hello(session: &Session, from: PlayerId, to: PlayerId, next: Place) -> Frame {
@@ -38,23 +30,6 @@ pub fn stays(player: PlayerId, turn: Turn, x: u16) -> Opening {
             strike: None,
         },
         nonce: Nonce { bytes: [byte; 32] },
-    }
-}
-
-pub fn commit(session: &Session, opening: &Opening) -> TurnFrame {
-    TurnFrame::Commit {
-        player: opening.player,
-        turn: opening.turn,
-        digest: digest_of(session.id(), opening),
-    }
-}
-
-pub fn reveal(opening: &Opening) -> TurnFrame {
-    TurnFrame::Reveal {
-        player: opening.player,
-        turn: opening.turn,
-        mv: opening.mv,
-        nonce: opening.nonce,
     }
 }
 

@@ -3,14 +3,14 @@
 ghost use Rattle.std.specs.Prelude.{◌≡◌};
 
 use crate::runs::{Ran, Texts, Way, run_over};
+use acceptance_parts::frames::{commit, put, reveal};
 use bytes::Bytes;
-use commitment::digest_of;
-use definitions::{Cell, Move, Nonce, Opening, Turn, TurnFrame};
+use definitions::{Cell, Move, Nonce, Opening, Turn};
 use grid_world::{Session, read_session};
 use memory_station::MemoryStation;
 use std::alloc::Global;
 use std::test::Fail;
-use wire_frames::{Frame, put_frame};
+use wire_frames::Frame;
 
 /// Two players who can meet behind five turns.
 const FAR: &[u8] =
@@ -39,35 +39,6 @@ fn opening(turn: Turn, byte: u8) -> Opening {
     }
 }
 
-/// Adds a frame's bytes.
-fn put(out: &mut Vec<u8>, frame: &Frame) -> Result<(), Fail> {
-    let mut bytes = [0; 64];
-    let count = put_frame(frame, &mut bytes);
-    out.extend_from_slice(&bytes[..count.min(64)])?;
-    Ok(())
-}
-
-/// Adds the commitment to an opening.
-fn put_commit(out: &mut Vec<u8>, session: &Session, opened: &Opening) -> Result<(), Fail> {
-    let frame = TurnFrame::Commit {
-        player: opened.player,
-        turn: opened.turn,
-        digest: digest_of(session.id(), opened),
-    };
-    put(out, &Frame::Turn(frame))
-}
-
-/// Adds the reveal of an opening.
-fn put_reveal(out: &mut Vec<u8>, opened: &Opening) -> Result<(), Fail> {
-    let frame = TurnFrame::Reveal {
-        player: opened.player,
-        turn: opened.turn,
-        mv: opened.mv,
-        nonce: opened.nonce,
-    };
-    put(out, &Frame::Turn(frame))
-}
-
 /// What player 0 says that plays so many turns: a greeting, and then its frames; behind them, where it is to lie, a further commitment of turn 2.
 fn said(alloc: Global, session: &Session, turns: Turn, lies: bool) -> Result<Vec<u8>, Fail> {
     let mut out = Vec::new(alloc);
@@ -80,11 +51,11 @@ fn said(alloc: Global, session: &Session, turns: Turn, lies: bool) -> Result<Vec
     put(&mut out, &hello)?;
     for turn in 0..turns.min(8) {
         let opened = opening(turn, (turn & 255) as u8);
-        put_commit(&mut out, session, &opened)?;
-        put_reveal(&mut out, &opened)?;
+        put(&mut out, &Frame::Turn(commit(session, &opened)))?;
+        put(&mut out, &Frame::Turn(reveal(&opened)))?;
     }
     if lies {
-        put_commit(&mut out, session, &opening(2, 99))?;
+        put(&mut out, &Frame::Turn(commit(session, &opening(2, 99))))?;
     }
     Ok(out)
 }

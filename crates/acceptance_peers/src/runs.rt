@@ -2,6 +2,8 @@
 
 ghost use Rattle.std.specs.Prelude.{◌≡◌, ◌∷◌, [], false, bytes_eq, IfOk};
 
+use acceptance_parts::shelves::{file_of, shelf_of_four};
+use acceptance_parts::words::words_of;
 use memory_station::MemoryStation;
 use rand_core::SeedableRng;
 use rand_pcg::Pcg32;
@@ -38,67 +40,13 @@ pub struct Ran {
     pub given: usize,
 }
 
-/// A file.
-fn file_of(alloc: Global, name: &[u8], text: &[u8]) -> Result<ShelfFile, AllocError>
-    ensures { IfOk result (λ file. file.name ≡ name.now) }
-{
-    let name = Vec::from_slice(alloc, name)?;
-    Ok(ShelfFile::new(name, Vec::from_slice(alloc, text)?))
-}
-
-/// Four files.
-fn four_of(
-    alloc: Global,
-    first: ShelfFile,
-    second: ShelfFile,
-    third: ShelfFile,
-    fourth: ShelfFile,
-) -> Result<Vec<ShelfFile>, AllocError>
-    ensures { IfOk result (λ files. files.items ≡ first ∷ second ∷ third ∷ fourth ∷ []) }
-{
-    let mut files = Vec::new(alloc);
-    files.push(first)?;
-    files.push(second)?;
-    files.push(third)?;
-    files.push(fourth)?;
-    Ok(files)
-}
-
-/// A shelf with four files.
-fn shelf_of_four(
-    alloc: Global,
-    first: ShelfFile,
-    second: ShelfFile,
-    third: ShelfFile,
-    fourth: ShelfFile,
-) -> Result<MemoryShelf, AllocError>
-    requires first_second { bytes_eq first.name second.name ≡ false }
-    requires first_third { bytes_eq first.name third.name ≡ false }
-    requires first_fourth { bytes_eq first.name fourth.name ≡ false }
-    requires second_third { bytes_eq second.name third.name ≡ false }
-    requires second_fourth { bytes_eq second.name fourth.name ≡ false }
-    requires third_fourth { bytes_eq third.name fourth.name ≡ false }
-{
-    let files = four_of(alloc, first, second, third, fourth)?;
-    Ok(MemoryShelf::new(files, Vec::new(alloc)))
-}
-
 /// A shelf with these files.
 fn shelf_of(alloc: Global, texts: &Texts) -> Result<MemoryShelf, AllocError> {
-    let session = file_of(alloc, b"s", texts.session)?;
-    let roster = file_of(alloc, b"r", texts.roster)?;
-    let moves = file_of(alloc, b"m", texts.moves)?;
-    let old = file_of(alloc, b"o", texts.old)?;
-    shelf_of_four(alloc, session, roster, moves, old)
-}
-
-/// The words, which stand with a blank between each two.
-fn words_of(alloc: Global, line: &str) -> Result<Vec<Vec<u8>>, AllocError> {
-    let mut words = Vec::new(alloc);
-    for word in line.split(' ') {
-        words.push(Vec::from_slice(alloc, word.as_bytes())?)?;
-    }
-    Ok(words)
+    let session = file_of(alloc, b"s", Vec::from_slice(alloc, texts.session)?)?;
+    let roster = file_of(alloc, b"r", Vec::from_slice(alloc, texts.roster)?)?;
+    let moves = file_of(alloc, b"m", Vec::from_slice(alloc, texts.moves)?)?;
+    let old = file_of(alloc, b"o", Vec::from_slice(alloc, texts.old)?)?;
+    shelf_of_four(alloc, session, roster, moves, old, &[])
 }
 
 /// How many bytes were given on the first socket.

@@ -2,10 +2,11 @@
 
 use crate::explorer::Graph;
 use crate::possible::table_behind;
-use crate::runs::{NONE, Ran, run_schedule};
+use crate::runs::{Ran, run_schedule};
 use crate::scenes::{HOSTILE, PAIRS, TRIOS, Walk};
 use crate::scripts::{script_of, stand_line};
 use crate::worlds::{Scene, Trouble, World, world_of};
+use acceptance_parts::shelves::NONE;
 use schedule::Stand;
 use std::alloc::Global;
 use std::process::Abort;

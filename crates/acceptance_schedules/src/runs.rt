@@ -1,38 +1,10 @@
 //! Runs of the program over objects in memory.
 
+use acceptance_parts::shelves::{Fails, shelf_of_one};
 use peer_cli::run_in_memory;
 use run_frame::Status;
 use station::{MemoryShelf, MemorySink, MemorySource, ShelfFile};
 use std::alloc::{AllocError, Global};
-
-/// The calls of each object that are to fail, counted from 1.
-pub struct Fails {
-    pub shelf: &'static [u32],
-    pub source: &'static [u32],
-    pub sink: &'static [u32],
-}
-
-/// No call fails.
-pub const NONE: Fails = Fails {
-    shelf: &[],
-    source: &[],
-    sink: &[],
-};
-
-/// A shelf with one file, of the name `s`.
-fn shelf_of(
-    alloc: Global,
-    session: &[u8],
-    fails: &'static [u32],
-) -> Result<MemoryShelf, AllocError> {
-    let file = ShelfFile::new(
-        Vec::from_slice(alloc, b"s")?,
-        Vec::from_slice(alloc, session)?,
-    );
-    let mut files = Vec::new(alloc);
-    files.push(file)?;
-    Ok(MemoryShelf::new(files, Vec::from_slice(alloc, fails)?))
-}
 
 /// A source with these bytes.
 fn source_of(
@@ -83,7 +55,7 @@ pub fn run_schedule(
     script: &[u8],
     fails: &Fails,
 ) -> Result<Ran, AllocError> {
-    let mut shelf = shelf_of(alloc, session, fails.shelf)?;
+    let mut shelf = shelf_of_one(alloc, session, fails.shelf)?;
     let mut input = source_of(alloc, script, fails.source)?;
     let mut out = sink_of(alloc, fails.sink)?;
     let status = run_over(alloc, &mut shelf, &mut input, &mut out)?;

@@ -1,6 +1,7 @@
 //! Matches that are stepped by scripts, and what is printed of them.
 
-use crate::runs::{Fails, NONE, run_schedule};
+use crate::runs::run_schedule;
+use acceptance_parts::shelves::{Fails, NONE};
 use std::test::Fail;
 
 /// A session's text and a script, the calls that fail, what `schedule` must print, and the status.

@@ -1,5 +1,6 @@
 //! A run of the program over the machine's files and sockets.
 
+use acceptance_parts::words::words_of;
 use file_shelf::FileShelf;
 use peer_cli::run;
 use rand_chacha::ChaCha20Rng;
@@ -13,15 +14,6 @@ use std::alloc::{AllocError, Global};
 pub(crate) struct Ran {
     pub(crate) status: u8,
     pub(crate) text: Vec<u8>,
-}
-
-/// The words, which stand with a blank between each two.
-fn words_of(alloc: Global, line: &str) -> Result<Vec<Vec<u8>>, AllocError> {
-    let mut words = Vec::new(alloc);
-    for word in line.split(' ') {
-        words.push(Vec::from_slice(alloc, word.as_bytes())?)?;
-    }
-    Ok(words)
 }
 
 /// Runs these words, with nonces drawn of a number.

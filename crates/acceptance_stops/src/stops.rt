@@ -2,11 +2,12 @@
 
 use crate::faults::{failing, has_given};
 use acceptance_loops::audits::{heard_truly, is_clean};
-use acceptance_loops::greets::{commit, stays};
+use acceptance_loops::greets::stays;
 use acceptance_loops::grounds::{FAR, roster_of, session_of};
 use acceptance_loops::nets::Net;
 use acceptance_loops::setups::{STAY_0, STAY_9, script_of};
 use acceptance_loops::sides::{Fails, Made, NARROW, Player};
+use acceptance_parts::frames::commit;
 use definitions::{Entry, LogWhy, Need, Nonce, PlayerId, TurnFrame, What};
 use grid_world::Session;
 use old_log::{OldFault, resume_from};

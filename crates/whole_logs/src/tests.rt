@@ -6,7 +6,7 @@ ghost use Rattle.whole_logs.specs.Audited as A;
 use crate::{
     AuditFault, Exhibit, Finding, LogText, LogWhy, MOST_LOGS, PlayerId, Report, audit, exhibit,
 };
-use commitment::digest_of;
+use acceptance_parts::frames::{commit, reveal};
 use definitions::{Cell, Entry, Kind, Move, Nonce, Opening, Spot, Turn, TurnFrame};
 use evidence::judge;
 use grid_world::{Session, read_session};
@@ -31,25 +31,6 @@ fn opening(turn: Turn, x: u16) -> Opening {
             strike: None,
         },
         nonce: Nonce { bytes: [7; 32] },
-    }
-}
-
-/// The commitment to the opening.
-fn commit(session: &Session, own: &Opening) -> TurnFrame {
-    TurnFrame::Commit {
-        player: own.player,
-        turn: own.turn,
-        digest: digest_of(session.id(), own),
-    }
-}
-
-/// Its reveal.
-fn reveal(own: &Opening) -> TurnFrame {
-    TurnFrame::Reveal {
-        player: own.player,
-        turn: own.turn,
-        mv: own.mv,
-        nonce: own.nonce,
     }
 }
 

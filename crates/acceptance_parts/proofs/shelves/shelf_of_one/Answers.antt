@@ -1,5 +1,5 @@
 use Rattle.std.specs.List.{IsDistinct}
-use Rattle.acceptance_schedules.proofs.runs.shelf_of.Goals as goal
+use Rattle.acceptance_parts.proofs.shelves.shelf_of_one.Goals as goal
 
 pub new-requires : goal.new-requires
 unfolding IsDistinct
