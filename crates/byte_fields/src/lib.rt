@@ -10,4 +10,4 @@ mod fields;
 mod numbers;
 
 pub use fields::{array_at, put_slice, put_u16, put_u32, take_array, take_u8, take_u16, take_u32};
-pub use numbers::{Number, take_number};
+pub use numbers::{Number, read_number, take_number};

@@ -2,7 +2,7 @@
 
 ghost use Rattle.std.specs.Prelude.{◌≡◌, ◌≤◌, length, IfSome, IfNone};
 ghost use Rattle.byte_fields.specs.Numbers as spec;
-ghost use Rattle.byte_fields.specs.Numbers.{value_from, number_of};
+ghost use Rattle.byte_fields.specs.Numbers.{value_within, number_within};
 ghost use Rattle.byte_fields.specs.Standing.{number_at, StandsAt};
 ghost use Rattle.byte_fields.specs.declared.numbers.Number.{Number};
 
@@ -28,33 +28,37 @@ fn digits_len(text: &[u8]) -> usize
     text.len()
 }
 
-/// The number that the digits spell, if it is below 2 to the power of 32.
-fn read_value(digits: &[u8]) -> Option<u32>
-    ensures { result ≡ value_from 0 digits.now }
+/// The number that the digits spell, if it is at most `most`.
+fn read_value(digits: &[u8], most: u64) -> Option<u64>
+    ensures value { result ≡ value_within most 0 digits.now }
+    ensures within { IfSome result (λ n. n ≤ most) }
 {
-    let mut value = 0u32;
+    let mut value = 0u64;
     for digit in digits {
         if !digit.is_ascii_digit() {
             return None;
         }
-        let next = u64::from(value) * 10 + u64::from(*digit - b'0');
-        if next > 4_294_967_295 {
+        let next = u128::from(value) * 10 + u128::from(*digit - b'0');
+        if next > u128::from(most) {
             return None;
         }
-        value = next as u32;
+        value = next as u64;
     }
     Some(value)
 }
 
-/// The number that the digits spell in its one form.
-fn read_number(digits: &[u8]) -> Option<u32>
-    ensures { result ≡ number_of digits.now }
+/// The canonical number that all these bytes are: `0`, or a digit from 1 to 9 and further digits, of a value that is at
+/// most `most`. None comes exactly where they are no such number: no bytes, a byte that is no digit, a 0 in front of
+/// other digits, or a greater value.
+pub fn read_number(digits: &[u8], most: u64) -> Option<u64>
+    ensures value { result ≡ number_within most digits.now }
+    ensures within { IfSome result (λ n. n ≤ most) }
 {
     match digits {
         [] => None,
         [b'0'] => Some(0),
         [b'0', ..] => None,
-        _ => read_value(digits),
+        _ => read_value(digits, most),
     }
 }
 
@@ -64,9 +68,9 @@ fn read_at(text: &[u8], at: usize) -> Option<Number>
 {
     let rest = behind(text, at);
     let len = digits_len(rest);
-    let value = read_number(&rest[..len])?;
+    let value = read_number(&rest[..len], u64::from(u32::MAX))?;
     Some(Number {
-        value,
+        value: value as u32,
         end: at + len,
     })
 }

@@ -33,38 +33,40 @@ over_stays m (Behind p q place) e = absurd (let never : false ≡ true = e in cc
 over_stays m (Held q) e = refl
 over_stays m Finished e = refl
 
--- counts within a number of steps are within one more, also with one count more
-later : (c : Counts) (n : ℕ) → AreWithin c n → AreWithin c (n + 1)
-later c n w = record { chosen = omega (arith, w.chosen); delivered = omega (arith, w.delivered); lost = omega (arith, w.lost); repeated = omega (arith, w.repeated) }
+-- a count that grew by one, or is as it was
+abbrev grown : Bool → ℕ → ℕ
+grown b count = if b then count + 1 else count
 
-one_chosen : (c : Counts) (n : ℕ) → AreWithin c n → AreWithin (record c { chosen = c.chosen + 1 }) (n + 1)
-one_chosen c n w = record { chosen = omega (arith, w.chosen); delivered = omega (arith, w.delivered); lost = omega (arith, w.lost); repeated = omega (arith, w.repeated) }
+grown-le : (b : Bool) (count n : ℕ) → count ≤ n → grown b count ≤ n + 1
+grown-le true count n le = omega (arith, le)
+grown-le false count n le = omega (arith, le)
 
-one_lost : (c : Counts) (n : ℕ) → AreWithin c n → AreWithin (record c { lost = c.lost + 1 }) (n + 1)
-one_lost c n w = record { chosen = omega (arith, w.chosen); delivered = omega (arith, w.delivered); lost = omega (arith, w.lost); repeated = omega (arith, w.repeated) }
-
-one_delivered : (c : Counts) (n : ℕ) → AreWithin c n → AreWithin (record c { delivered = c.delivered + 1 }) (n + 1)
-one_delivered c n w = record { chosen = omega (arith, w.chosen); delivered = omega (arith, w.delivered); lost = omega (arith, w.lost); repeated = omega (arith, w.repeated) }
-
-two_delivered : (c : Counts) (n : ℕ) → AreWithin c n → AreWithin (record c { delivered = c.delivered + 1; repeated = c.repeated + 1 }) (n + 1)
-two_delivered c n w = record { chosen = omega (arith, w.chosen); delivered = omega (arith, w.delivered); lost = omega (arith, w.lost); repeated = omega (arith, w.repeated) }
+-- counts within a number of steps are within one more, also where some of them grew by one
+within_grown : (c : Counts) (n : ℕ) (chosen delivered lost repeated : Bool) → AreWithin c n →
+    AreWithin (record { chosen = grown chosen c.chosen; delivered = grown delivered c.delivered; lost = grown lost c.lost; repeated = grown repeated c.repeated }) (n + 1)
+within_grown c n chosen delivered lost repeated w = record {
+  chosen = grown-le chosen c.chosen n w.chosen;
+  delivered = grown-le delivered c.delivered n w.delivered;
+  lost = grown-le lost c.lost n w.lost;
+  repeated = grown-le repeated c.repeated n w.repeated;
+}
 
 -- and so are they behind what comes next
 pub within_next : (m : Match) (s : Stand) (n : ℕ) → AreWithin m.counts n → AreWithin (next_by m s).counts (n + 1)
-within_next m (Caught p) n w = later m.counts n w
+within_next m (Caught p) n w = within_grown m.counts n false false false false w
 within_next m (Moving p) n w = go (log_of m.logs p)
   where
     go : (o : Option (List Entry)) → AreWithin (moved m p o).counts (n + 1)
-    go None = later m.counts n w
-    go (Some h) = one_chosen m.counts n w
+    go None = within_grown m.counts n false false false false w
+    go (Some h) = within_grown m.counts n true false false false w
 within_next m (Behind p q place) n w = go (((draw 4 m.rest).0 == 0) && not m.was_lost) ((draw 4 m.rest).0 == 1)
   where
     go : (a b : Bool) → AreWithin (if a then lost (drawn m (draw 4 m.rest).1) else if b then delivered_behind (drawn m (draw 4 m.rest).1) p q place else delivered (drawn m (draw 4 m.rest).1) p q place).counts (n + 1)
-    go true b = one_lost m.counts n w
-    go false true = two_delivered m.counts n w
-    go false false = one_delivered m.counts n w
-within_next m (Held q) n w = later m.counts n w
-within_next m Finished n w = later m.counts n w
+    go true b = within_grown m.counts n false false true false w
+    go false true = within_grown m.counts n false true false true w
+    go false false = within_grown m.counts n false true false false w
+within_next m (Held q) n w = within_grown m.counts n false false false false w
+within_next m Finished n w = within_grown m.counts n false false false false w
 
 -- ---- a match that is played step by step
 
