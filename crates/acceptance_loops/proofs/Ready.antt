@@ -1,19 +1,15 @@
--- Ready: a loop that began, or made a poll, is ready for a further round.
-use Rattle.std.specs.Prelude.{◌≡◌, ℕ, List, refl}
+-- Ready: a loop that made a poll is ready for a further round.
+use Rattle.std.specs.Prelude.{ℕ, List, refl}
 use Rattle.peer_core.specs.Views.{PeerState}
 use Rattle.rosters.specs.Rosters.{LinksOthers, Neighbours}
 use Rattle.rosters.specs.Text.{IsReadFrom}
 use Rattle.socket_station.specs.Items.{Item}
-use Rattle.ready_loop.specs.declared.beginning.Begun.TheVariants as B
 use Rattle.ready_loop.specs.declared.polling.Round.TheVariants as R
 use Rattle.ready_loop.specs.States.{LoopState}
 use Rattle.ready_loop.specs.Choices.{Chooser}
-use Rattle.ready_loop.specs.Beginning.{Begins, IsNew, new_loop}
+use Rattle.ready_loop.specs.Beginning.{IsNew, new_loop}
 use Rattle.ready_loop.specs.Polling.{Rounds}
 use Rattle.ready_loop.specs.Settling.{IsReady}
-
-pub begun_is_ready : (name : List ℕ) (l m : LoopState) (items : List Item) → Begins name B.Ready l m items → IsReady items m
-begun_is_ready name l m items b = record { told = b.told; idle = b.stands.0 }
 
 pub on_is_ready : (by to : Chooser) (before after : List Item) (l m : LoopState) → Rounds by to R.On before after l m → IsReady after m
 on_is_ready by to before after l m r = record { told = r.goes.told; idle = r.stands.idle }

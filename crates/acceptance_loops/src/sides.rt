@@ -100,7 +100,7 @@ pub fn play_round<S: Station, P: Pilot>(
 }
 
 /// Begins, and says how the run ended, if it did.
-#[tactic(auto, using(crate::proofs::Ready::begun_is_ready))]
+#[tactic(auto, using(ready_loop::proofs::Began::begun_is_ready))]
 pub fn begin<S: Station>(it: &mut Loop, station: &mut S) -> Option<Ended>
     requires new { IsNew it.old }
     requires first { S.history station.old ≡ [] }

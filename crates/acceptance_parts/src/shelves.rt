@@ -1,6 +1,7 @@
 //! Shelves in memory, and which calls of a run's objects fail.
 
-ghost use Rattle.std.specs.Prelude.{◌≡◌, ◌∷◌, [], false, bytes_eq, IfOk};
+ghost use Rattle.std.specs.Prelude.{◌≡◌, ◌∷◌, [], false, bytes_eq, codes, IfOk};
+ghost use Rattle.station.specs.Memory.{unused};
 
 use station::{MemoryShelf, ShelfFile};
 use std::alloc::{AllocError, Global};
@@ -19,9 +20,10 @@ pub const NONE: Fails = Fails {
     sink: &[],
 };
 
-/// A file.
+/// A file of this name, with these bytes.
 pub fn file_of(alloc: Global, name: &[u8], bytes: Vec<u8>) -> Result<ShelfFile, AllocError>
-    ensures { IfOk result (λ file. file.name ≡ name.now) }
+    ensures name { IfOk result (λ file. file.name ≡ name.now) }
+    ensures bytes { IfOk result (λ file. file.bytes ≡ bytes.items) }
 {
     let name = Vec::from_slice(alloc, name)?;
     Ok(ShelfFile::new(name, bytes))
@@ -32,7 +34,9 @@ pub fn shelf_of_one(
     alloc: Global,
     bytes: &[u8],
     fails: &'static [u32],
-) -> Result<MemoryShelf, AllocError> {
+) -> Result<MemoryShelf, AllocError>
+    ensures { IfOk result (λ shelf. shelf ≡ record { files = record { name = codes "s"; bytes = bytes.now } ∷ []; pieces = []; plan = unused fails.now }) }
+{
     let file = ShelfFile::new(
         Vec::from_slice(alloc, b"s")?,
         Vec::from_slice(alloc, bytes)?,
@@ -75,6 +79,7 @@ pub fn shelf_of_four(
     requires second_third { bytes_eq second.name third.name ≡ false }
     requires second_fourth { bytes_eq second.name fourth.name ≡ false }
     requires third_fourth { bytes_eq third.name fourth.name ≡ false }
+    ensures { IfOk result (λ shelf. shelf ≡ record { files = first ∷ second ∷ third ∷ fourth ∷ []; pieces = []; plan = unused fails.now }) }
 {
     let files = four_of(alloc, first, second, third, fourth)?;
     let fails = Vec::from_slice(alloc, fails)?;

@@ -13,7 +13,7 @@ use Rattle.definitions.specs.declared.logs.Entry.{Entry}
 use Rattle.definitions.specs.Lists.{first_of}
 use Rattle.definitions.specs.World.{Game, is_open}
 use Rattle.definitions.specs.Moves.{is_legal, next_track, start_track, track_after}
-use Rattle.definitions.specs.Logs.{digest_eq, got_of, turn_of}
+use Rattle.definitions.specs.Logs.{digest_eq, got_of, move_shown, turn_of}
 use Rattle.definitions.specs.Held.{Known, commit_of, digest_of, opening_of}
 use Rattle.definitions.specs.Findings.{got_known}
 use Rattle.definition_laws.specs.Members.{Has}
@@ -25,7 +25,6 @@ use Rattle.frame_index.specs.declared.seen.Seen.{Seen}
 use Rattle.frame_index.specs.InLog.{takes, taken}
 use Rattle.frame_index.specs.Judged.{is_good, judged}
 use Rattle.frame_index.specs.Keeps.{Keeps, IsLeast}
-use Rattle.frame_index.specs.Plain as P
 use Rattle.frame_index.specs.Wants.{least_from}
 use Rattle.frame_index.proofs.InLog.{first_in_log}
 use Rattle.frame_index.proofs.Judging.{good_at, least_alike, led_to, opened_open_if}
@@ -84,7 +83,7 @@ opens_turn game q before d u (Reveal p t m n) h = go (t == u) refl h
     go false x h = absurd (false≢true h)
 
 -- what opens a digest shows the move that it is said to open it to
-opened_shows : (game : Game) (q : ℕ) (before : List Move) (d : Digest) (u : ℕ) (f : TurnFrame) (m : Move) → opening_of game q before d u f ≡ Some m → P.shown f ≡ Some m
+opened_shows : (game : Game) (q : ℕ) (before : List Move) (d : Digest) (u : ℕ) (f : TurnFrame) (m : Move) → opening_of game q before d u f ≡ Some m → move_shown f ≡ Some m
 opened_shows game q before d u (Commit p t e) m h = absurd (let none : None ≡ Some m = h in cc)
 opened_shows game q before d u (Reveal p t x n) m h = ap (λ (y : Move). Some y) (some_when _ x m h).1
 
@@ -107,7 +106,7 @@ module _ (game : Game) (q u : ℕ) (logs : List (List Entry)) (log : ℕ) (h : L
   -- the turn that is read from what is kept is the one that the log resolves
   pub turn_kept : (track : Track) → IsBefore game q u h track → (r : Resolved) × (resolved_kept game q track log kept ≡ Some r) ×
       (turn_shown game q (got_known game q h) (got_of q h) u ≡ r.commit ∷ r.reveal ∷ []) × (r.track ≡ track_after game q (take (u + 1) (got_known game q h).moves)) ×
-      (P.shown r.reveal ≡ slice_get (got_known game q h).moves u)
+      (move_shown r.reveal ≡ slice_get (got_known game q h).moves u)
   unfolding digest_of
   turn_kept track is =
       let k : Known = got_known game q h in
@@ -135,7 +134,7 @@ module _ (game : Game) (q u : ℕ) (logs : List (List Entry)) (log : ℕ) (h : L
         ap (resolved_from game q track log kept) one.1 ∙ ap (resolved_with game q track one.0) two.1 ∙ ap (resolved_to one.0 two.0) next,
         shown ∙ sym (λ i. one.3 i ∷ two.3 i ∷ []),
         ap (λ (x : Track). next_track game x m.0) is.1 ∙ sym (track_from_append game (start_track game q) before (m.0 ∷ [])) ∙ ap (track_after game q) (sym (take_more u k.moves m.0 m.1)),
-        ap P.shown two.3 ∙ opened_shows game q before r.digest u r.frame m.0 r.opens ∙ sym m.1,
+        ap move_shown two.3 ∙ opened_shows game q before r.digest u r.frame m.0 r.opens ∙ sym m.1,
       )
 
 -- it ends on an open cell

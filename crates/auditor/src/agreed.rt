@@ -6,10 +6,9 @@ ghost use Rattle.definitions.specs.declared.logs.Entry.{Entry};
 ghost use Rattle.definitions.specs.declared.world.Move.{Move};
 ghost use Rattle.definitions.specs.World.{Game, is_open, players_of};
 ghost use Rattle.definitions.specs.Findings.{got_known};
-ghost use Rattle.definitions.specs.Logs.{got_of};
+ghost use Rattle.definitions.specs.Logs.{got_of, move_shown};
 ghost use Rattle.frame_index.specs.Heads.{AreOpen, Stands, front_of};
 ghost use Rattle.frame_index.specs.Keeps.{Keeps};
-ghost use Rattle.frame_index.specs.Plain.{shown};
 ghost use Rattle.frame_index.specs.declared.limits.TheConstants.{MOST_LOGS};
 ghost use Rattle.auditor.specs.Accords.{accord_of, agreed_in, is_alike};
 ghost use Rattle.auditor.specs.Agreed as A;
@@ -66,7 +65,7 @@ fn agreed_in(accord: Accord) -> Option<Move>
 
 /// The move that a reveal shows.
 fn shown(frame: &TurnFrame) -> Option<Move>
-    ensures { result ≡ shown frame.now }
+    ensures { result ≡ move_shown frame.now }
 {
     match *frame {
         TurnFrame::Commit { .. } => None,

@@ -113,6 +113,7 @@ fn reveal_at(bytes: &[u8], mv: Move, at: usize) -> TurnFrame
 
 /// The frame that the bytes spell.
 #[tactic(auto, unfolding(crate::specs::Spelling::turn_frame_of))]
+#[inline(always)]
 fn read_turn(bytes: &[u8]) -> Option<TurnFrame>
     ensures { result ≡ turn_frame_of bytes.now }
 {
@@ -142,7 +143,9 @@ fn read_turn(bytes: &[u8]) -> Option<TurnFrame>
 }
 
 /// The commitment or reveal that the bytes spell, whole and with nothing behind it. None comes exactly where they are the
-/// spelling of neither. Whether the session has such a player or turn is not asked here.
+/// spelling of neither. Whether the session has such a player or turn is not asked here. It is inlined, so that a frame is written to
+/// where it is wanted: each entry of each log of an audit is read by it.
+#[inline(always)]
 pub fn whole_turn(bytes: &[u8]) -> Option<TurnFrame>
     ensures exact { result ≡ turn_frame_of bytes.now }
     ensures found { IfSome result (λ f. frame_bytes f ≡ bytes.now) }

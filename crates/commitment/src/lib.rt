@@ -12,4 +12,4 @@ pub mod openings;
 
 pub use definitions::{Digest, Finding, Kind, Nonce, Opening, Spot, TurnFrame};
 pub use frames::{has_head, put_turn, whole_turn};
-pub use openings::{digest_of, opening_bytes, opens};
+pub use openings::{digest_of, frame_of, opening_bytes, opens};

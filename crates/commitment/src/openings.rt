@@ -1,11 +1,13 @@
 //! An opening's bytes, and the digest that a player commits to.
 
 ghost use Rattle.std.specs.Prelude.{◌≡◌, ◌↔◌, ◌⊎◌, ◌+◌, ◌≤◌, ℕ, ◌++◌, length, take, IsTrue};
+ghost use Rattle.definitions.specs.Advance as A;
 ghost use Rattle.definitions.specs.Openings as O;
+ghost use Rattle.definitions.specs.World.{Game};
 
 use arrayvec::ArrayVec;
 use byte_fields::put_slice;
-use definitions::{Cell, Digest, Move, Opening};
+use definitions::{Cell, Digest, Move, Opening, TurnFrame, What};
 use sha2::{Digest as _, Sha256};
 
 /// A cell's column and row, two bytes each.
@@ -71,6 +73,26 @@ pub fn digest_of(id: &[u8; 32], opening: &Opening) -> Digest
 {
     Digest {
         bytes: Sha256::digest(spell(id, opening).as_slice()),
+    }
+}
+
+/// The frame of an opening in the session with this id: its commitment, by the digest of its 74 or 78 bytes, or its reveal, which
+/// shows its move and nonce, and is the same in each session.
+pub fn frame_of(id: &[u8; 32], what: What, opening: &Opening) -> TurnFrame
+    ensures { (game : Game) → game.id ≡ id.now → result ≡ A.frame_of game what opening.now }
+{
+    match what {
+        What::Commit => TurnFrame::Commit {
+            player: opening.player,
+            turn: opening.turn,
+            digest: digest_of(id, opening),
+        },
+        What::Reveal => TurnFrame::Reveal {
+            player: opening.player,
+            turn: opening.turn,
+            mv: opening.mv,
+            nonce: opening.nonce,
+        },
     }
 }
 

@@ -60,6 +60,11 @@ abbrev pub turn_of : TurnFrame → ℕ
 turn_of (Commit p t d) = t
 turn_of (Reveal p t m n) = t
 
+-- the move that a reveal shows
+abbrev pub move_shown : TurnFrame → Option Move
+move_shown (Commit p t d) = None
+move_shown (Reveal p t m n) = Some m
+
 -- a made frame
 abbrev pub made_in : Entry → List TurnFrame
 made_in (Chose t m n) = []

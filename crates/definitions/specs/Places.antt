@@ -1,5 +1,5 @@
 -- Places: the order in which a player's frames stand in its stream.
-use Rattle.std.specs.Prelude.{ℕ, ◌+◌, ◌-◌, ◌*◌, ◌==◌, min, if◌then◌else◌, nat_lt, Option, Some, None, find}
+use Rattle.std.specs.Prelude.{ℕ, Bool, ◌+◌, ◌-◌, ◌*◌, ◌==◌, min, if◌then◌else◌, nat_lt, Option, Some, None, find}
 use Rattle.std.specs.List.{range_with_len}
 use Rattle.definitions.specs.declared.frames.What.TheVariants.{Commit, Reveal}
 use Rattle.definitions.specs.declared.places.Slot.{Slot}
@@ -12,6 +12,11 @@ commit_place game t = if nat_lt t game.turns then t + (t + 1 - game.ahead) else 
 -- the place of the turn's reveal
 unfoldable pub reveal_place : Game → ℕ → ℕ
 reveal_place game t = if nat_lt t game.turns then t + min (t + game.ahead) game.turns else 2 * t + 1
+
+-- A commitment comes next, behind so many commitments and the reveals of so many resolved turns: while fewer than `ahead` turns beyond
+-- the resolved ones are committed, and turns are left.
+abbrev pub commits_next : Game → (commits resolved : ℕ) → Bool
+commits_next game commits resolved = nat_lt commits (min (resolved + game.ahead) game.turns)
 
 -- the commitment of the turn, if there is one, and otherwise the reveal of the other, if there is one
 abbrev pub slot_or : Option ℕ → Option ℕ → Option Slot

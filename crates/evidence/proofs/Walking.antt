@@ -11,12 +11,13 @@ use Rattle.definitions.specs.declared.frames.TurnFrame.{TurnFrame}
 use Rattle.definitions.specs.declared.frames.TurnFrame.TheVariants.{Commit, Reveal}
 use Rattle.definitions.specs.Lists.{is_empty}
 use Rattle.definitions.specs.World.{Game, is_open}
+use Rattle.definitions.specs.Logs.{move_shown}
 use Rattle.definitions.specs.Moves.{is_legal, move_fault, next_track, start_track, track_after}
 use Rattle.definitions.specs.Findings.{is_illegal_after}
 use Rattle.definitions.specs.Exhibits.{is_of_turn, is_opened_by, with_move_of, end_illegal}
 use Rattle.move_rules.specs.Verdicts.{judged, verdict}
 use Rattle.definition_laws.proofs.Tracks.{track_from_append, moves_open}
-use Rattle.evidence.specs.Judging.{move_of, move_opened}
+use Rattle.evidence.specs.Judging.{move_opened}
 
 -- the first frame commits to a move of the turn, and the second one opens that
 abbrev pub opens_turn : Game → ℕ → ℕ → TurnFrame → TurnFrame → Bool
@@ -50,7 +51,7 @@ some_opens game q t (Commit p u d) (Commit r v e) m h = absurd (false≢true (no
 some_opens game q t (Commit p u d) (Reveal r v k n) m h =
     let c = a_choice _ k m h in
     record { opens = c.0; illegal = λ before. ap (λ (x : Move). not (is_legal game q (track_after game q before) x)) c.1; after = λ before. ap (λ (x : Move). before ++ x ∷ []) c.1 }
-some_opens game q t (Reveal p u k n) g m h = absurd (false≢true (none_opened (is_of_turn q t (Reveal p u k n)) (is_of_turn q t g) (move_of g) h))
+some_opens game q t (Reveal p u k n) g m h = absurd (false≢true (none_opened (is_of_turn q t (Reveal p u k n)) (is_of_turn q t g) (move_shown g) h))
   where
     none_opened : (a b : Bool) (o : Option Move) → (if a && b && false then o else None) ≡ Some m → false ≡ true
     none_opened true true o e = absurd cc

@@ -1,11 +1,11 @@
 -- Judging: the words by which frames are judged, two by two.
-use Rattle.std.specs.Prelude.{ℕ, Bool, false, ◌&&◌, Option, Some, None, if◌then◌else◌}
+use Rattle.std.specs.Prelude.{ℕ, Bool, false, ◌&&◌, Option, None, if◌then◌else◌}
 use Rattle.definitions.specs.declared.world.Move.{Move}
 use Rattle.definitions.specs.declared.frames.TurnFrame.{TurnFrame}
-use Rattle.definitions.specs.declared.frames.TurnFrame.TheVariants.{Commit, Reveal}
 use Rattle.definitions.specs.declared.findings.Kind.{Kind}
 use Rattle.definitions.specs.declared.findings.Kind.TheVariants.{TwoCommits, BadOpening, Collision, Illegal}
 use Rattle.definitions.specs.World.{Game}
+use Rattle.definitions.specs.Logs.{move_shown}
 use Rattle.definitions.specs.Findings.{are_two_commits, are_bad_opening, are_collision}
 use Rattle.definitions.specs.Exhibits.{is_of_turn, is_opened_by}
 
@@ -16,11 +16,6 @@ pair_shows game BadOpening f g = are_bad_opening game f g
 pair_shows game Collision f g = are_collision game f g
 pair_shows game Illegal f g = false
 
--- the move that a reveal shows
-abbrev pub move_of : TurnFrame → Option Move
-move_of (Commit p t d) = None
-move_of (Reveal p t m n) = Some m
-
 -- the move of the player's turn, where the first frame commits to it and the second one opens that
 abbrev pub move_opened : Game → ℕ → ℕ → TurnFrame → TurnFrame → Option Move
-move_opened game q t f g = if is_of_turn q t f && is_of_turn q t g && is_opened_by game f g then move_of g else None
+move_opened game q t f g = if is_of_turn q t f && is_of_turn q t g && is_opened_by game f g then move_shown g else None

@@ -16,7 +16,7 @@ use Rattle.definitions.specs.declared.logs.Entry.TheVariants.{Got}
 use Rattle.definitions.specs.Findings.{got_known, is_commit}
 use Rattle.definitions.specs.Held.{commit_of, digest_of, first_commit, known_to}
 use Rattle.definitions.specs.Lists.{first_of}
-use Rattle.definitions.specs.Logs.{digest_eq, got_in, got_of, turn_of}
+use Rattle.definitions.specs.Logs.{digest_eq, got_in, got_of, move_shown, turn_of}
 use Rattle.definitions.specs.Moves.{is_legal, next_track, start_track}
 use Rattle.definitions.specs.World.{Game, players_of}
 use Rattle.definition_laws.specs.Members.{Has}
@@ -37,7 +37,7 @@ use Rattle.frame_index.specs.declared.seen.Seen.{Seen}
 use Rattle.frame_index.specs.Frames.{IsIndex, kept_of}
 use Rattle.frame_index.specs.Heads.{Stands}
 use Rattle.frame_index.specs.Kept.{seen_of, seen_with}
-use Rattle.frame_index.specs.Plain.{AreCommon, AreLeft, AreOfFirst, CommitIsRead, HasCome, IsCommon, IsCommonAt, IsPlain, LeadsTo, NoneGoesOn, RevealIsRead, commit_spots, is_among, is_in, move_in, move_of, reveal_spots, shown}
+use Rattle.frame_index.specs.Plain.{AreCommon, AreLeft, AreOfFirst, CommitIsRead, HasCome, IsCommon, IsCommonAt, IsPlain, LeadsTo, NoneGoesOn, RevealIsRead, commit_spots, is_among, is_in, move_in, move_of, reveal_spots}
 use Rattle.frame_index.proofs.Come.{ended_count, resolves}
 use Rattle.frame_index.proofs.Growing.{any_has, has_kept, kept_has}
 use Rattle.frame_index.proofs.Plainly.{got_entry, move_is, resolved_move}
@@ -183,7 +183,7 @@ module _ (game : Game) (q t : ℕ) (logs : List (List Entry)) (index : FrameInde
           let k = kept_here f m is.1 in
           false≢true (sym e ∙ in_any (commit_spots Ks) k.1 i (commit_among Ks plain k.0 k.1 k.2 (ap is_commit k.5 ∙ is.0) k.3) k.4))
 
-      opening_is : (track : Track) (d : Digest) (f : TurnFrame) (m : Move) → opening_at game q track d t f ≡ Some m → (is_commit f ≡ false) × (turn_of f ≡ t) × (shown f ≡ Some m)
+      opening_is : (track : Track) (d : Digest) (f : TurnFrame) (m : Move) → opening_at game q track d t f ≡ Some m → (is_commit f ≡ false) × (turn_of f ≡ t) × (move_shown f ≡ Some m)
       opening_is track d (Commit p u c) m e = absurd (let none : None ≡ Some m = e in cc)
       opening_is track d (Reveal p u n o) m e = go (u == t) refl (digest_eq (digest_of game (Reveal p u n o)) d) (is_legal game q track n) e
         where
@@ -219,7 +219,7 @@ module _ (game : Game) (q t : ℕ) (logs : List (List Entry)) (index : FrameInde
               Some next ≡ option_map (next_track game track) (first_of (opening_at game q track d t) (got_of q h))
           go (Commit p u c) k same m there turn reveal = absurd (false≢true (sym reveal ∙ ap is_commit same))
           go (Reveal p u mv n) k same m there turn reveal =
-              let is = move_is Ks plain k mv m (ap shown same) in
+              let is = move_is Ks plain k mv m (ap move_shown same) in
               let to : LeadsTo game q track (Some mv) (Some next) = subst (λ (o : Option Move). LeadsTo game q track o (Some next)) is led in
               let opens : opening_at game q track d t (Reveal p u mv n) ≡ Some mv = opening u (sym (ap turn_of same) ∙ turn)
               (ap (λ (y : Digest). digest_eq y d) (sym (ap (digest_of game) same) ∙ sym (w.own q t k m).2 ∙ held_kept d first k m) ∙ digest_eq_same d) to.legal in
@@ -227,7 +227,7 @@ module _ (game : Game) (q t : ℕ) (logs : List (List Entry)) (index : FrameInde
               let found = first_of_has (opening_at game q track d t) (got_of q h) some.0 some.1 in
               let other = opening_is track d found.0 some.0 found.2 in
               let kept = kept_here found.0 found.1 other.1 in
-              let again = move_is Ks plain kept.0 some.0 kept.2 (ap shown kept.5 ∙ other.2) in
+              let again = move_is Ks plain kept.0 some.0 kept.2 (ap move_shown kept.5 ∙ other.2) in
               let one : Some some.0 ≡ Some mv = sym again ∙ is in
               ap (λ (y : Track). Some y) to.leads ∙ sym (ap (option_map (next_track game track)) (some.1 ∙ one))
             where

@@ -20,7 +20,7 @@ use Rattle.definitions.specs.declared.logs.Entry.TheVariants.{Chose, Got, Made}
 use Rattle.definitions.specs.Findings.{Sighting, are_collision, are_illegal, finding_at, finding_of, findings_in, got_known, is_commit, is_illegal_at, is_reveal, opens, same_digest, show_kind, sightings}
 use Rattle.definitions.specs.Held.{digest_of}
 use Rattle.definitions.specs.Lists.{item_or}
-use Rattle.definitions.specs.Logs.{digest_eq, frame_eq, got_in, got_of, turn_of}
+use Rattle.definitions.specs.Logs.{digest_eq, frame_eq, got_in, got_of, move_shown, turn_of}
 use Rattle.definitions.specs.Moves.{is_legal, move_fault, next_track, start_track, track_after}
 use Rattle.definitions.specs.World.{Game, is_open, players_of}
 use Rattle.definition_laws.specs.Members.{Has}
@@ -41,7 +41,7 @@ use Rattle.frame_index.specs.declared.kept.KeptFrame.{KeptFrame}
 use Rattle.frame_index.specs.declared.frames.FrameIndex.{FrameIndex}
 use Rattle.frame_index.specs.Frames.{IsIndex, kept_of}
 use Rattle.frame_index.specs.Kept.{seen_of}
-use Rattle.frame_index.specs.Plain.{AreAlong, IsPlain, LeadsTo, move_in, shown}
+use Rattle.frame_index.specs.Plain.{AreAlong, IsPlain, LeadsTo, move_in}
 use Rattle.frame_index.proofs.Growing.{has_kept}
 use Rattle.frame_index.proofs.Judging.{led_open}
 use Rattle.frame_index.proofs.Lifted.{no_pair}
@@ -75,24 +75,24 @@ legal_led game q track m r (Some next) e f =
     record { legal = so.0; leads = so.1; opens = led_open game q track next m led }
 
 -- the reveal that is kept shows the move
-pub move_is : (ks : List KeptFrame) → IsPlain ks → (k : KeptFrame) (m : Move) → Has ks k → shown k.frame ≡ Some m → move_in ks ≡ Some m
+pub move_is : (ks : List KeptFrame) → IsPlain ks → (k : KeptFrame) (m : Move) → Has ks k → move_shown k.frame ≡ Some m → move_in ks ≡ Some m
 move_is [] plain k m has e = absurd has
-move_is (y ∷ ys) plain k m has e = go (shown y.frame) refl has (λ there. move_is ys (λ a b p r. plain a b (inr p) (inr r)) k m there e)
+move_is (y ∷ ys) plain k m has e = go (move_shown y.frame) refl has (λ there. move_is ys (λ a b p r. plain a b (inr p) (inr r)) k m there e)
   where
-    commit_shows : (f : TurnFrame) → shown f ≡ None → is_commit f ≡ true
+    commit_shows : (f : TurnFrame) → move_shown f ≡ None → is_commit f ≡ true
     commit_shows (Commit p t d) x = refl
     commit_shows (Reveal p t n o) x = absurd (let s : Some n ≡ None = x in cc)
 
-    reveal_shows : (f : TurnFrame) (n : Move) → shown f ≡ Some n → is_commit f ≡ false
+    reveal_shows : (f : TurnFrame) (n : Move) → move_shown f ≡ Some n → is_commit f ≡ false
     reveal_shows (Commit p t d) n x = absurd (let s : None ≡ Some n = x in cc)
     reveal_shows (Reveal p t o v) n x = refl
 
-    go : (o : Option Move) → shown y.frame ≡ o → Has (y ∷ ys) k → (Has ys k → move_in ys ≡ Some m) → option_or o (move_in ys) ≡ Some m
-    go None x (inl same) ih = absurd (let s : None ≡ Some m = sym x ∙ ap (λ (z : KeptFrame). shown z.frame) same ∙ e in cc)
+    go : (o : Option Move) → move_shown y.frame ≡ o → Has (y ∷ ys) k → (Has ys k → move_in ys ≡ Some m) → option_or o (move_in ys) ≡ Some m
+    go None x (inl same) ih = absurd (let s : None ≡ Some m = sym x ∙ ap (λ (z : KeptFrame). move_shown z.frame) same ∙ e in cc)
     go None x (inr there) ih = ih there
     go (Some n) x there ih =
         let one = (plain y k (inl refl) there).1 (reveal_shows y.frame n x ∙ sym (reveal_shows k.frame m e)) in
-        sym x ∙ ap (λ (z : KeptFrame). shown z.frame) one ∙ e
+        sym x ∙ ap (λ (z : KeptFrame). move_shown z.frame) one ∙ e
 
 module _ (game : Game) (q t : ℕ) (logs : List (List Entry)) (index : FrameIndex) (w : IsIndex game logs index) where
   abbrev Ks : List KeptFrame
@@ -123,7 +123,7 @@ module _ (game : Game) (q t : ℕ) (logs : List (List Entry)) (index : FrameInde
         let s = (known_to_sound game q (got_of q h) (2 * game.turns)).opens t m at in
         let o = s.2 in
         let k = got_kept i h (Reveal o.player t m o.nonce) there (subst (λ (fs : List TurnFrame). Has fs (Reveal o.player t m o.nonce)) (sym o.stands) (Has_middle o.front o.rest (Reveal o.player t m o.nonce))) refl in
-        move_is Ks plain k.0 m k.1 (ap shown k.2)
+        move_is Ks plain k.0 m k.1 (ap move_shown k.2)
 
     -- a turn further
     pub along_on : (track next : Track) → LeadsTo game q track (move_in Ks) (Some next) → AreAlong game q logs t track → AreAlong game q logs (t + 1) next
@@ -182,7 +182,7 @@ module _ (game : Game) (q t : ℕ) (logs : List (List Entry)) (index : FrameInde
         wrong (Commit p u d) e h = false≢true h
         wrong (Reveal p u m n) e h =
             let k = sighted_kept b vb in
-            let is = move_is Ks plain k.0 m k.1 (ap shown (k.2 ∙ e)) in
+            let is = move_is Ks plain k.0 m k.1 (ap move_shown (k.2 ∙ e)) in
             legal o (subst (λ (x : Option Move). LeadsTo game q track x o) is led) some
           where
             legal : (o : Option Track) → LeadsTo game q track (Some m) o → (o ≡ None → ⊥) → ⊥

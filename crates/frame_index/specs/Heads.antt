@@ -1,9 +1,10 @@
 -- Heads: what each log shows of a player's stream up to one of its places.
-use Rattle.std.specs.Prelude.{◌≡◌, ◌⊎◌, ◌≤◌, ℕ, ◌+◌, Bool, true, false, List, Some, min, nat_lt, slice_get, IsTrue, if◌then◌else◌}
+use Rattle.std.specs.Prelude.{◌≡◌, ◌⊎◌, ◌≤◌, ℕ, ◌+◌, Bool, true, false, List, Some, min, slice_get, IsTrue, if◌then◌else◌}
 use Rattle.definitions.specs.declared.frames.TurnFrame.{TurnFrame}
 use Rattle.definitions.specs.declared.logs.Entry.{Entry}
 use Rattle.definitions.specs.World.{Game, is_open}
 use Rattle.definitions.specs.Logs.{got_of}
+use Rattle.definitions.specs.Places.{commits_next}
 use Rattle.definitions.specs.Held.{known_to, next_known}
 use Rattle.streams.specs.declared.stream.Stream.{Stream}
 use Rattle.streams.specs.Streams.{IsReadFrom, places_of}
@@ -11,7 +12,7 @@ use Rattle.frame_index.specs.declared.heads.Front.{Front}
 
 -- the place is that of a commitment
 abbrev pub is_commitment_next : Game → Front → Bool
-is_commitment_next game f = nat_lt f.commits (min (f.resolved + game.ahead) game.turns)
+is_commitment_next game f = commits_next game f.commits f.resolved
 
 -- the turn of the place
 abbrev pub turn_next : Game → Front → ℕ

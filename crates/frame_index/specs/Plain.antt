@@ -6,11 +6,10 @@ use Rattle.definitions.specs.declared.findings.Spot.{Spot}
 use Rattle.definitions.specs.declared.world.Move.{Move}
 use Rattle.definitions.specs.declared.world.Track.{Track}
 use Rattle.definitions.specs.declared.frames.TurnFrame.{TurnFrame}
-use Rattle.definitions.specs.declared.frames.TurnFrame.TheVariants.{Commit, Reveal}
 use Rattle.definitions.specs.declared.logs.Entry.{Entry}
 use Rattle.definitions.specs.Findings.{got_known, is_commit}
 use Rattle.definitions.specs.Lists.{item_or}
-use Rattle.definitions.specs.Logs.{got_of}
+use Rattle.definitions.specs.Logs.{got_of, move_shown}
 use Rattle.definitions.specs.Moves.{is_legal, next_track, track_after}
 use Rattle.definitions.specs.World.{Game, is_open}
 use Rattle.definition_laws.specs.Members.{Has}
@@ -29,15 +28,10 @@ use Rattle.frame_index.specs.Heads.{Ends, front_of}
 abbrev pub IsPlain : List KeptFrame → Type 0
 IsPlain ks = (k l : KeptFrame) → Has ks k → Has ks l → (k.digest ≡ l.digest) × (is_commit k.frame ≡ is_commit l.frame → k ≡ l)
 
--- the move that a reveal shows
-abbrev pub shown : TurnFrame → Option Move
-shown (Commit p t d) = None
-shown (Reveal p t m n) = Some m
-
 -- the move that the first reveal of these shows
 abbrev pub move_in : List KeptFrame → Option Move
 move_in [] = None
-move_in (k ∷ ks) = option_or (shown k.frame) (move_in ks)
+move_in (k ∷ ks) = option_or (move_shown k.frame) (move_in ks)
 
 -- the track after a turn with this move, if there is one, which is legal; none where it isn't
 pub record IsLed (game : Game) (q : ℕ) (track : Track) (m : Move) (next : Track) : Type 0 where

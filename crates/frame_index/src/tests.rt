@@ -2,7 +2,7 @@
 
 use crate::pairs::{bad_opening, collision};
 use crate::{FrameIndex, MOST_LOGS, Seen, findings};
-use commitment::digest_of;
+use commitment::frame_of;
 use definitions::limits::{LONGEST_LOG, MOST_TURNS};
 use definitions::{
     Cell, Digest, Finding, Kind, Move, Nonce, Opening, PlayerId, Spot, Turn, TurnFrame, What,
@@ -275,23 +275,6 @@ fn opening(turn: Turn, x: u16, byte: u8) -> Opening {
     }
 }
 
-/// The commitment to the opening, or its reveal.
-fn frame_of(session: &Session, what: What, opening: &Opening) -> TurnFrame {
-    match what {
-        What::Commit => TurnFrame::Commit {
-            player: opening.player,
-            turn: opening.turn,
-            digest: digest_of(session.id(), opening),
-        },
-        What::Reveal => TurnFrame::Reveal {
-            player: opening.player,
-            turn: opening.turn,
-            mv: opening.mv,
-            nonce: opening.nonce,
-        },
-    }
-}
-
 /// Takes a frame that a log got. It is passed over past the numbers that an index takes.
 fn take(
     index: &mut FrameIndex,
@@ -308,7 +291,7 @@ fn take(
 /// Takes a frame of a row.
 fn take_shown(index: &mut FrameIndex, session: &Session, shown: &Shown) -> Result<(), AllocError> {
     let own = opening(shown.3, shown.4, shown.5);
-    let frame = frame_of(session, shown.2, &own);
+    let frame = frame_of(session.id(), shown.2, &own);
     let spot = Spot {
         log: shown.0,
         entry: shown.1,
@@ -345,7 +328,7 @@ fn logs_show_what_they_hold_together(rt: HostRuntime) -> Result<(), Fail> {
 /// Takes a commitment to the turn twice, and gathers what is kept of it.
 fn kept_of(alloc: Global, session: &Session, turn: Turn) -> Result<Vec<Seen>, AllocError> {
     let mut index = FrameIndex::new(alloc);
-    let commit = frame_of(session, What::Commit, &opening(turn, 11, 0));
+    let commit = frame_of(session.id(), What::Commit, &opening(turn, 11, 0));
     take(&mut index, session, &commit, Spot { log: 1, entry: 4 })?;
     take(&mut index, session, &commit, Spot { log: 1, entry: 5 })?;
     let mut seen = Vec::new(alloc);
@@ -382,7 +365,7 @@ fn numbered(number: u32) -> Nonce {
 fn reveal_of(session: &Session, number: u32) -> TurnFrame {
     let mut own = opening(0, 11, 0);
     own.nonce = numbered(number);
-    frame_of(session, What::Reveal, &own)
+    frame_of(session.id(), What::Reveal, &own)
 }
 
 /// Takes a reveal of the turn, with the nonce of that number.
@@ -394,7 +377,7 @@ fn take_reveal(index: &mut FrameIndex, session: &Session, number: u32) -> Result
 
 /// Takes a commitment and many different reveals of its turn, of which the first opens it.
 fn take_many(index: &mut FrameIndex, session: &Session) -> Result<(), AllocError> {
-    let commit = frame_of(session, What::Commit, &opening(0, 11, 0));
+    let commit = frame_of(session.id(), What::Commit, &opening(0, 11, 0));
     take(index, session, &commit, Spot { log: 0, entry: 0 })?;
     for number in 0..MANY {
         take_reveal(index, session, number)?;

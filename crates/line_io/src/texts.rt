@@ -1,7 +1,9 @@
-//! Texts to a sink.
+//! Texts in buffers, and texts to a sink.
 
+ghost use Rattle.std.specs.Prelude.{◌≡◌, ◌≤◌, length};
 ghost use Rattle.line_io.specs.Texts.{Puts};
 
+use arrayvec::ArrayVec;
 use station::{Push, Sink};
 
 /// Whether a text was written.
@@ -11,6 +13,16 @@ pub enum Written {
     All,
     /// The sink failed, and holds only a first part of the text.
     Failed,
+}
+
+/// The text that is these bytes, in a buffer with room for `N` of them.
+pub fn text_of<const N: usize>(bytes: &[u8]) -> ArrayVec<u8, N>
+    requires { length bytes.now ≤ N }
+    ensures { result.items ≡ bytes.now }
+{
+    let mut text = ArrayVec::new();
+    text.try_extend_from_slice(bytes).unwrap();
+    text
 }
 
 /// Writes the bytes, all of them unless the sink fails. An empty text is written without a call of the sink.

@@ -23,7 +23,6 @@ use Rattle.ready_loop.specs.declared.polling.Ended.{Ended}
 use Rattle.ready_loop.specs.declared.polling.Ended.TheVariants as E
 use Rattle.ready_loop.specs.States.{LoopState, base_of, rest_of, view_of}
 use Rattle.ready_loop.specs.Choices.{Chooser, ChoosesBy}
-use Rattle.ready_loop.specs.Settling.{IsReady}
 use Rattle.ready_loop.specs.Beginning.{Begins, IsNew, given_by, new_loop}
 use Rattle.ready_loop.specs.Laws.{BeginningsAreHistories, RunsAreWhole}
 use Rattle.ready_loop.specs.Polling as L
@@ -118,11 +117,7 @@ module _ (last : FaultsAreLast) (histories : BeginningsAreHistories) (log : List
     faults = poll_failed last items (view_of m) b.told (phase_shown m PollFault b.stands.fault);
   }
 
--- it listens, and is ready to play
-pub began_on : (log : List ℕ) (l m : LoopState) (items : List Item) → Begins log B.Ready l m items → IsReady items m
-began_on log l m items b = record { told = b.told; idle = b.stands.0 }
-
--- and it played
+-- it listens, is ready to play, and played
 pub on_from : (last : FaultsAreLast) (whole : RunsAreWhole) (log : List ℕ) (by to : Chooser) (polls polls' : ℕ) (ended : Ended) (l m n : LoopState) (first items : List Item) → IsNew l → Begins log B.Ready l m first → polls' ≡ polls →
     L.Ends by to polls' ended first items m n → PlaysOut log by to polls ended l n items
 on_from last whole log by to polls polls' ended l m n first items new b e w =

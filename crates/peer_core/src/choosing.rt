@@ -3,7 +3,7 @@
 ghost use Rattle.std.specs.Prelude.{◌≡◌, ◌&&◌};
 ghost use Rattle.peer_core.specs.Choosing as C;
 
-use crate::frames::frame_of;
+use commitment::frame_of;
 use definitions::{Opening, Place, TurnFrame, What};
 use grid_world::Session;
 
@@ -24,7 +24,7 @@ pub(crate) fn next_of(
         None => None,
         Some(slot) => match openings.get(slot.turn as usize) {
             None => None,
-            Some(opening) => Some(frame_of(session, slot.what, opening)),
+            Some(opening) => Some(frame_of(session.id(), slot.what, opening)),
         },
     }
 }

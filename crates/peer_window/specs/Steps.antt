@@ -1,10 +1,11 @@
 -- Steps: what stands next in a stream, and how far a walk over the slots comes.
-use Rattle.std.specs.Prelude.{◌≡◌, ℕ, ◌+◌, ◌*◌, List, Option, Some, None, Bool, true, false, min, nat_lt, if◌then◌else◌}
+use Rattle.std.specs.Prelude.{◌≡◌, ℕ, ◌+◌, ◌*◌, List, Option, Some, None, Bool, true, false, if◌then◌else◌}
 use Rattle.definitions.specs.declared.world.Track.{Track}
 use Rattle.definitions.specs.declared.openings.Opening.{Opening}
 use Rattle.definitions.specs.declared.frames.TurnFrame.{TurnFrame}
 use Rattle.definitions.specs.declared.frames.TurnFrame.TheVariants.{Commit, Reveal}
 use Rattle.definitions.specs.World.{Game}
+use Rattle.definitions.specs.Places.{commits_next}
 use Rattle.definitions.specs.Moves.{track_after}
 use Rattle.definitions.specs.Held.{digest_of, known_to, next_known}
 use Rattle.reveal_check.specs.declared.judging.Verdict.{Verdict}
@@ -45,7 +46,7 @@ slot_step game track before (Some r) = frame_step game track before r r.frame
 
 -- the next frame is a commitment, as many turns ahead as players commit
 abbrev pub is_commit_next : Game → Reach → Bool
-is_commit_next game at = nat_lt at.commits (min (at.resolved + game.ahead) game.turns)
+is_commit_next game at = commits_next game at.commits at.resolved
 
 -- the step over the reveal of the first turn that isn't resolved
 abbrev pub turn_step : Game → List (Option Received) → Reach → Step

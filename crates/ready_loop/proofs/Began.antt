@@ -28,6 +28,7 @@ use Rattle.ready_loop.specs.States.{LoopState, setting_of, kept_of, writer_of, b
 use Rattle.ready_loop.specs.Steps.{did_by, in_phase, written_for, next_bytes, kept_next, synced_all}
 use Rattle.ready_loop.specs.Beginning.{new_loop, IsNew, Begins}
 use Rattle.ready_loop.specs.Going.{poll_count, polls_of}
+use Rattle.ready_loop.specs.Settling.{IsReady}
 use Rattle.ready_loop.specs.Overs.{logged_on, listens_on, IsTakingOver, TakesOver, SyncsOver}
 use Rattle.ready_loop.proofs.Sorting.{more_kept}
 use Rattle.ready_loop.proofs.Entries.{entry_same, kept_tells, fault_tells}
@@ -402,3 +403,7 @@ begins_poll_fault name r items after l m n both on state deaf =
         handled = ap (λ (x : LoopState). x.handled) same ∙ w.taking.handled;
       };
     }
+
+-- a loop that listens is ready to play
+pub begun_is_ready : (name : List ℕ) (l m : LoopState) (items : List Item) → Begins name B.Ready l m items → IsReady items m
+begun_is_ready name l m items b = record { told = b.told; idle = b.stands.0 }

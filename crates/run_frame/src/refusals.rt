@@ -1,6 +1,6 @@
 //! The last line of a run that did not come to its command's end.
 
-ghost use Rattle.std.specs.Prelude.{◌≡◌, ◌≤◌, length};
+ghost use Rattle.std.specs.Prelude.{◌≡◌};
 ghost use Rattle.run_frame.specs.Statuses.{rule_name, why_word, text_word, bad_session_line, bad_log_line, bad_line_line, refusal_of};
 ghost use Rattle.run_frame.specs.Ends.{Refuses};
 
@@ -8,7 +8,7 @@ use crate::statuses::{Status, TextName};
 use arrayvec::ArrayVec;
 use definitions::{LogWhy, SessionRule};
 use itoa::Buffer;
-use line_io::{Written, put};
+use line_io::{Written, put, text_of};
 use station::Sink;
 
 /// Room for a line of a refusal, which has at most 46 bytes.
@@ -112,25 +112,15 @@ fn line_of_bad_line(name: TextName, line: u32) -> RefusalLine
     text
 }
 
-/// The line that is these bytes.
-fn line_of(bytes: &[u8]) -> RefusalLine
-    requires { length bytes.now ≤ REFUSAL_ROOM }
-    ensures { result.items ≡ bytes.now }
-{
-    let mut text = ArrayVec::new();
-    text.try_extend_from_slice(bytes).unwrap();
-    text
-}
-
 /// The line by which a status is told.
 fn refusal_line(status: Status) -> RefusalLine
     ensures { result.items ≡ refusal_of status }
 {
     match status {
-        Status::NoMemory => line_of(b"no memory\n"),
-        Status::Usage => line_of(b"usage\n"),
+        Status::NoMemory => text_of(b"no memory\n"),
+        Status::Usage => text_of(b"usage\n"),
         Status::BadSession { line, what } => line_of_bad_session(line, what),
-        Status::InputFault => line_of(b"input fault\n"),
+        Status::InputFault => text_of(b"input fault\n"),
         Status::BadLog { log, at, why } => line_of_bad_log(log, at, why),
         Status::BadLine { text, line } => line_of_bad_line(text, line),
         Status::Done
@@ -139,7 +129,7 @@ fn refusal_line(status: Status) -> RefusalLine
         | Status::GaveUp
         | Status::KeepFault
         | Status::PollFault
-        | Status::OwnMove { .. } => line_of(b""),
+        | Status::OwnMove { .. } => text_of(b""),
     }
 }
 

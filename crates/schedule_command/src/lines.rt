@@ -6,6 +6,7 @@ ghost use Rattle.schedule_command.specs.Lines as L;
 use arrayvec::ArrayVec;
 use definitions::{Entry, GotAnswer, OwnFault, PlayerId, Turn, TurnFrame, What};
 use itoa::Buffer;
+use line_io::text_of;
 use report_lines::{name_of_fault, name_of_what};
 use schedule::{Stand, Tally};
 
@@ -192,16 +193,6 @@ fn behind_line(player: PlayerId, whose: PlayerId, place: u32) -> ScheduleText
     line
 }
 
-/// The line that is these bytes.
-pub(crate) fn line_of(bytes: &[u8]) -> ScheduleText
-    requires { length bytes.now ≤ LINE_ROOM }
-    ensures { result.items ≡ bytes.now }
-{
-    let mut line = ArrayVec::new();
-    line.try_extend_from_slice(bytes).unwrap();
-    line
-}
-
 /// The line of how a match stands.
 pub(crate) fn stand_line(stand: Stand) -> ScheduleText
     ensures { result.items ≡ L.stand_line stand }
@@ -211,6 +202,6 @@ pub(crate) fn stand_line(stand: Stand) -> ScheduleText
         Stand::Moving(player) => player_line(b"stand moving ", player),
         Stand::Behind(player, whose, place) => behind_line(player, whose, place),
         Stand::Held(player) => player_line(b"stand held ", player),
-        Stand::Finished => line_of(b"stand finished\n"),
+        Stand::Finished => text_of(b"stand finished\n"),
     }
 }

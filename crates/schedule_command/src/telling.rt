@@ -10,12 +10,12 @@ ghost use Rattle.schedule_command.specs.Lines as L;
 ghost use Rattle.schedule_command.specs.Schedule as S;
 
 use crate::lines::{
-    ScheduleText, chosen_line, entry_line, got_line, line_of, player_line, refused_line,
-    stand_line, tally_line,
+    ScheduleText, chosen_line, entry_line, got_line, player_line, refused_line, stand_line,
+    tally_line,
 };
 use definitions::{Entry, PlayerId};
 use grid_world::Session;
-use line_io::{Written, put};
+use line_io::{Written, put, text_of};
 use report_lines::end_line;
 use schedule::{Stand, Step, StepAnswer, Table};
 use station::Sink;
@@ -64,11 +64,11 @@ fn step_line(session: &Session, step: &Step, said: &StepAnswer) -> ScheduleText
             place_shown(session, step),
             answer,
         ),
-        StepAnswer::NotHonest => line_of(b"not honest\n"),
-        StepAnswer::NotHostile => line_of(b"not hostile\n"),
-        StepAnswer::NoFrame => line_of(b"no frame\n"),
+        StepAnswer::NotHonest => text_of(b"not honest\n"),
+        StepAnswer::NotHostile => text_of(b"not hostile\n"),
+        StepAnswer::NoFrame => text_of(b"no frame\n"),
         StepAnswer::Stopped => player_line(b"stopped ", mover_of(step)),
-        StepAnswer::BadCut => line_of(b"bad cut\n"),
+        StepAnswer::BadCut => text_of(b"bad cut\n"),
     }
 }
 

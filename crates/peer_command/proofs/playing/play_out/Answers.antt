@@ -1,4 +1,5 @@
-use Rattle.peer_command.proofs.Played.{began_on, listens_not, logs_not, on_from}
+use Rattle.ready_loop.proofs.Began.{begun_is_ready}
+use Rattle.peer_command.proofs.Played.{listens_not, logs_not, on_from}
 use Rattle.peer_command.proofs.playing.play_out.Goals as goal
 
 pub returns-in-KeepFault : goal.returns-in-KeepFault
@@ -11,4 +12,4 @@ pub returns-in-Ready : goal.returns-in-Ready
 returns-in-Ready g c = on_from c.faults_are_last.ensures c.runs_are_whole.ensures _ _ _ _ _ _ _ _ _ _ _ c.requires.new c.in-Ready.ensures c.from.ensures c.play.ensures
 
 pub play-requires : goal.play-requires
-play-requires g c = record { ready = began_on _ _ _ _ c.in-Ready.ensures }
+play-requires g c = record { ready = begun_is_ready _ _ _ _ c.in-Ready.ensures }
