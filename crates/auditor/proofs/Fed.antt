@@ -1,8 +1,7 @@
 -- Fed: entries that a feed gives, and logs with several entries more.
-use Rattle.std.proofs.Common.{List, Some, [], ap, append_assoc, drop, length, refl, subst, sym, take, true, ℕ, ◌++◌, ◌-◌, ◌∙◌, ◌∷◌, ◌≡◌, Option}
+use Rattle.std.proofs.Common.{List, Some, [], ap, append_assoc, drop, refl, subst, sym, true, ℕ, ◌++◌, ◌∙◌, ◌∷◌, ◌≡◌, Option}
 use Rattle.std.specs.Prelude.{◌&&◌, ◌==◌, Err, Ok, OnErr, Result, nat_lt, not}
 use Rattle.std.proofs.lemmas.Bool.{and_parts}
-use Rattle.std.proofs.lemmas.List.{length-drop}
 use Rattle.definitions.specs.declared.logs.Entry.{Entry}
 use Rattle.definitions.specs.declared.logs.Entry.TheVariants.{Chose, Made, Got}
 use Rattle.definitions.specs.World.{Game, players_of}
@@ -64,11 +63,3 @@ so_on game here old now next log r r' f bytes rest left used o same is cut takes
       so.3 ∙ behind_more so.1 (n.0 ∷ []) (given_of game n.1 (drop used rest)) (given_of game so.0 rest) n.3,
       takes_more old now next log so.1 (n.0 ∷ []) so.4 n.4,
     ))
-
--- all behind the first ones is what is left behind them
-pub cut_rest : (used : ℕ) (xs : List ℕ) → drop used xs ≡ take (length xs - used) (drop used xs)
-cut_rest used xs = sym (ap (λ (n : ℕ). take n (drop used xs)) (sym (length-drop used xs)) ∙ all (drop used xs))
-  where
-    all : (ys : List ℕ) → take (length ys) ys ≡ ys
-    all [] = refl
-    all (y ∷ ys) = ap (λ (zs : List ℕ). y ∷ zs) (all ys)

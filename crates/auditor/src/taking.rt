@@ -1,16 +1,16 @@
 //! The entries of a log that comes in pieces.
 
-ghost use Rattle.std.specs.Prelude.{◌≡◌, ◌<◌, ◌≤◌, ◌+◌, ℕ, [], None, Some, length, IfOk, IfSome, OnOk, OnErr};
+ghost use Rattle.std.specs.Prelude.{◌≡◌, ◌<◌, ◌≤◌, ◌+◌, ◌-◌, ℕ, [], None, Some, drop, length, IfOk, IfSome, OnOk, OnErr};
 ghost use Rattle.session_log.specs.Fed.{IsFeedOf};
 ghost use Rattle.session_log.specs.Feeding.{LogFeeding};
 ghost use Rattle.auditor.specs.Audits.{count_in, owner_in};
 ghost use Rattle.auditor.specs.Taking as T;
 
 use crate::auditor::Auditor;
-use definitions::PlayerId;
 use definitions::limits::LONGEST_LOG;
+use definitions::{Entry, PlayerId};
 use frame_index::MOST_LOGS;
-use session_log::{LogFedWhat, LogFeed};
+use session_log::{LogFeed, LogStepWhat, NO_ENTRY};
 use std::alloc::AllocError;
 
 impl Auditor {
@@ -26,33 +26,36 @@ impl Auditor {
         self.owners[log as usize] = owner;
     }
 
-    /// Feeds the bytes up to the end of the first entry that ends in them, and takes that entry: with how many bytes it ended, where
-    /// one did.
+    /// Feeds the bytes of the piece from this place on, up to the end of the first entry that ends in them, and takes that entry: with how
+    /// many bytes it ended, where one did. The entry is read to its room, and taken from there.
     #[inline(always)]
     fn take_next(
         &mut self,
         log: u32,
         feed: &mut LogFeed,
-        bytes: &[u8],
+        piece: &[u8],
+        at: usize,
+        entry: &mut Entry,
     ) -> Result<Option<usize>, AllocError>
         requires log { log < MOST_LOGS }
-        requires few { feed.old.used + length bytes.now ≤ LONGEST_LOG }
+        requires at { at ≤ length piece.now }
+        requires few { feed.old.used + (length piece.now - at) ≤ LONGEST_LOG }
         requires feeding { T.IsFeeding self.old log feed.old }
-        ensures next { IfOk result (λ used. T.TakesNext self.old.session self.old self.new log feed.old feed.new bytes.now used) }
-        ensures used { IfOk result (λ o. IfSome o (λ used. (0 < used) × (used ≤ length bytes.now) × (feed.new.used ≡ feed.old.used + used))) }
-        ensures within { feed.new.used ≤ feed.old.used + length bytes.now }
+        ensures next { IfOk result (λ used. T.TakesNext self.old.session self.old self.new log feed.old feed.new (drop at piece.now) used) }
+        ensures used { IfOk result (λ o. IfSome o (λ used. (0 < used) × (at + used ≤ length piece.now) × (feed.new.used ≡ feed.old.used + used))) }
+        ensures within { feed.new.used ≤ feed.old.used + (length piece.now - at) }
         ensures feeding { OnOk result (T.IsFeeding self.new log feed.new) }
         ensures err { OnErr result (T.Takes self.old self.new log []) }
         ensures session { self.new.session ≡ self.old.session }
         ensures owner { owner_in self.new log ≡ feed.new.owner }
         ensures others { T.LeavesOthers self.old self.new log }
     {
-        let fed = feed.feed(&self.session, bytes);
+        let step = feed.feed_at(&self.session, piece, at, entry);
         self.note_owner(log, feed.owner());
-        match fed.what {
-            LogFedWhat::Entry(entry) => {
-                self.take(log, &entry)?;
-                Ok(Some(fed.used))
+        match step.what {
+            LogStepWhat::Entry => {
+                self.take(log, entry)?;
+                Ok(Some(step.used))
             }
             _ => Ok(None),
         }
@@ -78,9 +81,10 @@ impl Auditor {
         ensures owner { OnOk result (owner_in self.new log ≡ feed.new.owner) }
         ensures others { T.LeavesOthers self.old self.new log }
     {
-        let mut rest = bytes;
-        while let Some(used) = self.take_next(log, feed, rest)? {
-            rest = &rest[used..];
+        let mut entry = NO_ENTRY;
+        let mut at = 0;
+        while let Some(used) = self.take_next(log, feed, bytes, at, &mut entry)? {
+            at += used;
         }
         Ok(())
     }

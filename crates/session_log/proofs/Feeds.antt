@@ -18,7 +18,7 @@ use Rattle.session_log.specs.Feeding.{LogFeeding, FeedStep, more_step, fault_ste
 use Rattle.session_log.specs.Fed.{Fed, IsFeedOf, IsStepOf, after_found, what_found}
 use Rattle.session_log.proofs.Texts.{told_more}
 use Rattle.session_log.proofs.Found.{digest_more, found_count, found_more, found_torn, torn_found}
-use Rattle.session_log.proofs.Parts.{nothing_held, part_full, part_torn}
+use Rattle.session_log.proofs.Parts.{part_full, part_torn}
 
 -- what a part takes
 abbrev pub Takes : (p q : Part) (bytes : List ℕ) (count : ℕ) → Type 0
@@ -75,13 +75,13 @@ record HasEnded (game : Game) (me : ℕ) (f : LogFeeding) (next : Part) (bytes :
   next_part : HoldsPart next (digest_at (f.held ++ bytes)) []
   whole : x ≡ Torn → ⊥
 
-has_ended : (game : Game) (me : ℕ) (f : LogFeeding) (p q next : Part) (bytes : List ℕ) (count : ℕ) (x : Found) → HoldsPart p f.chain f.held → Takes p q bytes count → q.digest_len ≡ 32 →
+has_ended : (game : Game) (me : ℕ) (f : LogFeeding) (p q next : Part) (bytes : List ℕ) (count : ℕ) (x : Found) → HoldsPart p f.chain f.held → Takes p q bytes count → q.digest_len ≡ 32 → q.fresh ≡ false →
     ((chain held : List ℕ) → HoldsPart q chain held → x ≡ entry_at game me chain held) → ((chain held : List ℕ) → HoldsPart q chain held → HoldsPart next (digest_at held) []) →
     HasEnded game me f next bytes count x
-has_ended game me f p q next bytes count x part takes full found nexts =
+has_ended game me f p q next bytes count x part takes full begun found nexts =
     let taken = takes f.chain f.held part in
     let front : List ℕ = f.held ++ take count bytes in
-    let size : length front ≡ told_len front + 35 = part_full q f.chain front taken.1 full in
+    let size : length front ≡ told_len front + 35 = part_full q f.chain front (taken.1.begun begun) full in
     let split : f.held ++ bytes ≡ front ++ drop count bytes = joined f.held bytes count in
     let told : told_len (f.held ++ bytes) ≡ told_len front = ap told_len split ∙ told_more front (drop count bytes) (omega arith) in
     let whole : is_torn front ≡ false = le-ltb (length front) (told_len front + 35) (omega arith) in
@@ -148,11 +148,11 @@ ended_so game me f r next bytes count (Whole e n digest) is good ended =
       answer = ap (λ (k : ℕ). record { used = k; what = what.Entry e }) used;
     }
 
-pub entry_ended : (game : Game) (me : ℕ) (f : LogFeeding) (r : Fed) (q next : Part) (bytes : List ℕ) (count : ℕ) (x : Found) → IsFeedOf r f → f.fault ≡ None → Takes r.part q bytes count → q.digest_len ≡ 32 →
+pub entry_ended : (game : Game) (me : ℕ) (f : LogFeeding) (r : Fed) (q next : Part) (bytes : List ℕ) (count : ℕ) (x : Found) → IsFeedOf r f → f.fault ≡ None → Takes r.part q bytes count → q.digest_len ≡ 32 → q.fresh ≡ false →
     ((chain held : List ℕ) → HoldsPart q chain held → x ≡ entry_at game me chain held) → ((chain held : List ℕ) → HoldsPart q chain held → HoldsPart next (digest_at held) []) →
     IsStepOf (after_found (came r next count) x) (record { used = count; what = what_found r.at x }) (entry_fed game me f bytes)
-entry_ended game me f r q next bytes count x is good takes full found nexts =
-    let ended = has_ended game me f r.part q next bytes count x (is.part good) takes full found nexts in
+entry_ended game me f r q next bytes count x is good takes full begun found nexts =
+    let ended = has_ended game me f r.part q next bytes count x (is.part good) takes full begun found nexts in
     subst (λ (y : Found). IsStepOf (after_found (came r next count) x) (record { used = count; what = what_found r.at x }) (step_by_found f bytes (told_len (f.held ++ bytes) + 35) y)) (sym ended.found)
     (ended_so game me f r next bytes count x is good ended)
 
@@ -190,11 +190,11 @@ first_read game (me ∷ rest) f r fed some lt step =
     first_entered game me rest f r fed lt (subst (λ (xs : List ℕ). IsStepOf r fed (entry_fed game me (feed_of f me) xs)) same step)
 
 -- a whole entry came at once
-pub whole_ended : (game : Game) (me : ℕ) (f : LogFeeding) (r : Fed) (next : Part) (bytes : List ℕ) (count : ℕ) (x : Found) → count ≡ told_len bytes + 35 → IsFeedOf r f → f.fault ≡ None → r.part.text_len ≡ 0 → r.part.digest_len ≡ 0 → is_torn bytes ≡ false →
+pub whole_ended : (game : Game) (me : ℕ) (f : LogFeeding) (r : Fed) (next : Part) (bytes : List ℕ) (count : ℕ) (x : Found) → count ≡ told_len bytes + 35 → IsFeedOf r f → f.fault ≡ None → r.part.fresh ≡ true → is_torn bytes ≡ false →
     ((chain : List ℕ) → HoldsPart r.part chain [] → x ≡ entry_at game me chain bytes) → ((chain : List ℕ) → HoldsPart r.part chain [] → HoldsPart next (digest_at bytes) []) →
     IsStepOf (after_found (came r next count) x) (record { used = count; what = what_found r.at x }) (entry_fed game me f bytes)
-whole_ended game me f r next bytes count x counted is good text digest whole found nexts =
-    let none : f.held ≡ [] = nothing_held r.part f.chain f.held (is.part good) text digest in
+whole_ended game me f r next bytes count x counted is good fresh whole found nexts =
+    let none : f.held ≡ [] = ((is.part good).fresh fresh).none in
     let part : HoldsPart r.part f.chain [] = subst (HoldsPart r.part f.chain) none (is.part good) in
     let here : entry_at game me f.chain (f.held ++ bytes) ≡ x = ap (λ (xs : List ℕ). entry_at game me f.chain (xs ++ bytes)) none ∙ sym (found f.chain part) in
     let size : length f.held + count ≡ told_len (f.held ++ bytes) + 35 =

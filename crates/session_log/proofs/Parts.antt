@@ -1,8 +1,8 @@
 -- Parts: the bytes of an entry as they come, and what stands there when all came.
 use Rattle.std.proofs.Common.{◌≡◌, ◌≤◌, ◌<◌, inl, inr, ℕ, ◌+◌, ◌-◌, min, Bool, true, false, List, [], ◌∷◌, ◌++◌, length, take, drop, refl, sym, ◌∙◌, ap, arith, subst, length-append, append_assoc}
 use Rattle.std.specs.Prelude.{not, bytes_eq, if◌then◌else◌}
-use Rattle.std.proofs.lemmas.Bool.{cases_lt, le-ltb}
-use Rattle.std.proofs.lemmas.List.{take_at, take_all, drop_at, length-take, length-drop, append-nil, nil_from_length, take-append-drop, drop-drop}
+use Rattle.std.proofs.lemmas.Bool.{cases_lt, false≢true, le-ltb}
+use Rattle.std.proofs.lemmas.List.{take_at, take_all, drop_at, length-take, length-drop, append-nil, take-append-drop, take_rest, drop-drop}
 use Rattle.std.proofs.Math.Seq.{take-add}
 use Rattle.sha2.specs.Hashers.{Holds256}
 use Rattle.sha2.specs.Sha256.{sha256}
@@ -12,7 +12,7 @@ use Rattle.session_log.specs.declared.part.Part.{Part}
 use Rattle.session_log.specs.Spelling.{chained}
 use Rattle.session_log.specs.Entries.{told_len, entry_of}
 use Rattle.session_log.specs.Finding.{text_at, digest_at, is_torn, owned_by, entry_at, found_by}
-use Rattle.session_log.specs.Parts.{HoldsPart, HoldsText, lacked}
+use Rattle.session_log.specs.Parts.{HoldsBegun, HoldsPart, HoldsText, IsFresh, lacked}
 use Rattle.session_log.proofs.Keeping.{front_front}
 use Rattle.session_log.proofs.Texts.{entry_of-long, told_cut, told_more}
 
@@ -209,7 +209,7 @@ was_taken p one two q chain text digest bytes end head body tail steps of_text l
     }
 
 part_taken : (p one two q : Part) (chain held bytes rest last : List ℕ) (end head body tail : ℕ) → rest ≡ drop head bytes → last ≡ drop body rest →
-    AreSteps p one two q chain bytes rest last end head body tail → HoldsPart p chain held → HoldsPart q chain (held ++ take (head + body + tail) bytes)
+    AreSteps p one two q chain bytes rest last end head body tail → HoldsBegun p chain held → HoldsBegun q chain (held ++ take (head + body + tail) bytes)
 part_taken p one two q chain held bytes rest last end head body tail rest_is last_is steps part =
     let behind = steps_behind p one two q chain bytes rest last end head body tail rest_is last_is steps in
     let taken = was_taken p one two q chain part.text part.digest bytes end head body tail behind part.of_text part.digest_len in
@@ -232,7 +232,7 @@ part_taken p one two q chain held bytes rest last end head body tail rest_is las
     }
 
 part_count : (p one two q : Part) (chain held bytes rest last : List ℕ) (end head body tail : ℕ) → rest ≡ drop head bytes → last ≡ drop body rest →
-    AreSteps p one two q chain bytes rest last end head body tail → HoldsPart p chain held → p.digest_len ≤ 32 → head + body + tail ≡ min (lacked held bytes) (length bytes)
+    AreSteps p one two q chain bytes rest last end head body tail → HoldsBegun p chain held → p.digest_len ≤ 32 → head + body + tail ≡ min (lacked held bytes) (length bytes)
 part_count p one two q chain held bytes rest last end head body tail rest_is last_is steps part few =
     let behind = steps_behind p one two q chain bytes rest last end head body tail rest_is last_is steps in
     let taken = was_taken p one two q chain part.text part.digest bytes end head body tail behind part.of_text part.digest_len in
@@ -241,8 +241,8 @@ part_count p one two q chain held bytes rest last end head body tail rest_is las
     taken_count part.text part.digest bytes end head body tail cut (omega arith) taken ∙ ap (λ xs. min (lacked xs bytes) (length bytes)) (sym part.all)
 
 pub part_steps : (p one two q : Part) (chain held bytes rest last : List ℕ) (end head body tail : ℕ) → rest ≡ drop head bytes → last ≡ drop body rest →
-    AreSteps p one two q chain bytes rest last end head body tail → p.digest_len ≤ 32 → HoldsPart p chain held →
-    (head + body + tail ≡ min (lacked held bytes) (length bytes)) × HoldsPart q chain (held ++ take (head + body + tail) bytes)
+    AreSteps p one two q chain bytes rest last end head body tail → p.digest_len ≤ 32 → HoldsBegun p chain held →
+    (head + body + tail ≡ min (lacked held bytes) (length bytes)) × HoldsBegun q chain (held ++ take (head + body + tail) bytes)
 part_steps p one two q chain held bytes rest last end head body tail rest_is last_is steps few part = (
   part_count p one two q chain held bytes rest last end head body tail rest_is last_is steps part few,
   part_taken p one two q chain held bytes rest last end head body tail rest_is last_is steps part,
@@ -270,9 +270,19 @@ part_whole held text digest all long ended =
       torn = le-ltb (length held) (told_len held + 35) (omega arith);
     }
 
+-- a part that has begun, or is fresh, as such
+pub begun_holds : (p : Part) (chain held : List ℕ) → p.fresh ≡ false → HoldsBegun p chain held → HoldsPart p chain held
+begun_holds p chain held begun part = record { fresh = λ e. absurd (false≢true (sym begun ∙ e)); begun = λ e. part }
+
+pub fresh_holds : (p : Part) (chain : List ℕ) → p.fresh ≡ true → p.digest ≡ chain → p.text_len ≡ 0 → p.digest_len ≡ 0 → HoldsPart p chain []
+fresh_holds p chain fresh chained text digest = record {
+  fresh = λ e. record { chained = chained; none = refl; text_len = text; digest_len = digest };
+  begun = λ e. absurd (false≢true (sym e ∙ fresh));
+}
+
 -- less than an entry came, and that is all of the bytes
-pub part_torn : (p : Part) (chain held : List ℕ) → HoldsPart p chain held → p.digest_len < 32 → length held < told_len held + 35
-part_torn p chain held part few = by_digest part.text part.digest part.all (let d = part.digest_len in omega arith) part.within part.ended
+begun_torn : (p : Part) (chain held : List ℕ) → HoldsBegun p chain held → p.digest_len < 32 → length held < told_len held + 35
+begun_torn p chain held part few = by_digest part.text part.digest part.all (let d = part.digest_len in omega arith) part.within part.ended
   where
     by_digest : (text digest : List ℕ) → held ≡ text ++ digest → length digest < 32 → length text ≤ told_len text + 3 → (0 < length digest → length text ≡ told_len text + 3) → length held < told_len held + 35
     by_digest text digest all few within ended =
@@ -291,8 +301,15 @@ part_torn p chain held part few = by_digest part.text part.digest part.all (let 
               ]
         ]
 
+pub part_torn : (p : Part) (chain held : List ℕ) → HoldsPart p chain held → p.digest_len < 32 → length held < told_len held + 35
+part_torn p chain held part few = go p.fresh refl
+  where
+    go : (b : Bool) → p.fresh ≡ b → length held < told_len held + 35
+    go true e = subst (λ (xs : List ℕ). length xs < told_len xs + 35) (sym (part.fresh e).none) (omega arith)
+    go false e = begun_torn p chain held (part.begun e) few
+
 -- all bytes of an entry came, and no more
-pub part_full : (p : Part) (chain held : List ℕ) → HoldsPart p chain held → p.digest_len ≡ 32 → length held ≡ told_len held + 35
+pub part_full : (p : Part) (chain held : List ℕ) → HoldsBegun p chain held → p.digest_len ≡ 32 → length held ≡ told_len held + 35
 part_full p chain held part full =
     let d = part.digest_len in
     let is = part_whole held part.text part.digest part.all (omega arith) (part.ended (omega arith)) in
@@ -320,7 +337,7 @@ pub record HasCome (game : Game) (me : ℕ) (p : Part) (chain held : List ℕ) :
   pub digest_is : digest_at held ≡ p.digest
   pub found : entry_at game me chain held ≡ (if not (bytes_eq p.digest (chained chain text)) then BadChain else owned_by game me (entry_of text) (p.text_len + 32) p.digest)
 
-pub has_come : (game : Game) (me : ℕ) (p : Part) (chain held : List ℕ) → length p.digest ≡ 32 → p.digest_len ≡ 32 → HoldsPart p chain held → HasCome game me p chain held
+pub has_come : (game : Game) (me : ℕ) (p : Part) (chain held : List ℕ) → length p.digest ≡ 32 → p.digest_len ≡ 32 → HoldsBegun p chain held → HasCome game me p chain held
 has_come game me p chain held size whole part =
     let d = part.digest_len in
     let all : p.digest ≡ part.digest = sym (take_all p.digest_len p.digest (omega arith)) ∙ part.of_digest in
@@ -369,7 +386,7 @@ read_whole game me p q chain held hash same come is agrees few =
     ap (λ (r : Part). owned_by game me (entry_of (take p.text_len r.kept)) (p.text_len + 32) r.digest) is.others
     ∙ ap (λ xs. owned_by game me (entry_of xs) (p.text_len + 32) p.digest) text ∙ by_digest game me p q chain held hash same true come is agrees
 
-pub none_held : (p : Part) (chain : List ℕ) → p.text_len ≡ 0 → p.digest_len ≡ 0 → Holds256 p.hasher chain → HoldsPart p chain []
+pub none_held : (p : Part) (chain : List ℕ) → p.text_len ≡ 0 → p.digest_len ≡ 0 → Holds256 p.hasher chain → HoldsBegun p chain []
 none_held p chain text digest hashed = record {
   text = [];
   digest = [];
@@ -381,29 +398,42 @@ none_held p chain text digest hashed = record {
   ended = λ some. absurd (omega arith);
 }
 
-pub next_held : (game : Game) (me : ℕ) (p q : Part) (chain held : List ℕ) → HasCome game me p chain held → Holds256 q.hasher p.digest →
-    HoldsPart (record { kept = q.kept; text_len = 0; digest = q.digest; digest_len = 0; hasher = q.hasher }) (digest_at held) []
-next_held game me p q chain held come hashed =
-    let next : Part = record { kept = q.kept; text_len = 0; digest = q.digest; digest_len = 0; hasher = q.hasher } in
-    subst (λ (xs : List ℕ). HoldsPart next xs []) (sym come.digest_is) (none_held next p.digest refl refl hashed)
+-- where a fresh one is hashed, it has begun
+pub begun_fresh : (p q : Part) (chain held : List ℕ) → IsFresh p chain held → q.text_len ≡ p.text_len → q.digest_len ≡ p.digest_len → Holds256 q.hasher p.digest → HoldsBegun q chain held
+begun_fresh p q chain held fresh text digest hashed =
+    subst (HoldsBegun q chain) (sym fresh.none) (none_held q chain (text ∙ fresh.text_len) (digest ∙ fresh.digest_len) (subst (Holds256 q.hasher) fresh.chained hashed))
 
--- where nothing is kept, nothing came
-pub nothing_held : (p : Part) (chain held : List ℕ) → HoldsPart p chain held → p.text_len ≡ 0 → p.digest_len ≡ 0 → held ≡ []
-nothing_held p chain held part text digest =
-    part.all ∙ ap (λ xs. xs ++ part.digest) (nil_from_length part.text (sym part.of_text.len ∙ text)) ∙ nil_from_length part.digest (sym part.digest_len ∙ digest)
-
--- and the hasher has what the entry is chained to
-pub bare_hashed : (p : Part) (chain held : List ℕ) → HoldsPart p chain held → p.text_len ≡ 0 → Holds256 p.hasher chain
-bare_hashed p chain held part text =
-    let none : part.text ≡ [] = nil_from_length part.text (sym part.of_text.len ∙ text) in
-    subst (Holds256 p.hasher) (ap (λ xs. chain ++ xs) none ∙ append-nil chain) part.of_text.hashed
+-- behind a whole entry nothing came of the next one
+pub next_held : (game : Game) (me : ℕ) (p q : Part) (chain held : List ℕ) → HasCome game me p chain held → q ≡ record p { hasher = q.hasher } →
+    HoldsPart (record { kept = q.kept; text_len = 0; digest = q.digest; digest_len = 0; hasher = q.hasher; fresh = true }) (digest_at held) []
+next_held game me p q chain held come others = fresh_holds _ (digest_at held) refl (ap (λ (r : Part). r.digest) others ∙ sym come.digest_is) refl refl
 
 -- a whole entry, by the digest that its text should have
 pub whole_found : (game : Game) (me : ℕ) (chain bytes hash : List ℕ) → is_torn bytes ≡ false → hash ≡ chained chain (text_at bytes) → found_by game me bytes hash ≡ entry_at game me chain bytes
 unfolding entry_at
 whole_found game me chain bytes hash whole is = rw whole (ap (found_by game me bytes) is)
 
--- nothing came of the entry behind it
-pub whole_next : (p q : Part) (digest : List ℕ) → p.text_len ≡ 0 → p.digest_len ≡ 0 → q ≡ record p { hasher = q.hasher } → Holds256 q.hasher digest → HoldsPart q digest []
-whole_next p q digest text none others hashed =
-    none_held q digest (ap (λ (r : Part). r.text_len) others ∙ text) (ap (λ (r : Part). r.digest_len) others ∙ none) hashed
+-- and so by whether the digest that is stored is that one
+pub whole_met : (game : Game) (me : ℕ) (chain bytes hash digest : List ℕ) (same b : Bool) → is_torn bytes ≡ false → hash ≡ chained chain (text_at bytes) → digest ≡ digest_at bytes → same ≡ bytes_eq digest hash → same ≡ b →
+    (if not b then BadChain else owned_by game me (entry_of (text_at bytes)) (told_len bytes + 35) (digest_at bytes)) ≡ entry_at game me chain bytes
+whole_met game me chain bytes hash digest same b whole is stored compared so =
+    let e : bytes_eq (digest_at bytes) hash ≡ b = ap (λ (xs : List ℕ). bytes_eq xs hash) (sym stored) ∙ sym compared ∙ so in
+    ap (λ (t : Bool). if not t then BadChain else owned_by game me (entry_of (text_at bytes)) (told_len bytes + 35) (digest_at bytes)) (sym e) ∙ whole_found game me chain bytes hash whole is
+
+-- a digest and the text behind it, where they stand in one piece
+pub joined_text : (joined bytes digest : List ℕ) (end : ℕ) → drop 32 joined ≡ bytes → take 32 joined ≡ digest → take (32 + end) joined ≡ digest ++ take end bytes
+joined_text joined bytes digest end behind before =
+    take-add 32 end joined ∙ ap (λ (xs : List ℕ). xs ++ take end (drop 32 joined)) before ∙ ap (λ (xs : List ℕ). digest ++ take end xs) behind
+
+pub joined_room : (joined bytes : List ℕ) (end : ℕ) → 32 ≤ length joined → drop 32 joined ≡ bytes → end ≤ length bytes → 32 + end ≡ length (take (32 + end) joined)
+joined_room joined bytes end some behind few =
+    let left = length-drop 32 joined in
+    let same = ap length behind in
+    let front = length-take (32 + end) joined in
+    omega arith
+
+-- the bytes of a piece from the 32 before a place on
+pub joined_behind : (piece : List ℕ) (at : ℕ) → 32 ≤ at → drop 32 (take (length piece - (at - 32)) (drop (at - 32) piece)) ≡ drop at piece
+joined_behind piece at some =
+    let place : at - 32 + 32 ≡ at = omega arith in
+    ap (drop 32) (take_rest piece (at - 32)) ∙ drop-drop 32 (at - 32) piece ∙ ap (λ (n : ℕ). drop n piece) place

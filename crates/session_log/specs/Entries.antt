@@ -1,5 +1,5 @@
 -- Entries: which entry a text spells.
-use Rattle.std.specs.Prelude.{ℕ, ◌+◌, ◌==◌, List, [], ◌∷◌, drop, Option, Some, None, length, slice_index, if◌then◌else◌, option_map}
+use Rattle.std.specs.Prelude.{ℕ, Bool, ◌+◌, ◌==◌, List, [], ◌∷◌, drop, Option, Some, None, length, slice_index, if◌then◌else◌, option_map}
 use Rattle.std.specs.Int.{w16, from_be_bytes}
 use Rattle.definitions.specs.declared.frames.TurnFrame.{TurnFrame}
 use Rattle.definitions.specs.declared.frames.TurnFrame.TheVariants.{Commit, Reveal}
@@ -39,3 +39,7 @@ told_len bytes = from_be_bytes w16 (slice_index bytes 0 ∷ slice_index bytes 1 
 -- the entry that a text spells: the length of its body, its kind, and the body
 unfoldable pub entry_of : List ℕ → Option Entry
 entry_of text = if length text == told_len text + 3 then entry_by (slice_index text 2) (drop 3 text) else None
+
+-- what was read to the room that holds this entry now, by whether something was
+abbrev pub read_as : Bool → Entry → Option Entry
+read_as was e = if was then Some e else None

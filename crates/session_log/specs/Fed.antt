@@ -1,11 +1,15 @@
 -- Fed: a reader of a log that comes in pieces, as contracts see it, and the bytes for which it stands.
 use Rattle.std.specs.Prelude.{◌≡◌, ◌<◌, ℕ, ◌+◌, List, [], Option, Some, None, drop, length}
+use Rattle.definitions.specs.declared.logs.Entry.{Entry}
 use Rattle.definitions.specs.World.{Game}
 use Rattle.session_log.specs.declared.finding.Found.{Found}
 use Rattle.session_log.specs.declared.finding.Found.TheVariants as found
 use Rattle.session_log.specs.declared.feed.LogFed.{LogFed}
 use Rattle.session_log.specs.declared.feed.LogFedWhat.{LogFedWhat}
 use Rattle.session_log.specs.declared.feed.LogFedWhat.TheVariants as what
+use Rattle.session_log.specs.declared.feed.LogStep.{LogStep}
+use Rattle.session_log.specs.declared.feed.LogStepWhat.{LogStepWhat}
+use Rattle.session_log.specs.declared.feed.LogStepWhat.TheVariants as step
 use Rattle.session_log.specs.declared.feed.Fault.{Fault}
 use Rattle.session_log.specs.declared.feed.Fault.TheVariants.{BadChain, BadEntry}
 use Rattle.session_log.specs.declared.part.Part.{Part}
@@ -30,6 +34,16 @@ pub record IsFeedOf (r : Fed) (f : LogFeeding) : Type 0 where
   pub begun : f.owner ≡ None → f.held ≡ []
   pub used : f.fault ≡ None → r.used ≡ f.at + length f.held
   pub part : f.fault ≡ None → HoldsPart r.part f.chain f.held
+
+-- what was found and how many bytes were used, where the room for the entry holds this one
+abbrev pub what_as : LogStepWhat → Entry → LogFedWhat
+what_as step.More e = what.More
+what_as step.Entry e = what.Entry e
+what_as (step.BadChain at) e = what.BadChain at
+what_as (step.BadEntry at) e = what.BadEntry at
+
+abbrev pub fed_as : LogStep → Entry → LogFed
+fed_as s e = record { used = s.used; what = what_as s.what e }
 
 -- this is how far the log came by the step, and this was answered
 pub record IsStepOf (r : Fed) (fed : LogFed) (s : FeedStep) : Type 0 where

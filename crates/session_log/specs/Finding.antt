@@ -5,6 +5,8 @@ use Rattle.definitions.specs.World.{Game}
 use Rattle.definitions.specs.Entries.{is_well_formed}
 use Rattle.session_log.specs.declared.finding.Found.{Found}
 use Rattle.session_log.specs.declared.finding.Found.TheVariants.{Torn, BadChain, BadEntry, Whole}
+use Rattle.session_log.specs.declared.finding.Met.{Met}
+use Rattle.session_log.specs.declared.finding.Met.TheVariants as met
 use Rattle.session_log.specs.Spelling.{chained}
 use Rattle.session_log.specs.Entries.{told_len, entry_of}
 
@@ -40,6 +42,16 @@ entry_at game me chain bytes =
     if is_torn bytes then Torn
     else if is_unchained chain bytes then BadChain
     else owned_by game me (entry_of (text_at bytes)) (told_len bytes + 35) (digest_at bytes)
+
+-- what an owner may have, where this entry was read and he may have it, or not
+abbrev pub owned_as : Bool → Entry → ℕ → List ℕ → Found
+owned_as is e count digest = if is then Whole e count digest else BadEntry
+
+-- what stands there, where this was met and the entry's room holds this one
+abbrev pub found_as : Met → Entry → ℕ → List ℕ → Found
+found_as met.BadChain e count digest = BadChain
+found_as met.BadEntry e count digest = BadEntry
+found_as met.Whole e count digest = Whole e count digest
 
 -- a whole entry has bytes, and no more than there are
 abbrev pub IsWithin : ℕ → Found → Type 0

@@ -7,7 +7,17 @@ ghost use Rattle.session_log.specs.Entries as E;
 use crate::bodies::{kind_of, spell_body};
 use byte_fields::{put_slice, take_u16};
 use commitment::whole_turn;
-use definitions::{Entry, TurnFrame};
+use definitions::{Cell, Entry, Move, Nonce, TurnFrame};
+
+/// Room for an entry that is read. What it holds before says nothing.
+pub const NO_ENTRY: Entry = Entry::Chose {
+    turn: 0,
+    mv: Move {
+        to: Cell { x: 0, y: 0 },
+        strike: None,
+    },
+    nonce: Nonce { bytes: [0; 32] },
+};
 
 /// Writes the bytes behind those before this place, and gives the place behind them.
 pub(crate) fn put_behind(out: &mut [u8; 96], at: usize, from: &[u8]) -> usize
@@ -59,41 +69,60 @@ fn chose_of(body: &[u8]) -> Option<Entry>
     }
 }
 
-/// The frame made that a body says.
-#[inline(always)]
-fn made_of(body: &[u8]) -> Option<Entry>
-    ensures { result ≡ E.made_of body.now }
+/// Reads the choice that a body says.
+fn read_chose(body: &[u8], out: &mut Entry) -> bool
+    ensures { E.chose_of body.now ≡ E.read_as result out.new }
 {
-    match whole_turn(body) {
-        Some(frame) => Some(Entry::Made(frame)),
-        None => None,
+    match chose_of(body) {
+        None => false,
+        Some(entry) => {
+            *out = entry;
+            true
+        }
     }
 }
 
-/// The frame that was got, and its sender, that a body says.
+/// Reads the frame made that a body says.
 #[inline(always)]
-fn got_of(body: &[u8]) -> Option<Entry>
-    ensures { result ≡ E.got_of body.now }
+fn read_made(body: &[u8], out: &mut Entry) -> bool
+    ensures { E.made_of body.now ≡ E.read_as result out.new }
+{
+    match whole_turn(body) {
+        None => false,
+        Some(frame) => {
+            *out = Entry::Made(frame);
+            true
+        }
+    }
+}
+
+/// Reads the frame that was got, and its sender, that a body says.
+#[inline(always)]
+fn read_got(body: &[u8], out: &mut Entry) -> bool
+    ensures { E.got_of body.now ≡ E.read_as result out.new }
 {
     match body {
-        [] => None,
+        [] => false,
         [from, frame @ ..] => match whole_turn(frame) {
-            Some(frame) => Some(Entry::Got(*from, frame)),
-            None => None,
+            None => false,
+            Some(frame) => {
+                *out = Entry::Got(*from, frame);
+                true
+            }
         },
     }
 }
 
-/// The entry of this kind that a body says.
+/// Reads the entry of this kind that a body says.
 #[inline(always)]
-fn entry_by(kind: u8, body: &[u8]) -> Option<Entry>
-    ensures { result ≡ E.entry_by kind body.now }
+fn read_by(kind: u8, body: &[u8], out: &mut Entry) -> bool
+    ensures { E.entry_by kind body.now ≡ E.read_as result out.new }
 {
     match kind {
-        1 => chose_of(body),
-        2 => made_of(body),
-        3 => got_of(body),
-        _ => None,
+        1 => read_chose(body, out),
+        2 => read_made(body, out),
+        3 => read_got(body, out),
+        _ => false,
     }
 }
 
@@ -106,29 +135,34 @@ pub(crate) fn told_len(bytes: &[u8]) -> usize
     usize::from(u16::from_be_bytes([bytes[0], bytes[1]]))
 }
 
-/// The entry that a text spells.
+/// Reads the entry that a text spells to `out`, and says whether it spells one: else `out` says nothing. An entry is copied by
+/// each call that gives one, and copies of what was just written wait for it; so it is read to where it is needed.
 #[tactic(auto, unfolding(crate::specs::Entries::entry_of))]
 #[inline(always)]
-fn entry_of(text: &[u8]) -> Option<Entry>
-    ensures { result ≡ E.entry_of text.now }
+pub(crate) fn read_into(text: &[u8], out: &mut Entry) -> bool
+    ensures { E.entry_of text.now ≡ E.read_as result out.new }
 {
     if text.len() < 3 {
-        return None;
+        return false;
     }
     if text.len() != told_len(text) + 3 {
-        return None;
+        return false;
     }
-    entry_by(text[2], &text[3..])
+    read_by(text[2], &text[3..], out)
 }
 
 /// The entry that a text spells: the length of its body, its kind and its body, with nothing behind them and without the
 /// digest. None comes exactly where it is the text of no entry. Whether the session has such a turn or player, and whether
 /// the log's owner may have such an entry, is not asked here.
-#[inline(always)]
 pub fn read_entry(text: &[u8]) -> Option<Entry>
     ensures exact { result ≡ E.entry_of text.now }
     ensures found { IfSome result (λ e. entry_text e ≡ text.now) }
     ensures none { IfNone result ((e : Entry) → FitsEntry e → text.now ≡ entry_text e → ⊥) }
 {
-    entry_of(text)
+    let mut entry = NO_ENTRY;
+    if read_into(text, &mut entry) {
+        Some(entry)
+    } else {
+        None
+    }
 }

@@ -1,16 +1,16 @@
 //! A log is read that comes in pieces.
 //!
-//! An entry is handed on by value, from what finds it to who asked for it. Each of these calls would copy it, so they are inlined, here
-//! and in [`crate::finding`] and [`crate::entries`].
+//! What reads an entry to its room is inlined, here and in [`crate::part`], [`crate::finding`] and [`crate::entries`].
 
-ghost use Rattle.std.specs.Prelude.{◌≡◌, ◌+◌, ◌≤◌, ◌<◌, ◌∷◌, [], false, length, IfSome, None, Some};
+ghost use Rattle.std.specs.Prelude.{◌≡◌, ◌+◌, ◌-◌, ◌≤◌, ◌<◌, ◌∷◌, ℕ, List, [], drop, false, true, length, IfSome, None, Some};
 ghost use Rattle.session_log.specs.Feeding as S;
 ghost use Rattle.session_log.specs.Finding as F;
 ghost use Rattle.session_log.specs.Feeding.{LogFeeding};
-ghost use Rattle.session_log.specs.Fed.{IsFedSo, IsFeedOf, IsGivenFirst, IsStepOf, after_found, what_found};
+ghost use Rattle.session_log.specs.Fed as D;
+ghost use Rattle.session_log.specs.Fed.{IsFedSo, IsFeedOf, IsGivenFirst, IsStepOf, after_found, fed_as, what_found};
 
-use crate::entries::told_len;
-use crate::finding::{Found, is_torn};
+use crate::entries::{NO_ENTRY, told_len};
+use crate::finding::{Met, is_torn};
 use crate::part::Part;
 use crate::reader::Next;
 use definitions::limits::LONGEST_LOG;
@@ -39,6 +39,39 @@ pub struct LogFed {
     pub what: LogFedWhat,
 }
 
+/// What a feed of a log found, where the entry stands in the room that was given for it. The places are those of the bytes where the
+/// faulty entry begins.
+#[derive(Clone, Copy, Debug, PartialEq, Eq)]
+pub enum LogStepWhat {
+    /// All bytes were used, and they end no entry.
+    More,
+    /// The next entry came, with its last byte.
+    Entry,
+    /// As [`LogFedWhat::BadChain`].
+    BadChain(u32),
+    /// As [`LogFedWhat::BadEntry`].
+    BadEntry(u32),
+}
+
+/// What a feed of a log found, and how many of its bytes it used.
+#[derive(Clone, Copy, Debug, PartialEq, Eq)]
+pub struct LogStep {
+    pub used: usize,
+    pub what: LogStepWhat,
+}
+
+/// What was found, with the entry that stands in the room.
+fn what_as(what: LogStepWhat, entry: Entry) -> LogFedWhat
+    ensures { result ≡ D.what_as what entry }
+{
+    match what {
+        LogStepWhat::More => LogFedWhat::More,
+        LogStepWhat::Entry => LogFedWhat::Entry(entry),
+        LogStepWhat::BadChain(at) => LogFedWhat::BadChain(at),
+        LogStepWhat::BadEntry(at) => LogFedWhat::BadEntry(at),
+    }
+}
+
 /// Why no entry comes any more.
 #[derive(Clone, Copy, Debug, PartialEq, Eq)]
 pub(crate) enum Fault {
@@ -47,12 +80,12 @@ pub(crate) enum Fault {
 }
 
 /// The fault as a feed answers it.
-fn what_of(fault: Fault) -> LogFedWhat
-    ensures { result ≡ S.what_of fault }
+fn what_of(fault: Fault) -> LogStepWhat
+    ensures { (e : Entry) → D.what_as result e ≡ S.what_of fault }
 {
     match fault {
-        Fault::BadChain(at) => LogFedWhat::BadChain(at),
-        Fault::BadEntry(at) => LogFedWhat::BadEntry(at),
+        Fault::BadChain(at) => LogStepWhat::BadChain(at),
+        Fault::BadEntry(at) => LogStepWhat::BadEntry(at),
     }
 }
 
@@ -64,6 +97,15 @@ fn next_of(fault: Fault) -> Next
         Fault::BadChain(at) => Next::BadChain(at),
         Fault::BadEntry(at) => Next::BadEntry(at),
     }
+}
+
+/// The bytes of the piece from the 32 before this place on, where there are so many, and else none.
+#[inline(always)]
+fn joined_at(piece: &[u8], at: usize) -> &[u8]
+    requires { at ≤ length piece.now }
+    ensures { 32 ≤ length result.now → drop 32 result.now ≡ drop at piece.now }
+{
+    if at >= 32 { &piece[at - 32..] } else { &[] }
 }
 
 /// A reader of a log of a session, whose bytes it is fed in pieces of any length. It holds what a good entry needs of the one
@@ -112,97 +154,118 @@ impl LogFeed {
     }
 
     /// The fault was met, of which the last of so many bytes tells.
-    fn fail(&mut self, used: usize, fault: Fault) -> LogFed
+    fn fail(&mut self, used: usize, fault: Fault) -> LogStep
         ensures feed { self.new ≡ record self.old { fault = Some fault } }
-        ensures fed { result ≡ record { used = used; what = S.what_of fault } }
+        ensures fed { (e : Entry) → fed_as result e ≡ record { used = used; what = S.what_of fault } }
+        ensures used { result.used ≡ used }
     {
         self.fault = Some(fault);
-        LogFed {
+        LogStep {
             used,
             what: what_of(fault),
         }
     }
 
-    /// The answer where this stands at the begin of the entry, of whose bytes the last of so many is the last.
-    #[inline(always)]
-    fn answer(&mut self, used: usize, found: Found) -> LogFed
+    /// The answer where this was met at the begin of the entry, of whose bytes the last of so many is the last.
+    fn answer(&mut self, used: usize, met: Met) -> LogStep
         requires some { 0 < used }
         requires good { self.old.fault ≡ None }
-        ensures so { IsFedSo result.what result.used self.new }
-        ensures feed { self.new ≡ after_found self.old found }
-        ensures fed { result ≡ record { used = used; what = what_found self.old.at found } }
+        ensures so { (e : Entry) → IsFedSo (D.what_as result.what e) result.used self.new }
+        ensures feed { (e : Entry) (n : ℕ) (d : List ℕ) → self.new ≡ after_found self.old (F.found_as met e n d) }
+        ensures fed { (e : Entry) (n : ℕ) (d : List ℕ) → fed_as result e ≡ record { used = used; what = what_found self.old.at (F.found_as met e n d) } }
+        ensures used { result.used ≡ used }
+        ensures kept { self.new.used ≡ self.old.used }
     {
-        match found {
-            Found::Torn => LogFed {
-                used,
-                what: LogFedWhat::More,
-            },
-            Found::BadChain => self.fail(used, Fault::BadChain(self.at)),
-            Found::BadEntry => self.fail(used, Fault::BadEntry(self.at)),
-            Found::Whole(entry, _, _) => {
+        match met {
+            Met::BadChain => self.fail(used, Fault::BadChain(self.at)),
+            Met::BadEntry => self.fail(used, Fault::BadEntry(self.at)),
+            Met::Whole => {
                 self.at = self.used;
-                LogFed {
+                LogStep {
                     used,
-                    what: LogFedWhat::Entry(entry),
+                    what: LogStepWhat::Entry,
                 }
             }
         }
     }
 
-    /// Reads the whole entry at the front of the bytes, of which nothing came before.
+    /// Reads the whole entry at the front of the bytes, of which nothing came before. `joined` is empty, or the bytes with the 32 before
+    /// them.
     #[inline(always)]
-    fn feed_whole(&mut self, session: &Session, owner: PlayerId, bytes: &[u8]) -> LogFed
+    fn feed_whole(
+        &mut self,
+        session: &Session,
+        owner: PlayerId,
+        bytes: &[u8],
+        joined: &[u8],
+        entry: &mut Entry,
+    ) -> LogStep
         requires few { self.old.used + length bytes.now ≤ LONGEST_LOG }
         requires good { self.old.fault ≡ None }
-        requires text { self.old.part.text_len ≡ 0 }
-        requires digest { self.old.part.digest_len ≡ 0 }
+        requires fresh { self.old.part.fresh ≡ true }
+        requires joined { 32 ≤ length joined.now → drop 32 joined.now ≡ bytes.now }
         requires whole { F.is_torn bytes.now ≡ false }
-        ensures so { IsFedSo result.what result.used self.new }
-        ensures step { (f : LogFeeding) → IsFeedOf self.old f → f.fault ≡ None → f.owner ≡ Some owner → IsStepOf self.new result (S.entry_fed session.now owner f bytes.now) }
+        ensures so { IsFedSo (D.what_as result.what entry.new) result.used self.new }
+        ensures step { (f : LogFeeding) → IsFeedOf self.old f → f.fault ≡ None → f.owner ≡ Some owner → IsStepOf self.new (fed_as result entry.new) (S.entry_fed session.now owner f bytes.now) }
         ensures within { result.used ≤ length bytes.now }
         ensures used { self.new.used ≡ self.old.used + result.used }
     {
         let count = told_len(bytes) + 35;
         self.used += count as u32;
-        let found = self.part.take_whole(session, owner, bytes);
-        self.answer(count, found)
+        let met = self.part.take_whole(session, owner, bytes, joined, entry);
+        self.answer(count, met)
     }
 
     /// Reads on in the owner's entry that is begun, or that doesn't end in these bytes.
-    fn feed_part(&mut self, session: &Session, owner: PlayerId, bytes: &[u8]) -> LogFed
+    fn feed_part(
+        &mut self,
+        session: &Session,
+        owner: PlayerId,
+        bytes: &[u8],
+        entry: &mut Entry,
+    ) -> LogStep
         requires few { self.old.used + length bytes.now ≤ LONGEST_LOG }
         requires good { self.old.fault ≡ None }
-        ensures so { IsFedSo result.what result.used self.new }
-        ensures step { (f : LogFeeding) → IsFeedOf self.old f → f.fault ≡ None → f.owner ≡ Some owner → IsStepOf self.new result (S.entry_fed session.now owner f bytes.now) }
+        ensures so { IsFedSo (D.what_as result.what entry.new) result.used self.new }
+        ensures step { (f : LogFeeding) → IsFeedOf self.old f → f.fault ≡ None → f.owner ≡ Some owner → IsStepOf self.new (fed_as result entry.new) (S.entry_fed session.now owner f bytes.now) }
         ensures within { result.used ≤ length bytes.now }
         ensures used { self.new.used ≡ self.old.used + result.used }
     {
         let count = self.part.take(bytes);
         self.used += count as u32;
         if !self.part.is_whole() {
-            return LogFed {
+            return LogStep {
                 used: count,
-                what: LogFedWhat::More,
+                what: LogStepWhat::More,
             };
         }
-        let found = self.part.close(session, owner);
-        self.answer(count, found)
+        let met = self.part.close(session, owner, entry);
+        self.answer(count, met)
     }
 
-    /// Reads on in the owner's entries. One that comes whole is read where it stands.
+    /// Reads on in the owner's entries. One that comes whole is read where it stands. `joined` is empty, or the bytes with the 32 before
+    /// them.
     #[inline(always)]
-    fn feed_entry(&mut self, session: &Session, owner: PlayerId, bytes: &[u8]) -> LogFed
+    fn feed_entry(
+        &mut self,
+        session: &Session,
+        owner: PlayerId,
+        bytes: &[u8],
+        joined: &[u8],
+        entry: &mut Entry,
+    ) -> LogStep
         requires few { self.old.used + length bytes.now ≤ LONGEST_LOG }
         requires good { self.old.fault ≡ None }
-        ensures so { IsFedSo result.what result.used self.new }
-        ensures step { (f : LogFeeding) → IsFeedOf self.old f → f.fault ≡ None → f.owner ≡ Some owner → IsStepOf self.new result (S.entry_fed session.now owner f bytes.now) }
+        requires joined { 32 ≤ length joined.now → drop 32 joined.now ≡ bytes.now }
+        ensures so { IsFedSo (D.what_as result.what entry.new) result.used self.new }
+        ensures step { (f : LogFeeding) → IsFeedOf self.old f → f.fault ≡ None → f.owner ≡ Some owner → IsStepOf self.new (fed_as result entry.new) (S.entry_fed session.now owner f bytes.now) }
         ensures within { result.used ≤ length bytes.now }
         ensures used { self.new.used ≡ self.old.used + result.used }
     {
-        if self.part.is_bare() && !is_torn(bytes) {
-            self.feed_whole(session, owner, bytes)
+        if self.part.is_fresh() && !is_torn(bytes) {
+            self.feed_whole(session, owner, bytes, joined, entry)
         } else {
-            self.feed_part(session, owner, bytes)
+            self.feed_part(session, owner, bytes, entry)
         }
     }
 
@@ -220,18 +283,18 @@ impl LogFeed {
     }
 
     /// Reads on where no byte came yet.
-    fn feed_first(&mut self, session: &Session, bytes: &[u8]) -> LogFed
+    fn feed_first(&mut self, session: &Session, bytes: &[u8], entry: &mut Entry) -> LogStep
         requires few { self.old.used + length bytes.now ≤ LONGEST_LOG }
         requires good { self.old.fault ≡ None }
-        ensures so { IsFedSo result.what result.used self.new }
-        ensures step { (f : LogFeeding) → IsFeedOf self.old f → f.fault ≡ None → f.owner ≡ None → IsStepOf self.new result (S.first_fed session.now f bytes.now) }
+        ensures so { IsFedSo (D.what_as result.what entry.new) result.used self.new }
+        ensures step { (f : LogFeeding) → IsFeedOf self.old f → f.fault ≡ None → f.owner ≡ None → IsStepOf self.new (fed_as result entry.new) (S.first_fed session.now f bytes.now) }
         ensures within { result.used ≤ length bytes.now }
         ensures used { self.new.used ≡ self.old.used + result.used }
     {
         match bytes {
-            [] => LogFed {
+            [] => LogStep {
                 used: 0,
-                what: LogFedWhat::More,
+                what: LogStepWhat::More,
             },
             [owner, rest @ ..] => {
                 if *owner >= session.players() {
@@ -239,36 +302,71 @@ impl LogFeed {
                     return self.fail(1, Fault::BadEntry(0));
                 }
                 self.begin(*owner);
-                let fed = self.feed_entry(session, *owner, rest);
-                LogFed {
-                    used: fed.used + 1,
-                    what: fed.what,
+                let step = self.feed_entry(session, *owner, rest, &[], entry);
+                LogStep {
+                    used: step.used + 1,
+                    what: step.what,
                 }
             }
         }
     }
 
-    /// Reads on, or answers the fault that was met.
+    /// Reads on, or answers the fault that was met. `joined` is empty, or the bytes with the 32 before them.
     #[tactic(auto, unfolding(crate::specs::Feeding::fed_step))]
     #[inline(always)]
-    fn feed_on(&mut self, session: &Session, bytes: &[u8]) -> LogFed
-        requires { self.old.used + length bytes.now ≤ LONGEST_LOG }
-        ensures step { (f : LogFeeding) → IsFeedOf self.old f → IsStepOf self.new result (S.fed_step session.now f bytes.now) }
+    fn feed_on(
+        &mut self,
+        session: &Session,
+        bytes: &[u8],
+        joined: &[u8],
+        entry: &mut Entry,
+    ) -> LogStep
+        requires few { self.old.used + length bytes.now ≤ LONGEST_LOG }
+        requires joined { 32 ≤ length joined.now → drop 32 joined.now ≡ bytes.now }
+        ensures step { (f : LogFeeding) → IsFeedOf self.old f → IsStepOf self.new (fed_as result entry.new) (S.fed_step session.now f bytes.now) }
         ensures within { result.used ≤ length bytes.now }
         ensures used { self.new.used ≡ self.old.used + result.used }
-        ensures still { IfSome self.old.fault (λ x. (result ≡ record { used = 0; what = S.what_of x }) × (self.new ≡ self.old)) }
-        ensures so { IsFedSo result.what result.used self.new }
+        ensures still { IfSome self.old.fault (λ x. (fed_as result entry.new ≡ record { used = 0; what = S.what_of x }) × (self.new ≡ self.old)) }
+        ensures so { IsFedSo (D.what_as result.what entry.new) result.used self.new }
     {
         if let Some(fault) = self.fault {
-            return LogFed {
+            return LogStep {
                 used: 0,
                 what: what_of(fault),
             };
         }
         match self.owner {
-            None => self.feed_first(session, bytes),
-            Some(owner) => self.feed_entry(session, owner, bytes),
+            None => self.feed_first(session, bytes, entry),
+            Some(owner) => self.feed_entry(session, owner, bytes, joined, entry),
         }
+    }
+
+    /// As [`LogFeed::feed`] with the bytes of a piece from a place on, but an entry that is found is written to `entry`, and no answer has
+    /// to hand it on: a reader of long logs takes it from there. Where none is found, `entry` says nothing. The bytes before the place
+    /// change nothing of that: they are looked at where they may be the digest to which the next entry is chained, since all then stands in one
+    /// piece and is hashed at once.
+    #[inline(always)]
+    pub fn feed_at(
+        &mut self,
+        session: &Session,
+        piece: &[u8],
+        at: usize,
+        entry: &mut Entry,
+    ) -> LogStep
+        requires at { at ≤ length piece.now }
+        requires few { self.old.used + (length piece.now - at) ≤ LONGEST_LOG }
+        ensures step { (f : LogFeeding) → IsFeedOf self.old f → IsStepOf self.new (fed_as result entry.new) (S.fed_step session.now f (drop at piece.now)) }
+        ensures within { at + result.used ≤ length piece.now }
+        ensures used { self.new.used ≡ self.old.used + result.used }
+        ensures still { IfSome self.old.fault (λ x. (fed_as result entry.new ≡ record { used = 0; what = S.what_of x }) × (self.new ≡ self.old)) }
+        ensures so { IsFedSo (D.what_as result.what entry.new) result.used self.new }
+
+        // What the bytes give is what was found, and then what the rest of them gives.
+        ensures rest { (f : LogFeeding) → IsFeedOf self.old f → IsGivenFirst session.now f (drop at piece.now) (fed_as result entry.new) }
+    {
+        // less than an entry is held
+        let _ = &self.part;
+        self.feed_on(session, &piece[at..], joined_at(piece, at), entry)
     }
 
     /// Reads on in the log with these bytes, up to the end of the first entry that ends in them.
@@ -276,7 +374,6 @@ impl LogFeed {
     /// Entry, BadChain and BadEntry come with the entry's last byte, BadEntry of 0 also with an owner's byte that is no player's
     /// number, and `used` counts the bytes up to that one: the rest is to be fed next. More comes where all bytes are used and
     /// none of these comes. After a fault each feed answers it again, and uses nothing. A log has at most `LONGEST_LOG` bytes.
-    #[inline(always)]
     pub fn feed(&mut self, session: &Session, bytes: &[u8]) -> LogFed
         requires { self.old.used + length bytes.now ≤ LONGEST_LOG }
         ensures step { (f : LogFeeding) → IsFeedOf self.old f → IsStepOf self.new result (S.fed_step session.now f bytes.now) }
@@ -288,9 +385,12 @@ impl LogFeed {
         // What the bytes give is what was found, and then what the rest of them gives.
         ensures rest { (f : LogFeeding) → IsFeedOf self.old f → IsGivenFirst session.now f bytes.now result }
     {
-        // less than an entry is held
-        let _ = &self.part;
-        self.feed_on(session, bytes)
+        let mut entry = NO_ENTRY;
+        let step = self.feed_at(session, bytes, 0, &mut entry);
+        LogFed {
+            used: step.used,
+            what: what_as(step.what, entry),
+        }
     }
 
     /// How the log ends if no more bytes come: End behind an entry or where no byte came, Torn with the place where the entry

@@ -1,13 +1,13 @@
 //! What stands where an entry of a log begins.
 
-ghost use Rattle.std.specs.Prelude.{◌≡◌, ◌+◌, ◌≤◌, false, length, take, drop, bytes_eq};
+ghost use Rattle.std.specs.Prelude.{◌≡◌, ◌+◌, ◌≤◌, ℕ, List, false, length, take, drop, bytes_eq};
 ghost use Rattle.definitions.specs.Entries as D;
 ghost use Rattle.definitions.specs.Logs.{player_of, turn_of};
 ghost use Rattle.session_log.specs.Spelling as S;
 ghost use Rattle.session_log.specs.Entries as E;
 ghost use Rattle.session_log.specs.Finding as F;
 
-use crate::entries::{read_entry, told_len};
+use crate::entries::{NO_ENTRY, read_into, told_len};
 use byte_fields::take_array;
 use definitions::{Entry, PlayerId, Turn, TurnFrame};
 use grid_world::Session;
@@ -21,6 +21,14 @@ pub(crate) enum Found {
     BadChain,
     BadEntry,
     Whole(Entry, usize, [u8; 32]),
+}
+
+/// What a whole entry is, which stands in the room that was given for it.
+#[derive(Clone, Copy)]
+pub(crate) enum Met {
+    BadChain,
+    BadEntry,
+    Whole,
 }
 
 /// The session's id with the owner's byte, to which the first entry is chained.
@@ -84,9 +92,17 @@ fn is_well_formed(session: &Session, owner: PlayerId, entry: &Entry) -> bool
     }
 }
 
-/// The entry that a text spells, where the owner's log may have it.
+/// Reads the entry that a text spells to `out`, and says whether it spells one that the owner's log may have: else `out` says
+/// nothing.
 #[inline(always)]
-pub(crate) fn owned_by(
+pub(crate) fn read_owned(session: &Session, owner: PlayerId, text: &[u8], out: &mut Entry) -> bool
+    ensures { (count : ℕ) (digest : List ℕ) → F.owned_by session.now owner (E.entry_of text.now) count digest ≡ F.owned_as result out.new count digest }
+{
+    read_into(text, out) && is_well_formed(session, owner, out)
+}
+
+/// The entry that a text spells, where the owner's log may have it.
+fn owned_by(
     session: &Session,
     owner: PlayerId,
     text: &[u8],
@@ -95,15 +111,11 @@ pub(crate) fn owned_by(
 ) -> Found
     ensures { result ≡ F.owned_by session.now owner (E.entry_of text.now) count digest }
 {
-    match read_entry(text) {
-        None => Found::BadEntry,
-        Some(entry) => {
-            if is_well_formed(session, owner, &entry) {
-                Found::Whole(entry, count, digest)
-            } else {
-                Found::BadEntry
-            }
-        }
+    let mut entry = NO_ENTRY;
+    if read_owned(session, owner, text, &mut entry) {
+        Found::Whole(entry, count, digest)
+    } else {
+        Found::BadEntry
     }
 }
 
@@ -129,8 +141,7 @@ pub(crate) fn entry_at(session: &Session, owner: PlayerId, chain: &[u8], bytes: 
 }
 
 /// What the whole entry is at the front of the bytes, whose text should have this digest.
-#[inline(always)]
-pub(crate) fn found_by(session: &Session, owner: PlayerId, bytes: &[u8], hash: &[u8; 32]) -> Found
+fn found_by(session: &Session, owner: PlayerId, bytes: &[u8], hash: &[u8; 32]) -> Found
     requires { F.is_torn bytes.now ≡ false }
     ensures found { result ≡ F.found_by session.now owner bytes.now hash.now }
     ensures within { F.IsWithin (length bytes.now) result }
@@ -144,7 +155,8 @@ pub(crate) fn found_by(session: &Session, owner: PlayerId, bytes: &[u8], hash: &
 }
 
 /// The 32 bytes from this one on.
-fn digest_at(bytes: &[u8], at: usize) -> [u8; 32]
+#[inline(always)]
+pub(crate) fn digest_at(bytes: &[u8], at: usize) -> [u8; 32]
     requires { at + 32 ≤ length bytes.now }
     ensures { result ≡ take 32 (drop at bytes.now) }
 {

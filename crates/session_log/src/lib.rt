@@ -21,7 +21,7 @@ mod tests;
 mod writer;
 
 pub use definitions::Entry;
-pub use entries::read_entry;
-pub use feed::{LogFed, LogFedWhat, LogFeed};
+pub use entries::{NO_ENTRY, read_entry};
+pub use feed::{LogFed, LogFedWhat, LogFeed, LogStep, LogStepWhat};
 pub use reader::{LogReader, Next};
 pub use writer::LogWriter;

@@ -1,21 +1,26 @@
 //! The entry of a log that is begun, as its bytes come: what a good one needs of them, and a hash of the rest.
 
-ghost use Rattle.std.specs.Prelude.{◌≡◌, ◌+◌, ◌-◌, ◌<◌, ◌≤◌, ◌^◌, ◌++◌, ◌&&◌, ℕ, List, [], false, length, min, take, ◌==◌};
+ghost use Rattle.std.specs.Prelude.{◌≡◌, ◌+◌, ◌-◌, ◌<◌, ◌≤◌, ◌^◌, ◌++◌, ℕ, List, [], false, true, length, min, take, drop, ◌==◌};
 ghost use Rattle.sha2.specs.Hashers.{Holds256};
 ghost use Rattle.sha2.specs.Sha256.{sha256};
+ghost use Rattle.session_log.specs.Entries as E;
 ghost use Rattle.session_log.specs.Finding as F;
-ghost use Rattle.session_log.specs.Parts.{HoldsPart, HoldsText, lacked};
+ghost use Rattle.session_log.specs.Spelling as S;
+ghost use Rattle.session_log.specs.Parts.{HoldsBegun, HoldsPart, HoldsText, lacked};
 
 use crate::entries::told_len;
-use crate::finding::{Found, found_by, owned_by, same_digest};
+use crate::finding::{Met, chained, digest_at, read_owned, same_digest};
 use byte_fields::put_slice;
-use definitions::PlayerId;
+use definitions::{Entry, PlayerId};
 use grid_world::Session;
 use sha2::{Digest as _, Sha256};
 use std::mem;
 
 /// The bytes of an entry that came so far: its text, of which the first 64 bytes are kept, since no good one is longer, and
 /// its digest. The hasher has what the entry is chained to, and then the text.
+///
+/// A fresh one has nothing of an entry that is chained to the digest. Nothing is hashed for it, so that an entry that comes whole costs
+/// no more than its hash.
 #[derive(Drop)]
 pub(crate) struct Part {
     kept: [u8; 64],
@@ -23,6 +28,7 @@ pub(crate) struct Part {
     digest: [u8; 32],
     digest_len: usize,
     hasher: Sha256,
+    fresh: bool,
 }
 
 /// Writes as many of the bytes as have room behind the first ones kept.
@@ -56,6 +62,27 @@ impl Part {
             digest: [0; 32],
             digest_len: 0,
             hasher,
+            fresh: false,
+        }
+    }
+
+    /// Whether nothing of the entry came, and the digest is the one to which it is chained.
+    pub(crate) fn is_fresh(&self) -> bool
+        ensures { result ≡ self.now.fresh }
+    {
+        self.fresh
+    }
+
+    /// Hashes the digest to which a fresh one is chained.
+    fn begin(&mut self)
+        ensures part { (chain held : List ℕ) → HoldsPart self.old chain held → HoldsBegun self.new chain held }
+        ensures digest_len { self.new.digest_len ≡ self.old.digest_len }
+        ensures fresh { self.new.fresh ≡ false }
+    {
+        if self.fresh {
+            self.hasher = Sha256::new();
+            hash_on(&mut self.hasher, &self.digest);
+            self.fresh = false;
         }
     }
 
@@ -64,6 +91,7 @@ impl Part {
         ensures part { (chain : List ℕ) → HoldsPart self.old chain [] → HoldsPart self.new (chain ++ bytes.now) [] }
         ensures digest { self.new.digest_len ≡ self.old.digest_len }
     {
+        self.begin();
         hash_on(&mut self.hasher, bytes);
     }
 
@@ -74,6 +102,7 @@ impl Part {
         ensures len { self.new.text_len ≡ self.old.text_len + length bytes.now }
         ensures digest { self.new.digest ≡ self.old.digest }
         ensures digest_len { self.new.digest_len ≡ self.old.digest_len }
+        ensures fresh { self.new.fresh ≡ self.old.fresh }
     {
         hash_on(&mut self.hasher, bytes);
         keep(&mut self.kept, self.text_len, bytes);
@@ -86,6 +115,7 @@ impl Part {
         ensures text { (chain text : List ℕ) → HoldsText self.old chain text → HoldsText self.new chain (text ++ take result bytes.now) }
         ensures digest { self.new.digest ≡ self.old.digest }
         ensures digest_len { self.new.digest_len ≡ self.old.digest_len }
+        ensures fresh { self.new.fresh ≡ self.old.fresh }
     {
         let count = end.saturating_sub(self.text_len).min(bytes.len());
         self.add_text(&bytes[..count]);
@@ -99,6 +129,7 @@ impl Part {
         ensures text { (chain text : List ℕ) → HoldsText self.old chain text → HoldsText self.new chain text }
         ensures digest { take self.new.digest_len self.new.digest ≡ take self.old.digest_len self.old.digest ++ take result bytes.now }
         ensures digest_len { self.new.digest_len ≡ self.old.digest_len + result }
+        ensures fresh { self.new.fresh ≡ self.old.fresh }
     {
         let count = bytes.len().min(32 - self.digest_len);
         put_slice(&mut self.digest, self.digest_len, &bytes[..count]);
@@ -113,7 +144,9 @@ impl Part {
         ensures within { result ≤ length bytes.now }
         ensures digest { self.new.digest_len ≤ 32 }
         ensures grown { self.new.digest_len ≤ self.old.digest_len + result }
+        ensures begun { self.new.fresh ≡ false }
     {
+        self.begin();
         let head = self.take_text(2, bytes);
         let rest = &bytes[head..];
         let end = told_len(&self.kept) + 3;
@@ -128,75 +161,83 @@ impl Part {
         self.digest_len == 32
     }
 
-    /// The digest that the entry should have. The hasher goes on with the one that it has.
-    fn hash_anew(&mut self) -> [u8; 32]
+    /// The digest that the entry should have. The hasher has nothing then.
+    fn hash(&mut self) -> [u8; 32]
         ensures hash { (message : List ℕ) → Holds256 self.old.hasher message → result ≡ sha256 message }
-        ensures hasher { Holds256 self.new.hasher self.old.digest }
         ensures others { self.new ≡ record self.old { hasher = self.new.hasher } }
     {
-        let hasher = mem::replace(&mut self.hasher, Sha256::new());
-        hash_on(&mut self.hasher, &self.digest);
-        hasher.finalize()
+        mem::replace(&mut self.hasher, Sha256::new()).finalize()
     }
 
-    /// Whether nothing of the entry came yet.
-    pub(crate) fn is_bare(&self) -> bool
-        ensures { result ≡ ((self.now.text_len == 0) && (self.now.digest_len == 0)) }
-    {
-        self.text_len == 0 && self.digest_len == 0
-    }
-
-    /// The digest that this text should have, of which nothing came yet. The hasher goes on with the other one.
-    fn hash_text(&mut self, text: &[u8], digest: &[u8]) -> [u8; 32]
-        ensures hash { (message : List ℕ) → Holds256 self.old.hasher message → result ≡ sha256 (message ++ text.now) }
-        ensures hasher { Holds256 self.new.hasher digest.now }
-        ensures others { self.new ≡ record self.old { hasher = self.new.hasher } }
-    {
-        hash_on(&mut self.hasher, text);
-        let hasher = mem::replace(&mut self.hasher, Sha256::new());
-        hash_on(&mut self.hasher, digest);
-        hasher.finalize()
-    }
-
-    /// What the whole entry is at the front of the bytes, of which nothing came before: it is read where it stands, and nothing of it
-    /// is kept. The next one is chained to its digest, and nothing of that came yet.
+    /// The digest that chains the bytes before this place to the digest that is held. `joined` is empty, or the bytes with the 32 before
+    /// them: where those are the digest, as they are behind an entry that came whole, all stands in one piece and is hashed in one.
     #[inline(always)]
-    pub(crate) fn take_whole(&mut self, session: &Session, owner: PlayerId, bytes: &[u8]) -> Found
-        requires text { self.old.text_len ≡ 0 }
-        requires digest { self.old.digest_len ≡ 0 }
+    fn hash_front(&self, bytes: &[u8], joined: &[u8], end: usize) -> [u8; 32]
+        requires end { end ≤ length bytes.now }
+        requires joined { 32 ≤ length joined.now → drop 32 joined.now ≡ bytes.now }
+        ensures { result ≡ S.chained self.now.digest (take end bytes.now) }
+    {
+        if joined.len() >= 32 && same_digest(&digest_at(joined, 0), &self.digest) {
+            Sha256::digest(&joined[..32 + end])
+        } else {
+            chained(&self.digest, &bytes[..end])
+        }
+    }
+
+    /// What the whole entry is at the front of the bytes, where this is fresh: it is read where it stands, and only its digest is kept.
+    /// The next one is chained to that, and nothing of it came yet. `joined` is empty, or the bytes with the 32 before them.
+    #[inline(always)]
+    pub(crate) fn take_whole(
+        &mut self,
+        session: &Session,
+        owner: PlayerId,
+        bytes: &[u8],
+        joined: &[u8],
+        out: &mut Entry,
+    ) -> Met
+        requires fresh { self.old.fresh ≡ true }
+        requires joined { 32 ≤ length joined.now → drop 32 joined.now ≡ bytes.now }
         requires whole { F.is_torn bytes.now ≡ false }
-        ensures found { (chain : List ℕ) → HoldsPart self.old chain [] → result ≡ F.entry_at session.now owner chain bytes.now }
+        ensures found { (chain : List ℕ) → HoldsPart self.old chain [] → F.found_as result out.new (E.told_len bytes.now + 35) (F.digest_at bytes.now) ≡ F.entry_at session.now owner chain bytes.now }
         ensures part { (chain : List ℕ) → HoldsPart self.old chain [] → HoldsPart self.new (F.digest_at bytes.now) [] }
-        ensures digest { self.new.digest_len ≡ 0 }
+        ensures digest { self.new.digest_len ≡ self.old.digest_len }
     {
         let end = told_len(bytes) + 3;
-        let hash = self.hash_text(&bytes[..end], &bytes[end..end + 32]);
-        found_by(session, owner, bytes, &hash)
+        let hash = self.hash_front(bytes, joined, end);
+        self.digest = digest_at(bytes, end);
+        if !same_digest(&self.digest, &hash) {
+            return Met::BadChain;
+        }
+        if read_owned(session, owner, &bytes[..end], out) {
+            Met::Whole
+        } else {
+            Met::BadEntry
+        }
     }
 
     /// What the entry is that came whole. The next one is chained to its digest, and nothing of that came yet.
-    pub(crate) fn close(&mut self, session: &Session, owner: PlayerId) -> Found
-        requires { self.old.digest_len ≡ 32 }
-        ensures found { (chain held : List ℕ) → HoldsPart self.old chain held → result ≡ F.entry_at session.now owner chain held }
+    pub(crate) fn close(&mut self, session: &Session, owner: PlayerId, out: &mut Entry) -> Met
+        requires whole { self.old.digest_len ≡ 32 }
+        requires begun { self.old.fresh ≡ false }
+        ensures found { (chain held : List ℕ) → HoldsPart self.old chain held → F.found_as result out.new (self.old.text_len + 32) self.old.digest ≡ F.entry_at session.now owner chain held }
         ensures part { (chain held : List ℕ) → HoldsPart self.old chain held → HoldsPart self.new (F.digest_at held) [] }
         ensures digest { self.new.digest_len ≡ 0 }
     {
         let text_len = self.text_len;
-        let hash = self.hash_anew();
+        let hash = self.hash();
         self.text_len = 0;
         self.digest_len = 0;
+        self.fresh = true;
         if !same_digest(&self.digest, &hash) {
-            return Found::BadChain;
+            return Met::BadChain;
         }
         if text_len > 64 {
-            return Found::BadEntry;
+            return Met::BadEntry;
         }
-        owned_by(
-            session,
-            owner,
-            &self.kept[..text_len],
-            text_len + 32,
-            self.digest,
-        )
+        if read_owned(session, owner, &self.kept[..text_len], out) {
+            Met::Whole
+        } else {
+            Met::BadEntry
+        }
     }
 }
