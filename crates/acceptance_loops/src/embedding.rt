@@ -3,13 +3,13 @@
 ghost use Rattle.std.specs.Prelude.{◌≡◌, None};
 ghost use Rattle.ready_loop.specs.Settling.{IsReady};
 ghost use Rattle.std.proofs.Props.{props};
-ghost use Rattle.acceptance_loops.specs.Props.{EachIs-prop, DiffersBy-prop};
+ghost use Rattle.acceptance_nets.specs.Props.{EachIs-prop, DiffersBy-prop};
 
-use crate::audits::is_clean;
 use crate::engines::{Engine, Link};
-use crate::grounds::{FAR, roster_of, session_of};
-use crate::setups::{STAY_0, STAY_9, script_of};
-use crate::sides::{begin, loop_of, play_round};
+use acceptance_nets::audits::is_clean;
+use acceptance_nets::grounds::{FAR, roster_of, session_of};
+use acceptance_nets::setups::{STAY_0, STAY_9, script_of};
+use acceptance_nets::sides::{begin, loop_of, play_round};
 use definitions::PlayerId;
 use grid_world::Session;
 use peer_core::Peer;

@@ -1,22 +1,18 @@
-//! Loops of players over stations in memory, as tests: whole matches, one over an engine's own station, and a pilot's move that is not legal.
+//! Loops of players over stations in memory, as tests: whole matches, one over an engine's own station, a pilot's move that is not legal,
+//! floods, breaches, links that are lost, stations that fail, and runs that are stopped and go on. The harness is that of `acceptance_nets`.
 //!
-//! A side is a loop with its station, and a harness carries what is given on one socket to the other side of it, as a network would. The harness
-//! is a library, by which other crates of tests make their matches. It promises that it is safe, and that a side whose run has not ended is
-//! ready for a further round, and touches memory alone.
+//! A library without functions of its own: everything in it is a test.
 #![tactic(auto)]
 
-pub mod audits;
 #[cfg(test)]
 mod embedding;
 #[cfg(test)]
 mod engines;
-pub mod greets;
-pub mod grounds;
-pub mod heard;
+#[cfg(test)]
+mod floods;
 #[cfg(test)]
 mod matches;
-pub mod nets;
-pub mod setups;
-pub mod sides;
+#[cfg(test)]
+mod stops;
 #[cfg(test)]
 mod words;

@@ -1,11 +1,11 @@
 //! Whole matches, with every byte carried from station to station.
 
-use crate::audits::{heard_truly, is_clean};
-use crate::greets::put_made_from;
-use crate::grounds::{FAR, FOUR, NEAR, THREE, session_of};
-use crate::nets::Net;
-use crate::setups::{STAY_0, STAY_9, alone, net_of, script_of};
-use crate::sides::{NARROW, Player, WIDE};
+use acceptance_nets::audits::{heard_truly, is_clean};
+use acceptance_nets::greets::put_made_from;
+use acceptance_nets::grounds::{FAR, FOUR, NEAR, THREE, session_of};
+use acceptance_nets::nets::Net;
+use acceptance_nets::setups::{STAY_0, STAY_9, alone, net_of, script_of};
+use acceptance_nets::sides::{NARROW, Player, WIDE};
 use definitions::{Need, PlayerId, What};
 use grid_world::Session;
 use peer_core::Peer;

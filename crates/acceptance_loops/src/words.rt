@@ -1,9 +1,9 @@
 //! A pilot's move that is not legal.
 
-use crate::grounds::{FAR, session_of};
-use crate::nets::Net;
-use crate::setups::{alone, script_of};
-use crate::sides::{NARROW, Player};
+use acceptance_nets::grounds::{FAR, session_of};
+use acceptance_nets::nets::Net;
+use acceptance_nets::setups::{alone, script_of};
+use acceptance_nets::sides::{NARROW, Player};
 use definitions::{Cell, MoveFault, Track};
 use grid_world::Session;
 use peer_core::Peer;

@@ -12,8 +12,6 @@ pub mod laws;
 pub mod limits;
 mod lines;
 mod printing;
-#[cfg(test)]
-mod tests;
 pub mod words;
 
 pub use auditing::put_audit;

@@ -18,8 +18,6 @@ mod frames;
 mod reading;
 mod report;
 mod taking;
-#[cfg(test)]
-mod tests;
 mod turns;
 mod world;
 

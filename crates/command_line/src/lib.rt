@@ -12,8 +12,6 @@ mod commands;
 pub mod limits;
 mod lines;
 mod names;
-#[cfg(test)]
-mod tests;
 mod words;
 
 pub use lines::{CommandLine, split};

@@ -11,8 +11,6 @@
 mod growth;
 mod standing;
 mod steps;
-#[cfg(test)]
-mod tests;
 
 pub use standing::Dilation;
 pub use steps::Steps;

@@ -16,8 +16,6 @@ mod judging;
 pub mod laws;
 mod printing;
 mod reading;
-#[cfg(test)]
-mod tests;
 
 pub use definitions::{Kind, PlayerId, Turn, TurnFrame};
 pub use exhibit::{Exhibit, FrameList};

@@ -13,8 +13,8 @@
 //! allocator that it was made with, and takes from it the memory for what it keeps; all other calls say in their parameters where
 //! memory comes from. A want of memory changes nothing that the index promises. Nothing outside is touched.
 //!
-//! What looks through the frames that are kept of a turn stands open in [`least`] and [`judged`], for callers who keep such frames
-//! themselves.
+//! What looks through the frames that are kept of a turn stands open in [`least`], [`pairs`] and [`judged`], for callers who keep
+//! such frames themselves.
 #![tactic(auto)]
 
 mod clashes;
@@ -28,14 +28,12 @@ mod kept;
 pub mod least;
 mod limits;
 mod listing;
-mod pairs;
+pub mod pairs;
 mod plain;
 mod rows;
 mod seen;
 mod spot_list;
 mod spots;
-#[cfg(test)]
-mod tests;
 
 pub use common::{Chosen, common_moves};
 pub use definitions::{Digest, Finding, Kind, Spot, TurnFrame};

@@ -56,14 +56,14 @@ fn collision_pair(seen: &[Seen]) -> Option<(Spot, Spot)>
 
 /// The spots of the finding that a player committed to a turn twice, where each different frame of the turn is kept with
 /// its first spot in each log that got it, in any order.
-pub(crate) fn two_commits(seen: &[Seen]) -> Option<(Spot, Spot)>
+pub fn two_commits(seen: &[Seen]) -> Option<(Spot, Spot)>
     ensures { (game : Game) (logs : List (List Entry)) (q t : ℕ) → Keeps game q t logs seen.now → finding_by q t Kind.TwoCommits result ≡ finding_at game logs q t Kind.TwoCommits }
 {
     two_commits_pair(seen)
 }
 
 /// The spots of the finding that a frame of a turn opens another digest.
-pub(crate) fn bad_opening(seen: &[Seen]) -> Option<(Spot, Spot)>
+pub fn bad_opening(seen: &[Seen]) -> Option<(Spot, Spot)>
     ensures { (game : Game) (logs : List (List Entry)) (q t : ℕ) → Keeps game q t logs seen.now → finding_by q t Kind.BadOpening result ≡ finding_at game logs q t Kind.BadOpening }
 {
     bad_opening_pair(seen)
@@ -75,7 +75,7 @@ const FEW: usize = 64;
 
 /// The spots of the finding that two openings of a turn have one digest. Where many frames are kept the time stays linear, but
 /// for a turn of which two different reveals do have one digest; the table for it takes memory from `alloc`.
-pub(crate) fn collision(alloc: Global, seen: &[Seen]) -> Result<Option<(Spot, Spot)>, AllocError>
+pub fn collision(alloc: Global, seen: &[Seen]) -> Result<Option<(Spot, Spot)>, AllocError>
     ensures { IfOk result (λ pair. (game : Game) (logs : List (List Entry)) (q t : ℕ) → Keeps game q t logs seen.now → finding_by q t Kind.Collision pair ≡ finding_at game logs q t Kind.Collision) }
 {
     if seen.len() > FEW && are_apart(alloc, seen)? {

@@ -9,8 +9,6 @@
 mod pieces;
 mod several;
 mod taking;
-#[cfg(test)]
-mod tests;
 
 pub use auditor::Auditor;
 pub use definitions::LogWhy;

@@ -15,8 +15,6 @@ mod lines;
 mod making;
 pub mod playing;
 pub mod summary;
-#[cfg(test)]
-mod tests;
 mod words;
 
 pub use counts::Counts;

@@ -14,6 +14,3 @@ mod rows;
 mod table;
 
 pub use memory::MemoryStation;
-
-#[cfg(test)]
-mod tests;

@@ -10,8 +10,6 @@
 mod ends;
 mod lines;
 mod playing;
-#[cfg(test)]
-mod tests;
 mod words;
 
 pub use playing::play_peer;

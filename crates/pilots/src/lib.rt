@@ -17,11 +17,7 @@ mod making;
 mod moves;
 mod pilot;
 mod script;
-#[cfg(test)]
-mod script_tests;
 mod sizes;
-#[cfg(test)]
-mod tests;
 
 pub use bot::BotPilot;
 pub use definitions::{Move, Track, Turn};

@@ -9,8 +9,6 @@
 mod hits;
 pub mod laws;
 mod standing;
-#[cfg(test)]
-mod tests;
 mod turns;
 
 pub use definitions::{Move, PlayerId, Track};

@@ -13,8 +13,6 @@ pub mod laws;
 mod limits;
 mod reading;
 mod roster;
-#[cfg(test)]
-mod tests;
 
 pub use addr::Addr;
 pub use definitions::PlayerId;

@@ -14,10 +14,6 @@ mod stands;
 mod steps;
 mod table;
 mod tallies;
-#[cfg(test)]
-mod tests;
-#[cfg(test)]
-mod whole_matches;
 
 pub use definitions::{Entry, GotAnswer, Move, Nonce, OwnFault, Place, PlayerId, Turn, TurnFrame};
 pub use peer_core::Choice;

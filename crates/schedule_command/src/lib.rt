@@ -15,8 +15,6 @@ mod lines;
 mod opening;
 pub mod playing;
 mod telling;
-#[cfg(test)]
-mod tests;
 pub mod words;
 
 pub use grammar::{ScheduleLine, read_line, read_step};

@@ -16,8 +16,6 @@ mod finding;
 pub mod laws;
 mod part;
 mod reader;
-#[cfg(test)]
-mod tests;
 mod writer;
 
 pub use definitions::Entry;

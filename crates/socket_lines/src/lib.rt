@@ -19,6 +19,3 @@ pub use limits::{HELLO_BYTES, MOST_ACCEPTED, MOST_BYTES, MOST_WANTS};
 pub use line::Line;
 pub use seat::Seat;
 pub use unsent::Unsent;
-
-#[cfg(test)]
-mod tests;

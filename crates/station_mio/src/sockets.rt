@@ -43,9 +43,10 @@ enum Backlog {
     Refused,
 }
 
-/// Sockets, and their readiness.
+/// Sockets of the machine, and their readiness: one that listens, and at most 512 that were accepted or dialled, each under a number,
+/// from 0 on, that no other one has had.
 #[derive(Drop)]
-pub(crate) struct Sockets<R> {
+pub struct Sockets<R> {
     pub(crate) machine: R,
     poll: Option<Poll>,
     events: Events,
@@ -188,8 +189,8 @@ fn drain_all(rows: &mut Vec<Row>) {
 }
 
 impl<R: Net + Clock + Drop> Sockets<R> {
-    /// Takes all the memory. The machine is asked for nothing yet.
-    pub(crate) fn new(alloc: Global, machine: R) -> Result<Sockets<R>, AllocError>
+    /// Takes all the memory, and an error comes where that is wanting. The machine is asked for nothing yet.
+    pub fn new(alloc: Global, machine: R) -> Result<Sockets<R>, AllocError>
         ensures { IfOk result (λ l. l.next ≡ 0) }
     {
         Ok(Sockets {
@@ -204,8 +205,8 @@ impl<R: Net + Clock + Drop> Sockets<R> {
         })
     }
 
-    /// Accepts connections at this address from now on.
-    pub(crate) fn listen(&mut self, addr: Addr) -> io::Result<()>
+    /// Accepts connections at this address from now on. The machine's error comes where it refuses that.
+    pub fn listen(&mut self, addr: Addr) -> io::Result<()>
         ensures { self.new.next ≡ self.old.next }
     {
         let poll = selector(&self.machine, &mut self.poll)?;
@@ -262,7 +263,7 @@ impl<R: Net + Clock + Drop> Sockets<R> {
     }
 
     /// Opens a socket to the address: at once, or, where that player was dialled within the last tenth of a second, when that is over.
-    pub(crate) fn dial(&mut self, player: PlayerId, addr: Addr) -> Dial
+    pub fn dial(&mut self, player: PlayerId, addr: Addr) -> Dial
         ensures { DialsBetween self.old.next self.new.next result }
     {
         if !self.has_room() {
@@ -380,7 +381,7 @@ impl<R: Net + Clock + Drop> Sockets<R> {
     }
 
     /// Waits at most a tenth of a second, and lists new sockets and those that may be ready.
-    pub(crate) fn poll(&mut self, ready: &mut ReadyList) -> Did
+    pub fn poll(&mut self, ready: &mut ReadyList) -> Did
         ensures { OpensBetween self.old.next self.new.next ready.new }
     {
         ready.clear();
@@ -394,8 +395,8 @@ impl<R: Net + Clock + Drop> Sockets<R> {
         Did::Done
     }
 
-    /// Takes what came on a socket. One that ends or fails is closed.
-    pub(crate) fn read(&mut self, socket: SocketId, buf: &mut [u8]) -> SocketRead
+    /// Takes what came on a socket. One that ends or fails is closed, and behind that, as on a number that no socket has, it fails.
+    pub fn read(&mut self, socket: SocketId, buf: &mut [u8]) -> SocketRead
         ensures within { TakesWithin result buf.new }
         ensures next { self.new.next ≡ self.old.next }
     {
@@ -415,8 +416,9 @@ impl<R: Net + Clock + Drop> Sockets<R> {
         read
     }
 
-    /// Gives the first of these bytes on a socket. One that fails is closed.
-    pub(crate) fn write(&mut self, socket: SocketId, bytes: &[u8]) -> SocketWrite
+    /// Gives the first of these bytes on a socket. One that fails is closed, and behind that, as on a number that no socket has, it
+    /// fails.
+    pub fn write(&mut self, socket: SocketId, bytes: &[u8]) -> SocketWrite
         ensures within { GivesWithin result bytes.now }
         ensures next { self.new.next ≡ self.old.next }
     {
@@ -436,7 +438,7 @@ impl<R: Net + Clock + Drop> Sockets<R> {
     }
 
     /// Sends no more, and waits until the others have ended too, so that what was given is read by them. That takes a second at most.
-    pub(crate) fn finish(&mut self)
+    pub fn finish(&mut self)
         ensures { self.new.next ≡ self.old.next }
     {
         self.listener = None;
@@ -454,8 +456,8 @@ impl<R: Net + Clock + Drop> Sockets<R> {
         }
     }
 
-    /// Closes a socket.
-    pub(crate) fn shut(&mut self, socket: SocketId)
+    /// Closes a socket, if there is one of this number.
+    pub fn shut(&mut self, socket: SocketId)
         ensures next { self.new.next ≡ self.old.next }
         ensures one { IfSome (position (λ row. row.number == socket) self.old.rows.items) (λ i. length self.new.rows.items + 1 ≡ length self.old.rows.items) }
     {

@@ -38,8 +38,6 @@
 
 mod audits;
 pub mod laws;
-#[cfg(test)]
-mod tests;
 mod text;
 
 pub use auditor::{Exhibit, Finding, MOST_LOGS, PlayerId, Report, WorldLine};

@@ -1,0 +1,5 @@
+//! Runs over sockets in memory.
+
+mod dialled;
+mod peers;
+mod runs;

@@ -1,0 +1,5 @@
+//! Matches over the machine's sockets.
+
+mod fields;
+mod matches;
+mod runs;

@@ -1,4 +1,0 @@
-//! The machine's sockets and files, which no contract speaks of.
-
-mod logs;
-mod loopback;
