@@ -62,13 +62,20 @@ def turns_taken(kind):
 # the frames that log number `log` of its owner got, each with the player from whom it came
 def frames(kind, identity, players, turns, owner, log, entries):
     nonce = bytes(32)
+    others = [q for q in range(players) if q != owner]
     if kind == "honest":
-        # all others stay in every turn
-        for q in range(players):
-            if q != owner:
-                for t in range(turns):
-                    yield q, commit(q, t, opened(identity, q, t, q, nonce))
-                    yield q, reveal(q, t, q, nonce)
+        # all others stay in every turn, and one of them after the other tells all of them: the frames of a turn stand far apart
+        for q in others:
+            for t in range(turns):
+                yield q, commit(q, t, opened(identity, q, t, q, nonce))
+                yield q, reveal(q, t, q, nonce)
+    elif kind == "turns":
+        # the same frames in the order in which a match in step brings them: of each turn all commitments, and then all reveals
+        for t in range(turns):
+            for q in others:
+                yield q, commit(q, t, opened(identity, q, t, q, nonce))
+            for q in others:
+                yield q, reveal(q, t, q, nonce)
     elif kind == "commitments":
         # different commitments of one turn, other ones in each log
         for i in range(entries):
@@ -104,7 +111,7 @@ def main():
     with open(os.path.join(folder, "session"), "wb") as out:
         out.write(text)
     for log in range(logs):
-        owner = log if kind == "honest" else 0 if kind in ("colliding", "spread") else log % 15
+        owner = log if kind in ("honest", "turns") else 0 if kind in ("colliding", "spread") else log % 15
         chain = identity + bytes([owner])
         parts = [bytes([owner])]
         for player, frame in frames(kind, identity, players, turns, owner, log, entries):

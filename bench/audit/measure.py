@@ -1,6 +1,6 @@
 # Measures audits for bench/audit.sh: measure.py PROGRAM HASHES RUNS CASE.., each case 'KIND LOGS ENTRIES'. The cases' logs are all written
 # before, and their audits run in turn; of each the least processor seconds count, and the most memory. HASHES is the program that does no more
-# than hash what the logs' chains hash; of honest logs the ratio of its seconds and the audit's is told.
+# than hash what the logs' chains hash; of honest logs, in either order of their frames, the ratio of its seconds and the audit's is told.
 import os
 import subprocess
 import sys
@@ -53,7 +53,7 @@ def main():
             for number, (kind, logs, entries) in enumerate(cases):
                 names = [str(log) for log in range(int(logs))]
                 told[number].append(audited(program, folders[kind, entries], names))
-                if kind == "honest":
+                if kind in ("honest", "turns"):
                     alone[number].append(hashed(hashes, folders[kind, entries], names))
         for (kind, logs, entries), runs_of, hashing in zip(cases, told, alone):
             size = sum(os.path.getsize(os.path.join(folders[kind, entries], str(log))) for log in range(int(logs)))

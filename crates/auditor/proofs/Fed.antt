@@ -1,7 +1,11 @@
 -- Fed: entries that a feed gives, and logs with several entries more.
-use Rattle.std.proofs.Common.{List, Some, [], ap, append_assoc, drop, refl, subst, sym, true, ℕ, ◌++◌, ◌∙◌, ◌∷◌, ◌≡◌, Option}
+use Rattle.std.proofs.Common.{List, Some, [], ap, append-nil, append_assoc, drop, refl, subst, sym, true, ℕ, ◌++◌, ◌∙◌, ◌∷◌, ◌≡◌, ◌+◌, ◌<◌, ◌≤◌, arith, get_or, inl, inr, length, set, suc, take}
 use Rattle.std.specs.Prelude.{◌&&◌, ◌==◌, Err, Ok, OnErr, Result, nat_lt, not}
-use Rattle.std.proofs.lemmas.Bool.{and_parts}
+use Rattle.std.specs.List.{list_all}
+use Rattle.std.proofs.lemmas.Bool.{and_parts, cases_lt}
+use Rattle.std.proofs.Math.Seq.{take-suc}
+use Rattle.std.proofs.lemmas.List.{take_more_set}
+use Rattle.std.proofs.lemmas.List.Folds.{list_all-append}
 use Rattle.definitions.specs.declared.logs.Entry.{Entry}
 use Rattle.definitions.specs.declared.logs.Entry.TheVariants.{Chose, Made, Got}
 use Rattle.definitions.specs.World.{Game, players_of}
@@ -14,7 +18,7 @@ use Rattle.session_log.specs.Feeding.{LogFeeding, LogGiven, fed_step, given_of}
 use Rattle.session_log.specs.Fed.{Fed, IsFeedOf}
 use Rattle.session_log.proofs.FedWell.{fed_well}
 use Rattle.auditor.specs.Audits.{IsAuditOf, is_of_its_sender}
-use Rattle.auditor.specs.Taking.{Takes, TakesNext, given_behind, with_entries}
+use Rattle.auditor.specs.Taking.{ReadsAll, ReadsOn, Takes, TakesAll, TakesFront, TakesOn, TakesSome, given_behind, with_entries}
 use Rattle.auditor.specs.declared.auditor.Auditor.{Auditor}
 
 -- what holds holds on an error
@@ -45,21 +49,88 @@ behind_more es more g h e =
     let put : List Entry → LogGiven = λ xs. record { entries = xs; feeding = g.feeding } in
     ap (given_behind es) e ∙ ap put (sym (append_assoc es more g.entries))
 
+-- the first entries, and one more
+pub take_one_more : (es : List Entry) (i : ℕ) (d : Entry) → i < length es → take (i + 1) es ≡ take i es ++ get_or es i d ∷ []
+take_one_more es i d lt = subst (λ (n : ℕ). take n es ≡ take i es ++ get_or es i d ∷ []) (let e : suc i ≡ i + 1 = omega arith in e) (take-suc es i d lt)
+
+-- ---- entries that are read one behind the other
+
+-- what was read first, and then what was read behind it
+pub reads_more : (game : Game) (r r' r'' : Fed) (bytes rest left : List ℕ) (es more : List Entry) → ReadsOn game r r' bytes rest es → ReadsOn game r' r'' rest left more → ReadsOn game r r'' bytes left (es ++ more)
+reads_more game r r' r'' bytes rest left es more one two f is =
+    let first = one f is in
+    let second = two first.0 first.1 in (
+      second.0,
+      second.1,
+      first.2 ∙ behind_more es more (given_of game second.0 left) (given_of game first.0 rest) second.2,
+    )
+
+-- what was read first, and then nothing more
+pub reads_end : (game : Game) (r r' r'' : Fed) (bytes rest : List ℕ) (es : List Entry) → ReadsOn game r r' bytes rest es → ReadsAll game r' r'' rest [] → ReadsAll game r r'' bytes es
+reads_end game r r' r'' bytes rest es one two f is =
+    let first = one f is in
+    let second = two first.0 first.1 in (
+      ap (λ (g : LogGiven). g.entries) first.2 ∙ ap (λ (xs : List Entry). es ++ xs) second.0 ∙ append-nil es,
+      subst (λ (g : LogFeeding). IsFeedOf r'' g) (sym (ap (λ (g : LogGiven). g.feeding) first.2)) second.1,
+    )
+
+-- and so one entry more, where each of them is of its sender
+pub all_more : (room : List Entry) (i : ℕ) (e : Entry) → i < length room → list_all is_of_its_sender (take i room) ≡ true → is_of_its_sender e ≡ true → list_all is_of_its_sender (take (i + 1) (set room i e)) ≡ true
+all_more room i e lt all is =
+    let more : list_all is_of_its_sender (take i room ++ e ∷ []) ≡ true = grind (arith, list_all-append is_of_its_sender (take i room) (e ∷ []), all, is) in
+    subst (λ (es : List Entry). list_all is_of_its_sender es ≡ true) (sym (take_more_set room i e lt)) more
+
+-- ---- entries that are taken
+
+-- where a batch was read, and the first of its entries were taken, these are the first that the bytes give
+pub front_of_read : (game : Game) (old now next : Auditor) (log : ℕ) (r r' : Fed) (f : LogFeeding) (bytes rest : List ℕ) (count many : ℕ) (es : List Entry) → IsFeedOf r f → count ≤ many → (count ≡ many → ReadsOn game r r' bytes rest es) →
+    (count < many → ReadsAll game r r' bytes es) → Takes old now log [] → TakesFront now next log es → TakesSome game old next log bytes f
+front_of_read game old now next log r r' f bytes rest count many es is fits full all none some =
+    elim (cases_lt count many) [
+      | inl few ↦ record {
+        front = some.front;
+        behind = some.behind;
+        parts = (all few f is).0 ∙ some.parts;
+        taken = λ g logs w. some.taken g logs (none g logs w);
+      }
+      | inr le ↦ let on = full (omega arith) f is in record {
+        front = some.front;
+        behind = some.behind ++ (given_of game on.0 rest).entries;
+        parts = ap (λ (g : LogGiven). g.entries) on.2 ∙ ap (λ (xs : List Entry). xs ++ (given_of game on.0 rest).entries) some.parts ∙ append_assoc some.front some.behind (given_of game on.0 rest).entries;
+        taken = λ g logs w. some.taken g logs (none g logs w);
+      }
+    ]
+
+-- of all that the bytes give these were taken, and of what is left the first
+pub takes_some : (game : Game) (old now next : Auditor) (log : ℕ) (bytes rest : List ℕ) (f g : LogFeeding) (es : List Entry) → given_of game f bytes ≡ given_behind es (given_of game g rest) → Takes old now log es →
+    TakesSome game now next log rest g → TakesSome game old next log bytes f
+takes_some game old now next log bytes rest f g es e one some = record {
+  front = es ++ some.front;
+  behind = some.behind;
+  parts = ap (λ (x : LogGiven). x.entries) e ∙ ap (λ (xs : List Entry). es ++ xs) some.parts ∙ sym (append_assoc es some.front some.behind);
+  taken = takes_more old now next log es some.front one some.taken;
+}
+
+-- of all that the bytes give these were taken, and of what is left all
+pub takes_all : (game : Game) (old now next : Auditor) (log : ℕ) (r r' r'' : Fed) (bytes rest : List ℕ) (f g : LogFeeding) (es : List Entry) → given_of game f bytes ≡ given_behind es (given_of game g rest) → Takes old now log es →
+    TakesAll game now next log r' r'' rest g → TakesAll game old next log r r'' bytes f
+takes_all game old now next log r r' r'' bytes rest f g es e one all = record {
+  feed = subst (λ (x : LogFeeding). IsFeedOf r'' x) (sym (ap (λ (x : LogGiven). x.feeding) e)) all.feed;
+  taken = subst (λ (xs : List Entry). Takes old next log xs) (sym (ap (λ (x : LogGiven). x.entries) e)) (takes_more old now next log es (given_of game g rest).entries one all.taken);
+}
+
 -- so far these entries were taken, and what is left gives the rest
 abbrev pub IsSoFar : Game → (old now : Auditor) → ℕ → Fed → (f : LogFeeding) → (bytes rest : List ℕ) → Type 0
 IsSoFar game old now log r f bytes rest = (g : LogFeeding) × (es : List Entry) × IsFeedOf r g × (given_of game f bytes ≡ given_behind es (given_of game g rest)) × Takes old now log es
 
--- and so with one entry more
-pub so_on : (game here : Game) (old now next : Auditor) (log : ℕ) (r r' : Fed) (f : LogFeeding) (bytes rest left : List ℕ) (used : ℕ) (o : Option ℕ) → here ≡ game → o ≡ Some used → drop used rest ≡ left →
-    TakesNext here now next log r r' rest o → IsSoFar game old now log r f bytes rest → IsSoFar game old next log r' f bytes left
-so_on game here old now next log r r' f bytes rest left used o same is cut takes so =
-    subst (IsSoFar game old next log r' f bytes) cut (
-    let one : TakesNext game now next log r r' rest (Some used) =
-    subst (λ (g : Game). TakesNext g now next log r r' rest (Some used)) same (subst (TakesNext here now next log r r' rest) is takes) in
-    let n = one so.0 so.2 in (
+-- and so with those of a batch more
+pub so_on : (game : Game) (old now next : Auditor) (log : ℕ) (r r' : Fed) (f : LogFeeding) (bytes piece : List ℕ) (at to : ℕ) → TakesOn game now next log r r' piece at (Some to) → IsSoFar game old now log r f bytes (drop at piece) →
+    IsSoFar game old next log r' f bytes (drop to piece)
+so_on game old now next log r r' f bytes piece at to takes so =
+    let n = takes so.0 so.2 in (
       n.1,
-      so.1 ++ n.0 ∷ [],
+      so.1 ++ n.0,
       n.2,
-      so.3 ∙ behind_more so.1 (n.0 ∷ []) (given_of game n.1 (drop used rest)) (given_of game so.0 rest) n.3,
-      takes_more old now next log so.1 (n.0 ∷ []) so.4 n.4,
-    ))
+      so.3 ∙ behind_more so.1 n.0 (given_of game n.1 (drop to piece)) (given_of game so.0 (drop at piece)) n.3,
+      takes_more old now next log so.1 n.0 so.4 n.4,
+    )

@@ -30,22 +30,32 @@ pub record IsFeeding (a : Auditor) (log : ℕ) (r : Fed) : Type 0 where
 abbrev pub LeavesOthers : (before now : Auditor) → ℕ → Type 0
 LeavesOthers before now log = (i : ℕ) → (i ≡ log → ⊥) → (count_in now i ≡ count_in before i) × (owner_in now i ≡ owner_in before i)
 
--- An entry ended with so many of the bytes and was taken, and what else they give is what the rest of them gives; or none ended, and
--- the feed has come as far as the bytes go.
-abbrev pub TakesNext : Game → (before now : Auditor) → ℕ → (r r' : Fed) → List ℕ → Option ℕ → Type 0
-TakesNext game before now log r r' bytes None =
-    (f : LogFeeding) → IsFeedOf r f → (given_of game f bytes).entries ≡ [] × IsFeedOf r' (given_of game f bytes).feeding × Takes before now log []
-TakesNext game before now log r r' bytes (Some used) =
-    (f : LogFeeding) → IsFeedOf r f → (e : Entry) × (f' : LogFeeding) × IsFeedOf r' f' × (given_of game f bytes ≡ given_behind (e ∷ []) (given_of game f' (drop used bytes))) × Takes before now log (e ∷ [])
+-- What the bytes give is these entries, and then what the rest of them gives.
+abbrev pub ReadsOn : Game → (r r' : Fed) → (bytes rest : List ℕ) → List Entry → Type 0
+ReadsOn game r r' bytes rest es = (f : LogFeeding) → IsFeedOf r f → (f' : LogFeeding) × IsFeedOf r' f' × (given_of game f bytes ≡ given_behind es (given_of game f' rest))
+
+-- These entries are all that the bytes give, and the feed has come as far as they go.
+abbrev pub ReadsAll : Game → (r r' : Fed) → List ℕ → List Entry → Type 0
+ReadsAll game r r' bytes es = (f : LogFeeding) → IsFeedOf r f → ((given_of game f bytes).entries ≡ es) × IsFeedOf r' (given_of game f bytes).feeding
 
 -- All entries that the bytes give were taken, and the feed has come as far as they go.
 pub record TakesAll (game : Game) (before now : Auditor) (log : ℕ) (r r' : Fed) (bytes : List ℕ) (f : LogFeeding) : Type 0 where
   pub feed : IsFeedOf r' (given_of game f bytes).feeding
   pub taken : Takes before now log (given_of game f bytes).entries
 
--- The first of them were taken.
-pub record TakesSome (game : Game) (before now : Auditor) (log : ℕ) (bytes : List ℕ) (f : LogFeeding) : Type 0 where
+-- The first of the entries were taken.
+pub record TakesFront (before now : Auditor) (log : ℕ) (es : List Entry) : Type 0 where
   pub front : List Entry
   pub behind : List Entry
-  pub parts : (given_of game f bytes).entries ≡ front ++ behind
+  pub parts : es ≡ front ++ behind
   pub taken : Takes before now log front
+
+-- The first of the entries that the bytes give were taken.
+abbrev pub TakesSome : Game → (before now : Auditor) → ℕ → List ℕ → LogFeeding → Type 0
+TakesSome game before now log bytes f = TakesFront before now log (given_of game f bytes).entries
+
+-- The first entries that the bytes give were taken, and what else they give is what those behind this place give; or all were taken.
+abbrev pub TakesOn : Game → (before now : Auditor) → ℕ → (r r' : Fed) → List ℕ → ℕ → Option ℕ → Type 0
+TakesOn game before now log r r' piece at None = (f : LogFeeding) → IsFeedOf r f → TakesAll game before now log r r' (drop at piece) f
+TakesOn game before now log r r' piece at (Some next) =
+    (f : LogFeeding) → IsFeedOf r f → (es : List Entry) × (f' : LogFeeding) × IsFeedOf r' f' × (given_of game f (drop at piece) ≡ given_behind es (given_of game f' (drop next piece))) × Takes before now log es

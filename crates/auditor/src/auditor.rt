@@ -1,6 +1,6 @@
 //! The auditor, and the entries that it takes.
 //!
-//! What hands an entry on is inlined, here and in [`crate::taking`]: each entry of each log goes through it.
+//! What hands an entry on is inlined, here and in [`crate::batches`]: each entry of each log goes through it.
 
 ghost use Rattle.std.specs.Prelude.{◌≡◌, ◌<◌, ◌+◌, ℕ, List, [], None, Some, slice_get, length, replicate, IfOk, OnOk, OnErr, IsTrue};
 ghost use Rattle.definitions.specs.declared.logs.Entry.{Entry};

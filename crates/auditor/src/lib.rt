@@ -12,6 +12,7 @@
 
 mod agreed;
 mod auditor;
+mod batches;
 mod common;
 mod exhibit;
 mod frames;

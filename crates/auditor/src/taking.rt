@@ -1,17 +1,22 @@
 //! The entries of a log that comes in pieces.
 
-ghost use Rattle.std.specs.Prelude.{◌≡◌, ◌<◌, ◌≤◌, ◌+◌, ◌-◌, ℕ, [], None, Some, drop, length, IfOk, IfSome, OnOk, OnErr};
+ghost use Rattle.std.specs.Prelude.{◌≡◌, ◌<◌, ◌≤◌, ◌+◌, ◌-◌, ℕ, [], drop, length, IfOk, IfSome, IsTrue, OnOk, OnErr};
+ghost use Rattle.std.specs.List.{list_all};
 ghost use Rattle.session_log.specs.Fed.{IsFeedOf};
 ghost use Rattle.session_log.specs.Feeding.{LogFeeding};
-ghost use Rattle.auditor.specs.Audits.{count_in, owner_in};
+ghost use Rattle.auditor.specs.Audits.{count_in, is_of_its_sender, owner_in};
 ghost use Rattle.auditor.specs.Taking as T;
 
 use crate::auditor::Auditor;
+use crate::batches::read_batch;
 use definitions::limits::LONGEST_LOG;
 use definitions::{Entry, PlayerId};
 use frame_index::MOST_LOGS;
-use session_log::{LogFeed, LogStepWhat, NO_ENTRY};
+use session_log::{LogFeed, NO_ENTRY};
 use std::alloc::AllocError;
+
+/// As many entries are read before they are taken.
+const BATCH: usize = 64;
 
 impl Auditor {
     /// The log is this player's, or its owner isn't known.
@@ -26,39 +31,56 @@ impl Auditor {
         self.owners[log as usize] = owner;
     }
 
-    /// Feeds the bytes of the piece from this place on, up to the end of the first entry that ends in them, and takes that entry: with how
-    /// many bytes it ended, where one did. The entry is read to its room, and taken from there.
-    #[inline(always)]
+    /// Takes entries of the log one behind the other.
+    fn take_batch(&mut self, log: u32, batch: &[Entry]) -> Result<(), AllocError>
+        requires log { log < MOST_LOGS }
+        requires few { count_in self.old log + length batch.now ≤ LONGEST_LOG }
+        requires sent { IsTrue (list_all is_of_its_sender batch.now) }
+        ensures all { OnOk result (T.Takes self.old self.new log batch.now) }
+        ensures some { OnErr result (T.TakesFront self.old self.new log batch.now) }
+        ensures count { OnOk result (count_in self.new log ≡ count_in self.old log + length batch.now) }
+        ensures session { self.new.session ≡ self.old.session }
+        ensures owner { owner_in self.new log ≡ owner_in self.old log }
+        ensures others { T.LeavesOthers self.old self.new log }
+    {
+        'entries: for entry in batch {
+            self.take(log, entry)?;
+        }
+        Ok(())
+    }
+
+    /// Feeds the bytes of the piece from this place on, and takes the entries that end in them, as many as the room has places for: the place
+    /// behind them, or none where these were all.
     fn take_next(
         &mut self,
         log: u32,
         feed: &mut LogFeed,
         piece: &[u8],
         at: usize,
-        entry: &mut Entry,
+        room: &mut [Entry],
     ) -> Result<Option<usize>, AllocError>
         requires log { log < MOST_LOGS }
         requires at { at ≤ length piece.now }
         requires few { feed.old.used + (length piece.now - at) ≤ LONGEST_LOG }
         requires feeding { T.IsFeeding self.old log feed.old }
-        ensures next { IfOk result (λ used. T.TakesNext self.old.session self.old self.new log feed.old feed.new (drop at piece.now) used) }
-        ensures used { IfOk result (λ o. IfSome o (λ used. (0 < used) × (at + used ≤ length piece.now) × (feed.new.used ≡ feed.old.used + used))) }
+        requires room { 0 < length room.old }
+        ensures next { IfOk result (λ o. T.TakesOn self.old.session self.old self.new log feed.old feed.new piece.now at o) }
+        ensures some { OnErr result ((f : LogFeeding) → IsFeedOf feed.old f → T.TakesSome self.old.session self.old self.new log (drop at piece.now) f) }
+        ensures used { IfOk result (λ o. IfSome o (λ next. (at < next) × (next ≤ length piece.now) × (feed.new.used ≡ feed.old.used + (next - at)))) }
         ensures within { feed.new.used ≤ feed.old.used + (length piece.now - at) }
         ensures feeding { OnOk result (T.IsFeeding self.new log feed.new) }
-        ensures err { OnErr result (T.Takes self.old self.new log []) }
         ensures session { self.new.session ≡ self.old.session }
         ensures owner { owner_in self.new log ≡ feed.new.owner }
         ensures others { T.LeavesOthers self.old self.new log }
+        ensures room { length room.new ≡ length room.old }
     {
-        let step = feed.feed_at(&self.session, piece, at, entry);
+        let batch = read_batch(&self.session, feed, piece, at, room);
         self.note_owner(log, feed.owner());
-        match step.what {
-            LogStepWhat::Entry => {
-                self.take(log, entry)?;
-                Ok(Some(step.used))
-            }
-            _ => Ok(None),
+        self.take_batch(log, &room[..batch.count])?;
+        if batch.count < room.len() {
+            return Ok(None);
         }
+        Ok(Some(batch.at))
     }
 
     /// Takes the bytes of the log that come next, as they are fed to the log's feed: the auditor stands for the logs with the entries
@@ -78,13 +100,13 @@ impl Auditor {
         ensures within { feed.new.used ≤ feed.old.used + length bytes.now }
         ensures feeding { OnOk result (T.IsFeeding self.new log feed.new) }
         ensures session { self.new.session ≡ self.old.session }
-        ensures owner { OnOk result (owner_in self.new log ≡ feed.new.owner) }
+        ensures owner { owner_in self.new log ≡ feed.new.owner }
         ensures others { T.LeavesOthers self.old self.new log }
     {
-        let mut entry = NO_ENTRY;
+        let mut room = [NO_ENTRY; BATCH];
         let mut at = 0;
-        while let Some(used) = self.take_next(log, feed, bytes, at, &mut entry)? {
-            at += used;
+        'batches: while let Some(next) = self.take_next(log, feed, bytes, at, &mut room)? {
+            at = next;
         }
         Ok(())
     }

@@ -14,12 +14,15 @@ use std::collections::BTreeMap;
 use std::marker::Model;
 use streams::is_commit;
 
-/// A frame that logs got, its digest, and its first spot in each log that got it.
+/// A frame that logs got, its first spot in each log that got it, and its digest.
+///
+/// The digest stands last: a frame that is known is found by comparing it, and its spots are noted, so that the digest is not read then. What
+/// is read lies in a row.
 #[derive(Drop)]
 pub(crate) struct KeptFrame {
     pub frame: TurnFrame,
-    pub digest: Digest,
     pub spots: Spots,
+    pub digest: Digest,
 }
 
 /// By what a frame is looked for among many of its turn: its digest, and whether it is a commitment. Keys are compared and never
@@ -157,8 +160,8 @@ fn first_kept(
     spots.note(spot)?;
     Ok(KeptFrame {
         frame: *frame,
-        digest,
         spots,
+        digest,
     })
 }
 

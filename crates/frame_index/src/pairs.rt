@@ -74,7 +74,7 @@ pub fn bad_opening(seen: &[Seen]) -> Option<(Spot, Spot)>
 const FEW: usize = 64;
 
 /// The spots of the finding that two openings of a turn have one digest. Where many frames are kept the time stays linear, but
-/// for a turn of which two different reveals do have one digest; the table for it takes memory from `alloc`.
+/// for a turn of which two different reveals do have one digest; the table for it takes memory from `alloc`. An error comes where that has none.
 pub fn collision(alloc: Global, seen: &[Seen]) -> Result<Option<(Spot, Spot)>, AllocError>
     ensures { IfOk result (λ pair. (game : Game) (logs : List (List Entry)) (q t : ℕ) → Keeps game q t logs seen.now → finding_by q t Kind.Collision pair ≡ finding_at game logs q t Kind.Collision) }
 {

@@ -8,8 +8,8 @@ use definitions::Spot;
 use std::alloc::{AllocError, Global};
 use std::marker::Model;
 
-/// As many spots as stand in the list itself.
-const FEW: usize = 4;
+/// As many spots as stand in the list itself: a match of eight is audited without any more memory.
+const FEW: usize = 8;
 
 /// For as many more room is made when they don't fit any longer.
 const ROOM: usize = 16;
@@ -20,8 +20,8 @@ const BLANK: Spot = Spot { log: 0, entry: 0 };
 /// At most `FEW` spots.
 #[derive(Drop)]
 struct FewSpots {
-    items: [Spot; FEW],
     count: usize,
+    items: [Spot; FEW],
 }
 
 impl Model for FewSpots {
@@ -42,8 +42,8 @@ impl FewSpots {
         ensures { result ≡ [] }
     {
         FewSpots {
-            items: [BLANK; FEW],
             count: 0,
+            items: [BLANK; FEW],
         }
     }
 

@@ -12,9 +12,9 @@ use std::marker::Model;
 /// Spots of which no two are in one log, in the order in which they came.
 #[derive(Drop)]
 pub(crate) struct Spots {
-    list: SpotList,
     // no log that has a spot is above it: logs mostly come one behind the other, and then none has to be looked for
     top: u32,
+    list: SpotList,
 }
 
 impl Model for Spots {
@@ -40,8 +40,8 @@ impl Spots {
         ensures { result.items ≡ [] }
     {
         Spots {
-            list: SpotList::new(alloc),
             top: 0,
+            list: SpotList::new(alloc),
         }
     }
 

@@ -1,27 +1,19 @@
-use Rattle.std.proofs.Common.{ap, drop, sym, ◌∙◌}
-use Rattle.session_log.specs.declared.feed.LogFed.{LogFed}
-use Rattle.session_log.specs.declared.feed.LogStepWhat.{LogStepWhat}
-use Rattle.session_log.specs.Fed.{what_as}
-use Rattle.session_log.specs.Feeding.{LogFeeding, fed_step, given_of, given_on}
-use Rattle.auditor.proofs.Fed.{fed_sent}
+use Rattle.std.proofs.Common.{List, drop, subst, sym, ◌<◌}
+use Rattle.definitions.specs.declared.logs.Entry.{Entry}
+use Rattle.auditor.specs.Taking.{Takes}
+use Rattle.auditor.proofs.Fed.{front_of_read, on_err_always}
 use Rattle.auditor.proofs.auditor.Auditor.take_next.Goals as goal
 
-pub take-requires-clause-sender : goal.take-requires-clause-sender
-take-requires-clause-sender c =
-    let stands = c.requires.feeding.stands in
-    let step = c.feed_at-step.ensures.step stands.0 stands.1 in
-    let entry = c.feed_at-step.new.entry in
-    fed_sent c.args.self.now.session stands.0 (drop c.args.at c.args.piece.now) entry (ap (λ (x : LogFed). x.what) (sym step.answer) ∙ ap (λ (w : LogStepWhat). what_as w entry) c.in-Entry.is)
+pub returns-in_err-take_batch-clause-some : goal.returns-in_err-take_batch-clause-some
+returns-in_err-take_batch-clause-some c = on_err_always c.from_residual.result (λ f is.
+    front_of_read c.args.self.now.session c.args.self.now c.note_owner.new.self c.take_batch.new.self c.args.log c.args.feed.now c.read_batch-batch.new.feed f (drop c.args.at c.args.piece.now) _ c.read_batch-batch.result.count _ _ is
+    c.read_batch-batch.ensures.fits.1 c.read_batch-batch.ensures.full c.read_batch-batch.ensures.all c.note_owner.ensures.stands c.in_err-take_batch.ensures.some)
 
-pub returns-in_ok-take-in-Entry-clause-next : goal.returns-in_ok-take-in-Entry-clause-next
-returns-in_ok-take-in-Entry-clause-next c = λ f is.
-    let step = c.feed_at-step.ensures.step f is in
-    let entry = c.feed_at-step.new.entry in
-    let next : LogFeeding = (fed_step c.args.self.now.session f (drop c.args.at c.args.piece.now)).feeding in
-    let left = drop c.feed_at-step.result.used (drop c.args.at c.args.piece.now) in (
-      entry,
-      next,
-      step.feed,
-      c.feed_at-step.ensures.rest f is ∙ ap (λ (w : LogStepWhat). given_on (what_as w entry) next (given_of c.args.self.now.session next left)) c.in-Entry.is,
-      λ game logs w. c.in_ok-take-in-Entry.ensures.stands game logs (c.note_owner.ensures.stands game logs w),
-    )
+pub returns-then-batch-room-clause-next : goal.returns-then-batch-room-clause-next
+returns-then-batch-room-clause-next c = λ f is.
+    let few = c.if-batch-room.true in
+    let all = c.read_batch-batch.ensures.all (subst (λ n. c.read_batch-batch.result.count < n) c.read_batch-batch.ensures.fits.0 few) f is in
+    record {
+      feed = all.1;
+      taken = subst (λ (es : List Entry). Takes c.args.self.now c.take_batch.new.self c.args.log es) (sym all.0) (λ game logs w. c.in_ok-take_batch.ensures.all game logs (c.note_owner.ensures.stands game logs w));
+    }
