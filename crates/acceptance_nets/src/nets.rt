@@ -1,6 +1,6 @@
 //! A network between the sides of a match: it carries what is given on one socket to the socket at its other end.
 
-use crate::sides::Player;
+use crate::sides::{Player, SocketEvent};
 use definitions::PlayerId;
 use pilots::Pilot;
 use ready_loop::Ended;
@@ -90,18 +90,17 @@ impl Net {
         }
     }
 
-    /// A socket of the player ends behind what was brought.
-    fn finish(&mut self, player: PlayerId, socket: SocketId) {
+    /// This happens to a socket of the player.
+    fn happen(&mut self, player: PlayerId, socket: SocketId, event: SocketEvent) {
         if let Some(side) = self.side_mut(player) {
-            side.finish(socket);
+            side.happen(socket, event);
         }
     }
 
-    /// A socket of the player seems ready.
-    fn seem(&mut self, player: PlayerId, socket: SocketId) {
-        if let Some(side) = self.side_mut(player) {
-            side.seem_ready(socket);
-        }
+    /// This happens to both sockets of a link.
+    fn happen_to(&mut self, wire: Wire, event: SocketEvent) {
+        self.happen(wire.from, wire.near, event);
+        self.happen(wire.to, wire.far, event);
     }
 
     /// How the player's run ended, if it did.
@@ -236,8 +235,7 @@ impl Net {
             return;
         };
         if !wire.is_over {
-            self.finish(wire.from, wire.near);
-            self.finish(wire.to, wire.far);
+            self.happen_to(wire, SocketEvent::Ends);
             self.put(
                 place,
                 Wire {
@@ -269,18 +267,12 @@ impl Net {
         Ok(())
     }
 
-    /// Both sockets of the link of this place seem ready.
-    fn seem_met(&mut self, place: usize) {
-        if let Some(wire) = self.wires.get(place).copied() {
-            self.seem(wire.from, wire.near);
-            self.seem(wire.to, wire.far);
-        }
-    }
-
     /// Each socket of a link seems ready.
     pub fn seem_ready(&mut self) {
         for place in 0..self.wires.len() {
-            self.seem_met(place);
+            if let Some(wire) = self.wires.get(place).copied() {
+                self.happen_to(wire, SocketEvent::SeemsReady);
+            }
         }
     }
 

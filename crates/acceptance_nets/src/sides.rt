@@ -54,6 +54,15 @@ pub const WIDEST: Room = Room {
     bytes: 17_000_000,
 };
 
+/// What happens to a socket besides bytes that come.
+#[derive(Clone, Copy, Debug, PartialEq, Eq)]
+pub enum SocketEvent {
+    /// It ends behind what was brought.
+    Ends,
+    /// The next poll lists it, whatever comes.
+    SeemsReady,
+}
+
 /// What a side is made of.
 #[derive(Clone, Copy)]
 pub struct Made<'a> {
@@ -286,17 +295,14 @@ impl Player {
         Ok(())
     }
 
-    /// The socket ends behind what was brought.
-    pub fn finish(&mut self, socket: SocketId) {
-        if self.station.inner.is_known(socket) {
-            self.station.inner.finish(socket);
-        }
-    }
-
-    /// The socket seems ready.
-    pub fn seem_ready(&mut self, socket: SocketId) {
-        if self.station.inner.is_known(socket) {
-            self.station.inner.seem_ready(socket);
+    /// This happens to the socket, if there is one of that number.
+    pub fn happen(&mut self, socket: SocketId, event: SocketEvent) {
+        let station = &mut self.station.inner;
+        if station.is_known(socket) {
+            match event {
+                SocketEvent::Ends => station.finish(socket),
+                SocketEvent::SeemsReady => station.seem_ready(socket),
+            }
         }
     }
 

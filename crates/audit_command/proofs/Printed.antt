@@ -3,18 +3,15 @@ use Rattle.std.proofs.Common.{◌≡◌, ℕ, suc, ◌+◌, ◌<◌, List, [], �
 use Rattle.std.proofs.lemmas.List.{take-append-drop, take-append-le}
 use Rattle.std.proofs.Math.Seq.{drop-append_seam, take-append_seam}
 use Rattle.definitions.specs.declared.findings.Kind.TheVariants.{TwoCommits}
-use Rattle.definitions.specs.Lists.{EachIs}
 use Rattle.std.specs.Prelude.{Result, Err}
 use Rattle.definitions.specs.declared.logs.Entry.{Entry}
 use Rattle.definitions.specs.declared.findings.Finding.{Finding}
 use Rattle.definitions.specs.World.{Game}
-use Rattle.definitions.proofs.Items.{item_is}
 use Rattle.station.specs.Sinks.{SinkState, after_bytes}
 use Rattle.line_io.specs.Texts.{Puts, Underway}
 use Rattle.line_io.specs.declared.texts.Written.{Written}
 use Rattle.run_frame.specs.Frame.{Answer, Lacked, Ran}
 use Rattle.line_io.proofs.Writing.{bytes_both, underway_on}
-use Rattle.auditor.proofs.Worlds.{each_item}
 use Rattle.audit_command.specs.Audit.{all_found_text, found_text, status_by}
 use Rattle.audit_command.specs.Printing.{IsBegun, Prints}
 
@@ -64,10 +61,6 @@ pub found_next : (game : Game) (logs : List (List Entry)) (fs : List Finding) (i
 found_next game logs fs i lt =
     let at : suc i ≡ i + 1 = omega arith in
     ap (all_found_text game logs) (drop-cons fs i no_finding lt) ∙ ap (λ n. all_found_text game logs (get_or fs i no_finding ∷ drop n fs)) at ∙ found_more game logs (get_or fs i no_finding) (drop (i + 1) fs)
-
--- the fact holds of the item at this place
-pub each_at : {X : Type 0} (P : X → Type 0) (xs : List X) (i : ℕ) (d : X) → i < length xs → EachIs P xs → P (get_or xs i d)
-each_at P xs i d lt each = subst P (sym (item_is xs i d)) (each_item P xs i d each lt)
 
 pub found_none : (game : Game) (logs : List (List Entry)) → all_found_text game logs [] ≡ []
 unfolding all_found_text

@@ -1,5 +1,5 @@
 -- Fed: entries that a feed gives, and logs with several entries more.
-use Rattle.std.proofs.Common.{List, Some, [], ap, append-nil, append_assoc, drop, refl, subst, sym, true, ℕ, ◌++◌, ◌∙◌, ◌∷◌, ◌≡◌, ◌+◌, ◌<◌, ◌≤◌, arith, get_or, inl, inr, length, set, suc, take}
+use Rattle.std.proofs.Common.{List, Some, [], ap, append_assoc, drop, refl, subst, sym, true, ℕ, ◌++◌, ◌∙◌, ◌∷◌, ◌≡◌, ◌+◌, ◌<◌, ◌≤◌, arith, get_or, inl, inr, length, set, suc, take}
 use Rattle.std.specs.Prelude.{◌&&◌, ◌==◌, Err, Ok, OnErr, Result, nat_lt, not}
 use Rattle.std.specs.List.{list_all}
 use Rattle.std.proofs.lemmas.Bool.{and_parts, cases_lt}
@@ -63,15 +63,6 @@ reads_more game r r' r'' bytes rest left es more one two f is =
       second.0,
       second.1,
       first.2 ∙ behind_more es more (given_of game second.0 left) (given_of game first.0 rest) second.2,
-    )
-
--- what was read first, and then nothing more
-pub reads_end : (game : Game) (r r' r'' : Fed) (bytes rest : List ℕ) (es : List Entry) → ReadsOn game r r' bytes rest es → ReadsAll game r' r'' rest [] → ReadsAll game r r'' bytes es
-reads_end game r r' r'' bytes rest es one two f is =
-    let first = one f is in
-    let second = two first.0 first.1 in (
-      ap (λ (g : LogGiven). g.entries) first.2 ∙ ap (λ (xs : List Entry). es ++ xs) second.0 ∙ append-nil es,
-      subst (λ (g : LogFeeding). IsFeedOf r'' g) (sym (ap (λ (g : LogGiven). g.feeding) first.2)) second.1,
     )
 
 -- and so one entry more, where each of them is of its sender

@@ -5,6 +5,7 @@ use Rattle.std.specs.List.{cons_option, list_all, range_with_len}
 use Rattle.std.proofs.lemmas.Bool.{and_parts, eqb-true}
 use Rattle.std.proofs.lemmas.List.{length-map}
 use Rattle.std.proofs.Math.ListN.{get_or-map}
+use Rattle.plain_lemmas.proofs.Each.{each_get}
 use Rattle.definitions.specs.declared.world.Cell.{Cell}
 use Rattle.definitions.specs.declared.world.Move.{Move}
 use Rattle.definitions.specs.declared.world.MoveFault.{MoveFault}
@@ -32,12 +33,6 @@ use Rattle.auditor.specs.Agreed.{agreed_moves, all_agreed_moves, are_whole, line
 use Rattle.auditor.specs.Played.{AreLegalIfWhole, AreOpen, line_at, moves_at}
 use Rattle.auditor.proofs.Agreeing.{whole_legal}
 use Rattle.auditor.proofs.Picked.{length_range}
-
--- the fact holds of the item at this place
-pub each_item : {X : Type 0} (P : X → Type 0) (xs : List X) (i : ℕ) (d : X) → EachIs P xs → i < length xs → P (item_or xs i d)
-each_item P [] i d each lt = absurd (omega arith)
-each_item P (x ∷ xs) zero d each lt = each.0
-each_item P (x ∷ xs) (suc i) d each lt = each_item P xs i d each.1 (omega arith)
 
 pub item_range : {X : Type 0} (f : ℕ → X) (a n i : ℕ) (d : X) → i < n → item_or (map f (range_with_len a n)) i d ≡ f (a + i)
 item_range f a zero i d lt = absurd (omega arith)
@@ -92,7 +87,7 @@ pub agreed_legal : (game : Game) (owners : List (Option ℕ)) (logs : List (List
 agreed_legal game owners logs whole = record {
   one_each = long;
   each_long = each;
-  legal = λ q lt. subst (AreLegal game q) (sym (at q lt)) (whole_legal game owners logs q (ap length (sym (at q lt)) ∙ each_item (λ own. length own ≡ game.turns) all q [] each (omega (arith, long, lt))));
+  legal = λ q lt. subst (AreLegal game q) (sym (at q lt)) (whole_legal game owners logs q (ap length (sym (at q lt)) ∙ ap length (sym (item_is all q [])) ∙ each_get (λ own. length own ≡ game.turns) all q [] each (omega (arith, long, lt))));
 }
   where
     all : List (List Move)

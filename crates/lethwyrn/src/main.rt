@@ -9,7 +9,7 @@ use peer_cli::run;
 use rand_chacha::ChaCha20Rng;
 use rand_core::SeedableRng;
 use run_frame::{Status, refuse};
-use station::{StdSink, StdSource};
+use station::{StdSink, StdSource, words_of};
 use station_mio::MioStation;
 use std::io::{self, ErrorKind};
 use std::process::ExitCode;
@@ -17,27 +17,6 @@ use std::random::RandomSource;
 
 /// The status where the machine refuses the program its words, or random bytes.
 const REFUSED: u8 = 15;
-
-/// The words behind the program's name, or the status that ends the program without them.
-fn words_of(rt: &HostRuntime) -> Result<Vec<Vec<u8>>, Option<Status>> {
-    let mut words = Vec::new(rt.alloc());
-    let args = match std::env::args(rt) {
-        Ok(args) => args,
-        Err(error) if error.kind() == ErrorKind::OutOfMemory => {
-            return Err(Some(Status::NoMemory));
-        }
-        Err(_) => return Err(None),
-    };
-    for word in args.skip(1) {
-        let Ok(word) = Vec::from_slice(rt.alloc(), word.as_bytes()) else {
-            return Err(Some(Status::NoMemory));
-        };
-        if words.push(word).is_err() {
-            return Err(Some(Status::NoMemory));
-        }
-    }
-    Ok(words)
-}
 
 /// A generator that random bytes of the machine seed, unless it refuses them.
 fn chance_of(rt: &HostRuntime) -> Option<ChaCha20Rng> {
@@ -75,7 +54,9 @@ fn main(rt: HostRuntime) -> ExitCode {
     let mut out = StdSink::new(io::writer(&rt));
     match words_of(&rt) {
         Ok(words) => ExitCode::from(obey(&rt, words.as_slice(), &mut out)),
-        Err(Some(status)) => ExitCode::from(refuse(status, &mut out).code()),
-        Err(None) => ExitCode::from(REFUSED),
+        Err(error) if error.kind() == ErrorKind::OutOfMemory => {
+            ExitCode::from(refuse(Status::NoMemory, &mut out).code())
+        }
+        Err(_) => ExitCode::from(REFUSED),
     }
 }

@@ -69,26 +69,6 @@ fn work<I: Source, O: Sink, H: Shelf>(
     }
 }
 
-/// Does what the words ask for, where they ask for no sockets.
-fn run_offline<I: Source, O: Sink, H: Shelf>(
-    alloc: Global,
-    words: &[Vec<u8>],
-    input: &mut I,
-    out: &mut O,
-    shelf: &mut H,
-) -> Status
-    ensures { Runs
-        (record {
-          command = command_of (map (λ w. w.items) words.now);
-          before = record { input = I.state input.old; output = O.state out.old; shelf = H.state shelf.old };
-          after = record { input = I.state input.new; output = O.state out.new; shelf = H.state shelf.new };
-        })
-        (input.new ≡ input.old) result }
-{
-    let status = work(alloc, words, input, out, shelf);
-    refuse(status, out)
-}
-
 /// Does what the words ask for, which are those behind the program's name. They are asked first, then the session, the player, the other files in
 /// their order, and then the input line by line; the first that is refused decides. No call of the station was made before. The words are read
 /// where they stand, which takes no memory.
@@ -129,7 +109,10 @@ pub fn run<I: Source, O: Sink, H: Shelf, S: Station, R: Rng>(
         (input.new ≡ input.old) result }
 {
     match read_peering(words) {
-        None => run_offline(alloc, words, input, out, shelf),
+        None => {
+            let status = work(alloc, words, input, out, shelf);
+            refuse(status, out)
+        }
         Some(peer) => peer_for(alloc, peer, input, out, shelf, station, chance),
     }
 }

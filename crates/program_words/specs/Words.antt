@@ -23,3 +23,8 @@ is_word word = is_utf8 word && is_plain word
 -- the words as texts, where all are words
 abbrev pub texts_of : List (List ℕ) → Option (List (List ℕ))
 texts_of words = if list_all is_word words then Some words else None
+
+-- the only one of the words
+abbrev pub only_word : List (List ℕ) → Option (List ℕ)
+only_word (word ∷ []) = Some word
+only_word words = None

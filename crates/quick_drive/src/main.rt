@@ -9,21 +9,12 @@ use drive_command::{DriveWords, drive, read_drive_words};
 use file_shelf::FileShelf;
 use run_frame::Status;
 use session_files::open_peer;
-use station::{StdSink, StdSource};
+use station::{StdSink, StdSource, words_of};
 use std::io;
 use std::process::ExitCode;
 
 /// The status where the machine refuses the program its words or memory for them.
 const REFUSED: u8 = 15;
-
-/// The words behind the program's name.
-fn words_of(rt: &HostRuntime) -> io::Result<Vec<Vec<u8>>> {
-    let mut words = Vec::new(rt.alloc());
-    for word in std::env::args(rt)?.skip(1) {
-        words.push(Vec::from_slice(rt.alloc(), word.as_bytes())?)?;
-    }
-    Ok(words)
-}
 
 /// Drives a peer by the standard input.
 fn drive_by(rt: &HostRuntime, words: DriveWords<'_>) -> Status {

@@ -15,8 +15,8 @@ mod seats;
 
 use file_shelf::FileShelf;
 use peer_runs::run;
-use runs::{chance_of, words_of};
-use station::{StdSink, StdSource};
+use runs::chance_of;
+use station::{StdSink, StdSource, words_of};
 use station_mio::MioStation;
 use std::io;
 use std::process::ExitCode;

@@ -19,15 +19,6 @@ pub(crate) struct Ran {
     pub(crate) text: String,
 }
 
-/// The words behind the program's name.
-pub(crate) fn words_of(rt: &HostRuntime) -> io::Result<Vec<Vec<u8>>> {
-    let mut words = Vec::new(rt.alloc());
-    for word in std::env::args(rt)?.skip(1) {
-        words.push(Vec::from_slice(rt.alloc(), word.as_bytes())?)?;
-    }
-    Ok(words)
-}
-
 /// The words of a line, which stand with a blank between each two.
 fn split(rt: &HostRuntime, line: &str) -> io::Result<Vec<Vec<u8>>> {
     let mut words = Vec::new(rt.alloc());

@@ -251,21 +251,12 @@ moved_is P want l x y = go (is_some l.sending)
 pub fit_moved : (cs : List Seat) (want : ℕ) (l : Line) → IsFitLine cs l → IsFitLine cs (moved_to want l)
 fit_moved cs want l f = moved_is (IsFitLine cs) want l (record { taken = f.taken; read = f.read; sending = f.sending; dialled = f.dialled }) (record { taken = f.taken; read = f.read; sending = f.sending; dialled = f.dialled })
 
-pub obeys_same : (c : Seat) → SameSeat c (S.obeys c)
-obeys_same c = record { link = refl; spent = omega arith; dialled = refl }
-
-pub reaches_same : (want : ℕ) (c : Seat) → SameSeat c (S.reaches want c)
-reaches_same want c = record { link = refl; spent = omega arith; dialled = refl }
-
 -- the seat that was read at the place
 pub seat_read : (t v : Table) (k q : ℕ) (x : Seat) → t ≡ v → IsSeatAt v.seats q (Some k) → x ≡ get_or t.seats k x → slice_get v.seats k ≡ Some x
 seat_read t v k q x e at i =
     at.1 ∙ ap (λ (c : Seat). Some c) (sym (i ∙ get_or_from_slice_get t.seats k at.0 x (ap (λ (w : Table). slice_get w.seats k) e ∙ at.1)))
 
 -- ---- bytes of a player
-
-pub spends_same : (count : ℕ) (c : Seat) → SameSeat c (S.spends count c)
-spends_same count c = record { link = refl; spent = omega arith; dialled = refl }
 
 pub fit_spends : (count : ℕ) (c : Seat) → count ≤ S.room_of c → IsFitSeat c → IsFitSeat (S.spends count c)
 fit_spends count c r f = omega (arith, r, f)

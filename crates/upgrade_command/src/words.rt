@@ -3,12 +3,11 @@
 ghost use Rattle.std.specs.Prelude.{◌≡◌, map, option_map};
 ghost use Rattle.upgrade_command.specs.Words.{upgrading_in};
 
+use program_words::only_word;
+
 /// The name of the session's file, which is the only word behind the command's name, if they are of this form.
 pub fn read_upgrade_words(words: &[Vec<u8>]) -> Option<&[u8]>
     ensures { option_map (λ session. session.now) result ≡ upgrading_in (map (λ w. w.items) words.now) }
 {
-    match words {
-        [session] => Some(session.as_slice()),
-        _ => None,
-    }
+    only_word(words)
 }

@@ -6,7 +6,7 @@ use acceptance_nets::grounds::{NEAR, session_of};
 use acceptance_nets::heard::Noted;
 use acceptance_nets::nets::Net;
 use acceptance_nets::setups::{STAY_0, STAY_4, alone, script_of};
-use acceptance_nets::sides::{NARROW, Player};
+use acceptance_nets::sides::{NARROW, Player, SocketEvent};
 use acceptance_parts::frames::{commit, put};
 use definitions::PlayerId;
 use grid_world::Session;
@@ -144,7 +144,7 @@ fn hear_bytes(
 ) -> Result<(), Fail> {
     accept(side, pilot, 2)?;
     side.bring(alloc, 0, bytes, 4096)?;
-    side.seem_ready(1);
+    side.happen(1, SocketEvent::SeemsReady);
     hear(side, pilot);
     Ok(())
 }
@@ -207,7 +207,7 @@ fn sockets_are_shut_for_what_they_bring(rt: HostRuntime) -> Result<(), Fail> {
 /// Socket 0 seems ready so often, and nothing comes on it.
 fn seem_often(side: &mut Player, pilot: &mut ScriptPilot, times: u32) {
     for _ in 0..times {
-        side.seem_ready(0);
+        side.happen(0, SocketEvent::SeemsReady);
         side.round(pilot);
     }
     side.round(pilot);

@@ -5,7 +5,7 @@ use acceptance_nets::greets::{hello, put_made_from, stays};
 use acceptance_nets::grounds::{FAR, NEAR, THREE, session_of};
 use acceptance_nets::heard::Noted;
 use acceptance_nets::setups::{STAY_0, script_of};
-use acceptance_nets::sides::Player;
+use acceptance_nets::sides::{Player, SocketEvent};
 use acceptance_parts::frames::commit;
 use definitions::Place;
 use grid_world::Session;
@@ -30,7 +30,7 @@ fn has_dialled(alloc: Global, side: &Player, socket: SocketId) -> Result<bool, F
 
 /// The socket ends without an answer.
 fn lose(side: &mut Player, pilot: &mut ScriptPilot, socket: SocketId) {
-    side.finish(socket);
+    side.happen(socket, SocketEvent::Ends);
     hear(side, pilot);
 }
 

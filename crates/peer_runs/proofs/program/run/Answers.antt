@@ -1,12 +1,13 @@
 use Rattle.std.proofs.Common.{refl, ◌∙◌}
 use Rattle.peer_command.specs.Words.{peering_said}
+use Rattle.peer_runs.proofs.Running.{ran}
 use Rattle.peer_runs.proofs.OverSockets.{none_some, same_some, some_none}
 use Rattle.peer_runs.proofs.program.run.Goals as goal
 
 -- ---- no sockets are asked for
 
 pub returns-in-None-clause-offline : goal.returns-in-None-clause-offline
-returns-in-None-clause-offline g c = λ e. c.run_offline.ensures
+returns-in-None-clause-offline g c = λ e. ran _ _ _ _ _ _ _ c.work-status.result c.refuse.result c.work-status.ensures c.refuse.ensures
 
 pub returns-in-None-clause-apart : goal.returns-in-None-clause-apart
 returns-in-None-clause-apart g c = λ e. (refl, refl)

@@ -1,6 +1,6 @@
-use Rattle.std.proofs.Common.{arith}
+use Rattle.std.proofs.Common.{arith, refl}
 use Rattle.socket_lines.specs.Seats as S
-use Rattle.socket_table.proofs.Changed.{seat_changed, seat_read, spent_few, spends_same, fit_spends}
+use Rattle.socket_table.proofs.Changed.{seat_changed, seat_read, spent_few, fit_spends}
 use Rattle.socket_table.proofs.table.Table.spend_seat.Goals as goal
 
 pub spend-requires : goal.spend-requires
@@ -13,9 +13,9 @@ spend-requires c =
 pub invariant_of-self : goal.invariant_of-self
 invariant_of-self c =
     (seat_changed _ _ _ _ c.args.seat c.args.player (S.spends c.args.count) c.index_mut.result.now c.spend.new.self c.self.view_is c.self.invariant c.requires.seat c.index_mut.ensures.value c.spend.ensures
-    (spends_same c.args.count) (λ x g f. fit_spends c.args.count x (c.requires.room x g) f)).0
+    (λ s. record { link = refl; spent = omega arith; dialled = refl }) (λ x g f. fit_spends c.args.count x (c.requires.room x g) f)).0
 
 pub returns : goal.returns
 returns c =
     (seat_changed _ _ _ _ c.args.seat c.args.player (S.spends c.args.count) c.index_mut.result.now c.spend.new.self c.self.view_is c.self.invariant c.requires.seat c.index_mut.ensures.value c.spend.ensures
-    (spends_same c.args.count) (λ x g f. fit_spends c.args.count x (c.requires.room x g) f)).1
+    (λ s. record { link = refl; spent = omega arith; dialled = refl }) (λ x g f. fit_spends c.args.count x (c.requires.room x g) f)).1
