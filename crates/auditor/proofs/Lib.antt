@@ -14,3 +14,4 @@ pub mod Worlds
 pub mod Padded
 pub mod Joining
 pub mod Behind
+pub mod Cleared

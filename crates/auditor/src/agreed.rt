@@ -1,22 +1,24 @@
 //! The turns of a player in which the logs agree.
 
-ghost use Rattle.std.specs.Prelude.{◌≡◌, ◌<◌, ◌≤◌, ◌+◌, ◌++◌, ℕ, List, Some, slice_get, length, map, IsTrue, IfOk, OnOk};
+ghost use Rattle.std.specs.Prelude.{◌≡◌, ◌<◌, ◌≤◌, ◌+◌, ◌++◌, List, Some, slice_get, length, IsTrue, IfOk, OnOk};
 ghost use Rattle.std.specs.Option.{option_to_list};
 ghost use Rattle.definitions.specs.declared.logs.Entry.{Entry};
 ghost use Rattle.definitions.specs.declared.world.Move.{Move};
-ghost use Rattle.definitions.specs.World.{Game, is_open, players_of};
+ghost use Rattle.definitions.specs.World.{is_open, players_of};
 ghost use Rattle.definitions.specs.Findings.{got_known};
 ghost use Rattle.definitions.specs.Logs.{got_of, move_shown};
 ghost use Rattle.frame_index.specs.Heads.{AreOpen, Stands, front_of};
 ghost use Rattle.frame_index.specs.Keeps.{Keeps};
+ghost use Rattle.frame_index.specs.Plain.{IsClear};
 ghost use Rattle.frame_index.specs.declared.limits.TheConstants.{MOST_LOGS};
 ghost use Rattle.auditor.specs.Accords.{accord_of, agreed_in, is_alike};
 ghost use Rattle.auditor.specs.Agreed as A;
-ghost use Rattle.auditor.specs.Audits.{IsAuditOf, crossed_logs};
+ghost use Rattle.auditor.specs.Audits.{crossed_logs};
 ghost use Rattle.auditor.specs.Reading as R;
 ghost use Rattle.auditor.specs.Reading.{IsReadTurn};
 
 use crate::auditor::Auditor;
+use crate::common::OwnMoves;
 use crate::reading::{Reading, read_on, start};
 use crate::turns::resolved_in;
 use definitions::{Move, PlayerId, Turn, TurnFrame};
@@ -242,20 +244,27 @@ impl Auditor {
         Ok(moves)
     }
 
-    /// The moves of the player's agreed turns, in order.
+    /// The moves of the player's agreed turns, and whether no log shows a finding of it as far as they tell.
     pub(crate) fn agreed_moves(
         &self,
         alloc: Global,
         walker: &mut Walker,
         player: PlayerId,
-    ) -> Result<Vec<Move>, AllocError>
+    ) -> Result<OwnMoves, AllocError>
         requires { player < players_of self.now.session }
-        ensures few { IfOk result (λ moves. length moves.items ≤ self.now.session.turns) }
-        ensures moves { IfOk result (λ moves. (logs : List (List Entry)) → R.IsReadable self.now logs → moves.items ≡ A.agreed_moves self.now.session self.now.owners logs player) }
+        ensures few { IfOk result (λ own. length own.moves.items ≤ self.now.session.turns) }
+        ensures clear { IfOk result (λ own. IsTrue own.is_clear → IsClear self.now.session self.now.index player) }
+        ensures moves { IfOk result (λ own. (logs : List (List Entry)) → R.IsReadable self.now logs → own.moves.items ≡ A.agreed_moves self.now.session self.now.owners logs player) }
     {
         match self.common_agreed(alloc, walker, player)? {
-            Some(moves) => Ok(moves),
-            None => self.agreed_each(alloc, walker, player),
+            Some(own) => Ok(own),
+            None => {
+                let moves = self.agreed_each(alloc, walker, player)?;
+                Ok(OwnMoves {
+                    moves,
+                    is_clear: false,
+                })
+            }
         }
     }
 }

@@ -1,11 +1,11 @@
 //! The turns of a player in which the logs agree, where all that they show of it is one play.
 
-ghost use Rattle.std.specs.Prelude.{◌≡◌, ◌<◌, ◌≤◌, ◌+◌, ◌++◌, ℕ, List, None, length, not, slice_get, IfOk, IfSome, OnOk};
+ghost use Rattle.std.specs.Prelude.{◌≡◌, ◌<◌, ◌≤◌, ◌+◌, ◌++◌, ℕ, List, None, length, not, slice_get, IfOk, IfSome, IsTrue, OnOk};
 ghost use Rattle.std.specs.Option.{option_to_list};
 ghost use Rattle.definitions.specs.declared.logs.Entry.{Entry};
 ghost use Rattle.definitions.specs.Lists.{item_or};
 ghost use Rattle.definitions.specs.World.{players_of};
-ghost use Rattle.frame_index.specs.Plain.{is_among};
+ghost use Rattle.frame_index.specs.Plain.{IsClear, is_among};
 ghost use Rattle.frame_index.specs.declared.limits.TheConstants.{MOST_LOGS};
 ghost use Rattle.auditor.specs.Accords.{is_own, joined};
 ghost use Rattle.auditor.specs.Agreed as A;
@@ -44,6 +44,13 @@ struct Plays {
     made: Vec<Move>,
 }
 
+/// The moves of a player's agreed turns, in order, and whether it is known by them that no log shows a finding of it.
+#[derive(Drop)]
+pub(crate) struct OwnMoves {
+    pub moves: Vec<Move>,
+    pub is_clear: bool,
+}
+
 impl Auditor {
     /// Which logs are the player's own.
     fn own_logs(&self, player: PlayerId) -> Chosen
@@ -75,7 +82,8 @@ impl Auditor {
         player: PlayerId,
     ) -> Result<Option<Plays>, AllocError>
         requires { player < players_of self.now.session }
-        ensures { IfOk result (λ o. IfSome o (λ p. (logs : List (List Entry)) → R.IsReadable self.now logs → A.ArePlays self.now.session self.now.owners logs player p.got.items p.made.items)) }
+        ensures clear { IfOk result (λ o. IfSome o (λ p. length p.got.items ≡ self.now.session.turns → IsClear self.now.session self.now.index player)) }
+        ensures plays { IfOk result (λ o. IfSome o (λ p. (logs : List (List Entry)) → R.IsReadable self.now logs → A.ArePlays self.now.session self.now.owners logs player p.got.items p.made.items)) }
     {
         let mut got = Vec::new(alloc);
         let others = self.other_logs(player);
@@ -114,10 +122,11 @@ impl Auditor {
         alloc: Global,
         walker: &mut Walker,
         player: PlayerId,
-    ) -> Result<Option<Vec<Move>>, AllocError>
+    ) -> Result<Option<OwnMoves>, AllocError>
         requires { player < players_of self.now.session }
-        ensures few { IfOk result (λ o. IfSome o (λ moves. length moves.items ≤ self.now.session.turns)) }
-        ensures moves { IfOk result (λ o. IfSome o (λ moves. (logs : List (List Entry)) → R.IsReadable self.now logs → moves.items ≡ A.agreed_moves self.now.session self.now.owners logs player)) }
+        ensures few { IfOk result (λ o. IfSome o (λ own. length own.moves.items ≤ self.now.session.turns)) }
+        ensures clear { IfOk result (λ o. IfSome o (λ own. IsTrue own.is_clear → IsClear self.now.session self.now.index player)) }
+        ensures moves { IfOk result (λ o. IfSome o (λ own. (logs : List (List Entry)) → R.IsReadable self.now logs → own.moves.items ≡ A.agreed_moves self.now.session self.now.owners logs player)) }
     {
         let Some(plays) = self.plays(alloc, walker, player)? else {
             return Ok(None);
@@ -126,6 +135,7 @@ impl Auditor {
         for turn in 0..self.session.turns() {
             Auditor::put_joined(&plays, turn, &mut moves)?;
         }
-        Ok(Some(moves))
+        let is_clear = plays.got.len() == self.session.turns() as usize;
+        Ok(Some(OwnMoves { moves, is_clear }))
     }
 }

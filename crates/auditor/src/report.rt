@@ -3,6 +3,7 @@
 ghost use Rattle.std.specs.Prelude.{◌≡◌, ℕ, List, Option, IfOk, length, map};
 ghost use Rattle.definitions.specs.declared.logs.Entry.{Entry};
 ghost use Rattle.definitions.specs.World.{Game, players_of};
+ghost use Rattle.frame_index.specs.Plain.{AreClear};
 ghost use Rattle.auditor.specs.Agreed as A;
 ghost use Rattle.auditor.specs.Audits.{IsAuditOf, StandsFor};
 ghost use Rattle.auditor.specs.Reading.{IsReadable};
@@ -50,11 +51,13 @@ impl Report {
     }
 }
 
-/// The moves of each player's agreed turns, in order, and how many they are.
+/// The moves of each player's agreed turns, in order, how many they are, and whether it is known by them that no log shows a finding of the
+/// player.
 #[derive(Drop)]
 struct Agreed {
     moves: Vec<Vec<Move>>,
     counts: Vec<u32>,
+    clear: Vec<bool>,
 }
 
 impl Auditor {
@@ -62,18 +65,25 @@ impl Auditor {
     fn agreed(&self, alloc: Global, walker: &mut Walker) -> Result<Agreed, AllocError>
         ensures many { IfOk result (λ a. length a.counts.items ≡ players_of self.now.session) }
         ensures counts { IfOk result (λ a. a.counts.items ≡ map (λ own. length own.items) a.moves.items) }
+        ensures clear { IfOk result (λ a. AreClear self.now.session self.now.index a.clear.items) }
         ensures moves { IfOk result (λ a. (logs : List (List Entry)) → IsReadable self.now logs → map (λ own. own.items) a.moves.items ≡ A.all_agreed_moves self.now.session self.now.owners logs) }
     {
         self.session.facts();
         let players = usize::from(self.session.players());
         let mut moves = Vec::with_capacity(alloc, players)?;
         let mut counts = Vec::with_capacity(alloc, players)?;
+        let mut clear = Vec::with_capacity(alloc, players)?;
         for player in 0..self.session.players() {
             let own = self.agreed_moves(alloc, walker, player)?;
-            counts.push(own.len() as u32)?;
-            moves.push(own)?;
+            counts.push(own.moves.len() as u32)?;
+            clear.push(own.is_clear)?;
+            moves.push(own.moves)?;
         }
-        Ok(Agreed { moves, counts })
+        Ok(Agreed {
+            moves,
+            counts,
+            clear,
+        })
     }
 
     /// What all logs show for which the auditor has room, the empty ones too.
@@ -81,8 +91,14 @@ impl Auditor {
         ensures { IfOk result (λ r. (game : Game) (logs : List (List Entry)) → IsAuditOf game logs self.now → IsReportOf game self.now.owners logs r) }
     {
         let mut walker = Walker::new(alloc, self.session.grid())?;
-        let found = findings(alloc, &self.session, &mut walker, &self.index)?;
         let agreed = self.agreed(alloc, &mut walker)?;
+        let found = findings(
+            alloc,
+            &self.session,
+            &mut walker,
+            &self.index,
+            &agreed.clear,
+        )?;
         let lines = world(alloc, &self.session, &mut walker, &agreed.moves)?;
         Ok(Report {
             found,

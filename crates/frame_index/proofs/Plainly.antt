@@ -6,7 +6,7 @@ use Rattle.std.specs.List.{range_with_len}
 use Rattle.std.specs.Option.{option_or}
 use Rattle.std.specs.Result.{result_ok}
 use Rattle.std.proofs.Math.Bool.{beq}
-use Rattle.std.proofs.lemmas.Bool.{and_parts, eqb-true, false≢true, leb-true}
+use Rattle.std.proofs.lemmas.Bool.{and_parts, cases_lt, eqb-true, false≢true, leb-true}
 use Rattle.definitions.specs.declared.findings.Kind.{Kind}
 use Rattle.definitions.specs.declared.findings.Kind.TheVariants.{BadOpening, Collision, Illegal, TwoCommits}
 use Rattle.definitions.specs.declared.findings.Finding.{Finding}
@@ -41,7 +41,7 @@ use Rattle.frame_index.specs.declared.kept.KeptFrame.{KeptFrame}
 use Rattle.frame_index.specs.declared.frames.FrameIndex.{FrameIndex}
 use Rattle.frame_index.specs.Frames.{IsIndex, kept_of}
 use Rattle.frame_index.specs.Kept.{seen_of}
-use Rattle.frame_index.specs.Plain.{AreAlong, IsPlain, LeadsTo, move_in}
+use Rattle.frame_index.specs.Plain.{AreAlong, IsPlain, IsPlainTurn, LeadsTo, move_in}
 use Rattle.frame_index.proofs.Growing.{has_kept}
 use Rattle.frame_index.proofs.Judging.{led_open}
 use Rattle.frame_index.proofs.Lifted.{no_pair}
@@ -260,3 +260,14 @@ pub none_found : (f : ℕ → List Finding) (a n : ℕ) → ((t : ℕ) → a ≤
 none_found f a zero none = refl
 none_found f a (suc n) none =
     ap (λ (xs : List Finding). xs ++ flat_map f (range_with_len (a + 1) n)) (none a (omega arith) (omega arith)) ∙ none_found f (a + 1) n (λ t le lt. none t (omega (arith, le)) (omega (arith, lt)))
+
+-- nothing is found in the turns up to a plain one
+pub none_more : (game : Game) (q t : ℕ) (logs : List (List Entry)) (index : FrameIndex) (w : IsIndex game logs index) (track next : Track) → IsPlainTurn game index q t track next → AreAlong game q logs t track →
+    ((u : ℕ) → u < t → findings_in game logs q u ≡ []) → (u : ℕ) → u < t + 1 → findings_in game logs q u ≡ []
+none_more game q t logs index w track next turn along before u lt = elim (cases_lt u t) [
+  | inl less ↦ before u less
+  | inr ge ↦
+      let same : t ≡ u = omega (arith, lt, ge) in
+      subst (λ n. findings_in game logs q n ≡ []) same
+      (nothing_found game q t logs index w turn.plain track (Some next) turn.led (λ e. absurd (let s : Some next ≡ None = e in cc)) along)
+]

@@ -7,7 +7,7 @@ use Rattle.definitions.specs.declared.world.Move.{Move}
 use Rattle.definitions.specs.declared.world.Track.{Track}
 use Rattle.definitions.specs.declared.frames.TurnFrame.{TurnFrame}
 use Rattle.definitions.specs.declared.logs.Entry.{Entry}
-use Rattle.definitions.specs.Findings.{got_known, is_commit}
+use Rattle.definitions.specs.Findings.{findings_in, got_known, is_commit}
 use Rattle.definitions.specs.Lists.{item_or}
 use Rattle.definitions.specs.Logs.{got_of, move_shown}
 use Rattle.definitions.specs.Moves.{is_legal, next_track, track_after}
@@ -21,7 +21,7 @@ use Rattle.frame_index.specs.declared.common.Common.{Common}
 use Rattle.frame_index.specs.declared.common.TurnRead.{TurnRead}
 use Rattle.frame_index.specs.declared.common.TurnRead.TheVariants.{Over, Shown, Unlike}
 use Rattle.frame_index.specs.declared.frames.FrameIndex.{FrameIndex}
-use Rattle.frame_index.specs.Frames.{IsIndex}
+use Rattle.frame_index.specs.Frames.{IsIndex, kept_of}
 use Rattle.frame_index.specs.Heads.{Ends, front_of}
 
 -- all have one digest, and there is one of each kind at most
@@ -117,9 +117,23 @@ pub record RevealIsRead (game : Game) (q : ℕ) (ks : List KeptFrame) (old new :
 abbrev pub NoneGoesOn : Game → ℕ → List (List Entry) → List Bool → ℕ → Type 0
 NoneGoesOn game q logs first t = (u : ℕ) → t ≤ u → (i : ℕ) (h : List Entry) → slice_get logs i ≡ Some h → is_among first i ≡ true → move_of game q h u ≡ None
 
--- A turn was read: it isn't plain; or no log resolves it; or those that do resolve it by this move.
+-- all that is kept of the player's turn is plain, and it leads from the one track to the other
+pub record IsPlainTurn (game : Game) (index : FrameIndex) (q t : ℕ) (track next : Track) : Type 0 where
+  pub plain : IsPlain (kept_of index q t)
+  pub led : LeadsTo game q track (move_in (kept_of index q t)) (Some next)
+
+-- of no turn of the player the logs show a finding
+abbrev pub IsClear : Game → FrameIndex → ℕ → Type 0
+IsClear game index q = (logs : List (List Entry)) → IsIndex game logs index → (t : ℕ) → t < game.turns → findings_in game logs q t ≡ []
+
+-- so it is with each player for whom this says so
+abbrev pub AreClear : Game → FrameIndex → List Bool → Type 0
+AreClear game index clear = (q : ℕ) → slice_get clear q ≡ Some true → IsClear game index q
+
+-- A turn was read: it isn't plain; or no log resolves it; or those that do resolve it by this move, and it is plain.
 abbrev pub TurnIsRead : Game → FrameIndex → ℕ → ℕ → Common → Common → TurnRead → Type 0
 TurnIsRead game index q t old new Unlike = Unit {0}
 TurnIsRead game index q t old new Over = (logs : List (List Entry)) (first : List Bool) → IsIndex game logs index → IsCommon game q logs first (front_of game t) t old → NoneGoesOn game q logs first t
-TurnIsRead game index q t old new (Shown m) = (logs : List (List Entry)) (first : List Bool) → IsIndex game logs index → IsCommon game q logs first (front_of game t) t old →
-    IsCommonAt game q logs first t (Some m) × IsCommon game q logs first (front_of game (t + 1)) (t + 1) new
+TurnIsRead game index q t old new (Shown m) = IsPlainTurn game index q t old.track new.track ×
+    ((logs : List (List Entry)) (first : List Bool) → IsIndex game logs index → IsCommon game q logs first (front_of game t) t old →
+    IsCommonAt game q logs first t (Some m) × IsCommon game q logs first (front_of game (t + 1)) (t + 1) new)

@@ -1,12 +1,19 @@
 -- Spots: where a frame stands, at most once in each log.
-use Rattle.std.specs.Prelude.{◌≡◌, ℕ, ◌≤◌, Some, slice_get, List, [], ◌∷◌, ◌++◌, ◌==◌, if◌then◌else◌}
+use Rattle.std.specs.Prelude.{◌≡◌, ℕ, ◌<◌, ◌≤◌, Some, slice_get, List, [], ◌∷◌, ◌++◌, ◌==◌, if◌then◌else◌}
 use Rattle.std.specs.List.{list_any}
 use Rattle.definitions.specs.declared.findings.Spot.{Spot}
+use Rattle.definitions.specs.declared.limits.TheConstants.{LONGEST_LOG}
 use Rattle.definition_laws.specs.Members.{Has}
+use Rattle.frame_index.specs.declared.limits.TheConstants.{MOST_LOGS}
 
 -- the spots, in the order in which they came
 pub record Spotted : Type 0 where
   pub items : List Spot
+
+-- a spot of a log and of an entry for which an index has numbers
+pub record IsInRange (s : Spot) : Type 0 where
+  pub log : s.log < MOST_LOGS
+  pub entry : s.entry < LONGEST_LOG
 
 -- the spots with one more, unless its log has one
 abbrev pub spot_noted : List Spot → Spot → List Spot

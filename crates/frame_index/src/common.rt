@@ -11,7 +11,8 @@ use crate::frames::FrameIndex;
 use crate::kept::KeptFrame;
 use crate::limits::MOST_LOGS;
 use crate::plain::{is_plain, move_in, track_behind};
-use definitions::{Move, PlayerId, Spot, Track, Turn};
+use crate::short_spot::ShortSpot;
+use definitions::{Move, PlayerId, Track, Turn};
 use grid_world::Session;
 use move_rules::{Walker, start_track};
 use std::alloc::AllocError;
@@ -21,7 +22,7 @@ use streams::is_commit;
 pub type Chosen = [bool; MOST_LOGS as usize];
 
 /// Where the commitment stands that is kept.
-fn commit_spots(kept: &[KeptFrame]) -> &[Spot]
+fn commit_spots(kept: &[KeptFrame]) -> &[ShortSpot]
     ensures { result.now ≡ P.commit_spots kept.now }
 {
     match kept {
@@ -37,7 +38,7 @@ fn commit_spots(kept: &[KeptFrame]) -> &[Spot]
 }
 
 /// Where the reveal stands that is kept.
-fn reveal_spots(kept: &[KeptFrame]) -> &[Spot]
+fn reveal_spots(kept: &[KeptFrame]) -> &[ShortSpot]
     ensures { result.now ≡ P.reveal_spots kept.now }
 {
     match kept {
@@ -53,12 +54,12 @@ fn reveal_spots(kept: &[KeptFrame]) -> &[Spot]
 }
 
 /// Leaves those of the logs that have one of the spots.
-fn leave(chosen: &mut Chosen, spots: &[Spot])
+fn leave(chosen: &mut Chosen, spots: &[ShortSpot])
     ensures { P.AreLeft chosen.old spots.now chosen.new }
 {
     let mut left = [false; MOST_LOGS as usize];
     for spot in spots {
-        let at = spot.log as usize;
+        let at = spot.log() as usize;
         if at < left.len() {
             left[at] = chosen[at];
         }
@@ -208,7 +209,8 @@ fn read_turn(
 /// Puts the moves by which the chosen logs resolve the player's turns in the place of what `out` had, where what is kept of the player is
 /// one legal play; false where it isn't, and then `out` may have any moves. An error comes where `out`'s allocator has no memory.
 ///
-/// Each turn is judged once for all logs, so the time goes by the player's turns and by what is kept of them.
+/// Each turn is judged once for all logs, so the time goes by the player's turns and by what is kept of them. Where all turns of the player
+/// have such a move, no log shows a finding of it.
 pub fn common_moves(
     index: &FrameIndex,
     session: &Session,
@@ -220,6 +222,7 @@ pub fn common_moves(
     requires { player < players_of session.now }
     ensures moves { IfOk result (λ told. IsTrue told → (logs : List (List Entry)) → F.IsIndex session.now logs index.now → P.AreCommon session.now player logs chosen.now out.new.items) }
     ensures few { IfOk result (λ told. IsTrue told → length out.new.items ≤ session.now.turns) }
+    ensures clear { IfOk result (λ told. IsTrue told → length out.new.items ≡ session.now.turns → P.IsClear session.now index.now player) }
 {
     session.facts();
     out.clear();

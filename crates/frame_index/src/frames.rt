@@ -7,12 +7,14 @@ ghost use Rattle.definitions.specs.Logs as L;
 ghost use Rattle.frame_index.specs.Appended as A;
 ghost use Rattle.frame_index.specs.Frames as F;
 ghost use Rattle.frame_index.specs.Kept as K;
+ghost use Rattle.frame_index.specs.Spots as S;
 ghost use Rattle.frame_index.specs.declared.frames.FrameIndex.{FrameIndex};
 
 use crate::kept::{KeptFrame, TurnFrames};
 use crate::limits::MOST_LOGS;
 use crate::rows::{Row, kept_by, take_frame};
 use crate::seen::Seen;
+use crate::short_spot::ShortSpot;
 use definitions::limits::{LONGEST_LOG, MOST_TURNS};
 use definitions::{Digest, PlayerId, Spot, Turn, TurnFrame};
 use grid_world::Session;
@@ -52,13 +54,13 @@ fn put_frame(
     out: &mut Vec<Seen>,
     frame: TurnFrame,
     digest: Digest,
-    spots: &[Spot],
+    spots: &[ShortSpot],
 ) -> Result<(), AllocError>
     ensures { OnOk result (out.new.items ≡ out.old.items ++ map (K.seen_with frame digest) spots.now) }
 {
     for spot in spots {
         out.push(Seen {
-            spot: *spot,
+            spot: spot.spot(),
             frame,
             digest,
         })?;
@@ -122,7 +124,8 @@ impl FrameIndex {
         frame: &TurnFrame,
         spot: Spot,
     ) -> Result<(), AllocError>
-        requires { MOST_TURNS ≤ L.turn_of frame.now }
+        requires turn { MOST_TURNS ≤ L.turn_of frame.now }
+        requires spot { S.IsInRange spot }
         ensures ok { OnOk result (F.IsTaken session.now frame.now spot self.old self.new) }
         ensures err { OnErr result (F.IsRefused self.old self.new) }
     {
@@ -145,6 +148,7 @@ impl FrameIndex {
         frame: &TurnFrame,
         spot: Spot,
     ) -> Result<(), AllocError>
+        requires { S.IsInRange spot }
         ensures ok { OnOk result (F.IsTaken session.now frame.now spot self.old self.new) }
         ensures err { OnErr result (F.IsRefused self.old self.new) }
     {

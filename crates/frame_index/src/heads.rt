@@ -1,6 +1,6 @@
 //! What each log shows of a player's stream, place by place.
 
-ghost use Rattle.std.specs.Prelude.{◌≡◌, ◌<◌, ◌≤◌, ◌+◌, ℕ, List, Some, slice_get, IsTrue, IfSome, OnOk};
+ghost use Rattle.std.specs.Prelude.{◌≡◌, ◌<◌, ◌≤◌, ◌+◌, List, Some, slice_get, IsTrue, IfSome, OnOk};
 ghost use Rattle.definitions.specs.declared.logs.Entry.{Entry};
 ghost use Rattle.definitions.specs.Logs.{got_of};
 ghost use Rattle.definitions.specs.World.{players_of, is_open};

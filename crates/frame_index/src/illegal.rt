@@ -1,6 +1,6 @@
 //! The least pair of spots that shows an illegal move.
 
-ghost use Rattle.std.specs.Prelude.{◌≡◌, ◌<◌, ◌≤◌, ℕ, List, Some, slice_get, length, IsTrue, IfSome};
+ghost use Rattle.std.specs.Prelude.{◌≡◌, ◌<◌, ◌≤◌, List, Some, slice_get, length, IsTrue, IfSome};
 ghost use Rattle.definitions.specs.declared.findings.Kind.{Kind};
 ghost use Rattle.definitions.specs.declared.logs.Entry.{Entry};
 ghost use Rattle.definitions.specs.Findings.{finding_at};

@@ -58,6 +58,7 @@ const HONEST: usize = 2;
 
 /// Notes a spot of the frame.
 fn note_frame(one: &mut KeptFrame, spot: Spot) -> Result<(), AllocError>
+    requires { S.IsInRange spot }
     ensures ok { OnOk result (one.new.spots.items ≡ S.spot_noted one.old.spots.items spot) }
     ensures err { OnErr result (one.new.spots.items ≡ one.old.spots.items) }
     ensures frame { one.new.frame ≡ one.old.frame }
@@ -68,7 +69,8 @@ fn note_frame(one: &mut KeptFrame, spot: Spot) -> Result<(), AllocError>
 
 /// Notes a spot of the frame that stands at the place.
 fn note_at(kept: &mut Vec<KeptFrame>, at: usize, spot: Spot) -> Result<(), AllocError>
-    requires { at < length kept.old.items }
+    requires at { at < length kept.old.items }
+    requires spot { S.IsInRange spot }
     ensures ok { OnOk result (K.IsNotedAt kept.old.items kept.new.items at spot) }
     ensures err { OnErr result (K.AreAlike kept.old.items kept.new.items) }
     ensures places { K.KeepPlaces kept.old.items kept.new.items }
@@ -154,6 +156,7 @@ fn first_kept(
     digest: Digest,
     spot: Spot,
 ) -> Result<KeptFrame, AllocError>
+    requires { S.IsInRange spot }
     ensures { IfOk result (λ l. (l.frame ≡ frame.now) × (l.digest ≡ digest) × (l.spots.items ≡ spot ∷ [])) }
 {
     let mut spots = Spots::new(alloc);
@@ -174,7 +177,8 @@ fn add(
     digest: Digest,
     spot: Spot,
 ) -> Result<(), AllocError>
-    requires { K.HavePlaces kept.old.items places.old }
+    requires places { K.HavePlaces kept.old.items places.old }
+    requires spot { S.IsInRange spot }
     ensures ok { OnOk result (K.IsAdded kept.old.items kept.new.items frame.now digest spot) }
     ensures err { OnErr result (kept.new.items ≡ kept.old.items) }
     ensures places { K.HavePlaces kept.new.items places.new }
@@ -195,7 +199,8 @@ fn take_kept(
     frame: &TurnFrame,
     spot: Spot,
 ) -> Result<(), AllocError>
-    requires { K.HavePlaces kept.old.items places.old }
+    requires places { K.HavePlaces kept.old.items places.old }
+    requires spot { S.IsInRange spot }
     ensures ok { OnOk result (K.Grows session.now frame.now spot kept.old.items kept.new.items) }
     ensures err { OnErr result (K.AreAlike kept.old.items kept.new.items) }
     ensures places { K.HavePlaces kept.new.items places.new }
@@ -229,6 +234,7 @@ impl TurnFrames {
         frame: &TurnFrame,
         spot: Spot,
     ) -> Result<(), AllocError>
+        requires { S.IsInRange spot }
         ensures ok { OnOk result (K.Grows session.now frame.now spot self.old.kept.items self.new.kept.items) }
         ensures err { OnErr result (K.AreAlike self.old.kept.items self.new.kept.items) }
     {

@@ -32,6 +32,7 @@ pub mod pairs;
 mod plain;
 mod rows;
 mod seen;
+mod short_spot;
 mod spot_list;
 mod spots;
 

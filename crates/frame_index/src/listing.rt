@@ -1,6 +1,6 @@
 //! All findings of the logs that an index stands for.
 
-ghost use Rattle.std.specs.Prelude.{◌≡◌, ◌<◌, ◌≤◌, ◌+◌, ◌++◌, ℕ, List, length, flat_map, OnOk, IfOk};
+ghost use Rattle.std.specs.Prelude.{◌≡◌, ◌<◌, ◌≤◌, ◌+◌, ◌++◌, List, length, flat_map, OnOk, IfOk, IsTrue};
 ghost use Rattle.std.specs.List.{range_with_len};
 ghost use Rattle.std.specs.Option.{option_to_list};
 ghost use Rattle.definitions.specs.declared.logs.Entry.{Entry};
@@ -9,6 +9,7 @@ ghost use Rattle.definitions.specs.World.{players_of};
 ghost use Rattle.frame_index.specs.Frames as F;
 ghost use Rattle.frame_index.specs.Heads as H;
 ghost use Rattle.frame_index.specs.Keeps.{Keeps, finding_by};
+ghost use Rattle.frame_index.specs.Plain as P;
 
 use crate::frames::FrameIndex;
 use crate::heads::{Heads, read_first, read_turn, start_heads};
@@ -94,6 +95,21 @@ fn put_turn(
     read_turn(index, session, walker, player, turn, seen, heads)
 }
 
+/// Whether no log shows a finding of the player, which is known by `is_clear`, or by what is kept of it.
+fn shows_nothing(
+    index: &FrameIndex,
+    session: &Session,
+    walker: &mut Walker,
+    player: PlayerId,
+    is_clear: bool,
+) -> bool
+    requires player { player < players_of session.now }
+    requires clear { IsTrue is_clear → P.IsClear session.now index.now player }
+    ensures { IsTrue result → P.IsClear session.now index.now player }
+{
+    is_clear || is_plain_player(index, session, walker, player)
+}
+
 /// Puts the findings of a player's turns behind the others, in their order.
 fn put_player(
     alloc: Global,
@@ -101,13 +117,15 @@ fn put_player(
     session: &Session,
     walker: &mut Walker,
     player: PlayerId,
+    is_clear: bool,
     seen: &mut Vec<Seen>,
     out: &mut Vec<Finding>,
 ) -> Result<(), AllocError>
     requires player { player < players_of session.now }
+    requires clear { IsTrue is_clear → P.IsClear session.now index.now player }
     ensures { OnOk result ((logs : List (List Entry)) → length logs ≤ MOST_LOGS → F.IsIndex session.now logs index.now → out.new.items ≡ out.old.items ++ flat_map (D.findings_in session.now logs player) (range_with_len 0 session.now.turns)) }
 {
-    if is_plain_player(index, session, walker, player) {
+    if shows_nothing(index, session, walker, player, is_clear) {
         return Ok(());
     }
     let mut heads = start_heads(session, player);
@@ -126,19 +144,26 @@ fn put_player(
 /// The list and what is kept of one turn at a time take memory from `alloc`, and an error comes where there is none. The time
 /// is linear in what the index keeps and in the turns of all players, each for `MOST_LOGS` logs; a player of whom all logs show the same
 /// legal play is judged once for all of them. Frames of one turn are compared
-/// two by two where few are kept of it or two different reveals have one digest; a frame is never looked for among all frames.
+/// two by two where few are kept of it or two different reveals have one digest; a frame is never looked for among all frames. Whoever knows
+/// by [`common_moves`](crate::common_moves) that no log shows a finding of a player says so by `clear`, at the player's number: then what is kept of it isn't
+/// gone through again.
 pub fn findings(
     alloc: Global,
     session: &Session,
     walker: &mut Walker,
     index: &FrameIndex,
+    clear: &[bool],
 ) -> Result<Vec<Finding>, AllocError>
+    requires { P.AreClear session.now index.now clear.now }
     ensures { IfOk result (λ found. (logs : List (List Entry)) → length logs ≤ MOST_LOGS → F.IsIndex session.now logs index.now → found.items ≡ D.findings session.now logs) }
 {
     let mut seen = Vec::new(alloc);
     let mut out = Vec::new(alloc);
     for player in 0..session.players() {
-        put_player(alloc, index, session, walker, player, &mut seen, &mut out)?;
+        let is_clear = clear.get(usize::from(player)) == Some(&true);
+        put_player(
+            alloc, index, session, walker, player, is_clear, &mut seen, &mut out,
+        )?;
     }
     Ok(out)
 }

@@ -1,11 +1,7 @@
 //! A player of whom all logs show the same: each of its turns is judged once for all logs.
 
-ghost use Rattle.std.specs.Prelude.{◌≡◌, ◌<◌, ◌+◌, ℕ, List, [], IfErr, IfOk, IsTrue};
-ghost use Rattle.definitions.specs.declared.logs.Entry.{Entry};
-ghost use Rattle.definitions.specs.Findings as D;
-ghost use Rattle.definitions.specs.Moves as M;
+ghost use Rattle.std.specs.Prelude.{◌≡◌, ◌<◌, IsTrue};
 ghost use Rattle.definitions.specs.World.{is_open, players_of};
-ghost use Rattle.frame_index.specs.Frames as F;
 ghost use Rattle.frame_index.specs.Plain as P;
 
 use crate::frames::FrameIndex;
@@ -69,7 +65,7 @@ pub(crate) fn is_plain_player(
     player: PlayerId,
 ) -> bool
     requires { player < players_of session.now }
-    ensures { IsTrue result → (logs : List (List Entry)) → F.IsIndex session.now logs index.now → (t : ℕ) → t < session.now.turns → D.findings_in session.now logs player t ≡ [] }
+    ensures { IsTrue result → P.IsClear session.now index.now player }
 {
     session.facts();
     let mut track = start_track(session, player);

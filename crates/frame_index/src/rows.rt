@@ -2,10 +2,11 @@
 //!
 //! Each frame of each log goes through these calls, so those that only hand it on are inlined.
 
-ghost use Rattle.std.specs.Prelude.{◌≡◌, ◌<◌, ◌+◌, ◌≤◌, ◌-◌, ℕ, length, OnErr, OnOk};
+ghost use Rattle.std.specs.Prelude.{◌≡◌, ◌<◌, ◌-◌, ℕ, length, OnErr, OnOk};
 ghost use Rattle.frame_index.specs.Frames as F;
 ghost use Rattle.frame_index.specs.Kept as K;
 ghost use Rattle.frame_index.specs.Rows as R;
+ghost use Rattle.frame_index.specs.Spots as S;
 
 use crate::kept::{KeptFrame, TurnFrames};
 use definitions::{PlayerId, Spot, Turn, TurnFrame};
@@ -76,7 +77,8 @@ fn take_at(
     frame: &TurnFrame,
     spot: Spot,
 ) -> Result<(), AllocError>
-    requires { player < length row.old.items }
+    requires player { player < length row.old.items }
+    requires spot { S.IsInRange spot }
     ensures ok { OnOk result (K.Grows session.now frame.now spot (R.kept_at row.old.items player) (R.kept_at row.new.items player)) }
     ensures err { OnErr result (K.AreAlike (R.kept_at row.old.items player) (R.kept_at row.new.items player)) }
     ensures others { (q : ℕ) → (player ≡ q → F.Never) → R.kept_at row.new.items q ≡ R.kept_at row.old.items q }
@@ -94,6 +96,7 @@ fn take_in_row(
     frame: &TurnFrame,
     spot: Spot,
 ) -> Result<(), AllocError>
+    requires { S.IsInRange spot }
     ensures ok { OnOk result (K.Grows session.now frame.now spot (R.kept_at row.old.items player) (R.kept_at row.new.items player)) }
     ensures err { OnErr result (K.AreAlike (R.kept_at row.old.items player) (R.kept_at row.new.items player)) }
     ensures others { (q : ℕ) → (player ≡ q → F.Never) → R.kept_at row.new.items q ≡ R.kept_at row.old.items q }
@@ -113,7 +116,8 @@ fn take_by(
     frame: &TurnFrame,
     spot: Spot,
 ) -> Result<(), AllocError>
-    requires { turn < length rows.old.items }
+    requires turn { turn < length rows.old.items }
+    requires spot { S.IsInRange spot }
     ensures ok { OnOk result (K.Grows session.now frame.now spot (R.kept_by rows.old.items player turn) (R.kept_by rows.new.items player turn)) }
     ensures err { OnErr result (K.AreAlike (R.kept_by rows.old.items player turn) (R.kept_by rows.new.items player turn)) }
     ensures others { (q t : ℕ) → ((player ≡ q) × (turn ≡ t) → F.Never) → R.kept_by rows.new.items q t ≡ R.kept_by rows.old.items q t }
@@ -139,6 +143,7 @@ pub(crate) fn take_frame(
     frame: &TurnFrame,
     spot: Spot,
 ) -> Result<(), AllocError>
+    requires { S.IsInRange spot }
     ensures ok { OnOk result (K.Grows session.now frame.now spot (R.kept_by rows.old.items player turn) (R.kept_by rows.new.items player turn)) }
     ensures err { OnErr result (K.AreAlike (R.kept_by rows.old.items player turn) (R.kept_by rows.new.items player turn)) }
     ensures others { (q t : ℕ) → ((player ≡ q) × (turn ≡ t) → F.Never) → R.kept_by rows.new.items q t ≡ R.kept_by rows.old.items q t }

@@ -1,15 +1,16 @@
 //! A list of spots of which the first few stand in the list itself. Nearly all frames are kept for few logs, and taking memory for each
 //! of them costs more than all else that is done with a frame that is known.
 
-ghost use Rattle.std.specs.Prelude.{◌≡◌, ◌<◌, ◌≤◌, ◌==◌, [], ◌∷◌, ◌++◌, length, nat_lt, OnErr, OnOk};
-ghost use Rattle.frame_index.specs.Spots as S;
+ghost use Rattle.std.specs.Prelude.{◌≡◌, ◌<◌, ◌≤◌, [], ◌∷◌, ◌++◌, length, nat_lt, OnErr, OnOk};
 
+use crate::short_spot::ShortSpot;
 use definitions::Spot;
 use std::alloc::{AllocError, Global};
+use std::array::from_fn;
 use std::marker::Model;
 
-/// As many spots as stand in the list itself: a match of eight is audited without any more memory.
-const FEW: usize = 8;
+/// As many spots as stand in the list itself: a match of sixteen is audited without any more memory.
+const FEW: usize = 16;
 
 /// For as many more room is made when they don't fit any longer.
 const ROOM: usize = 16;
@@ -21,7 +22,7 @@ const BLANK: Spot = Spot { log: 0, entry: 0 };
 #[derive(Drop)]
 struct FewSpots {
     count: usize,
-    items: [Spot; FEW],
+    items: [ShortSpot; FEW],
 }
 
 impl Model for FewSpots {
@@ -43,12 +44,12 @@ impl FewSpots {
     {
         FewSpots {
             count: 0,
-            items: [BLANK; FEW],
+            items: from_fn(|_| ShortSpot::new(BLANK)),
         }
     }
 
     /// All of them.
-    fn as_slice(&self) -> &[Spot]
+    fn as_slice(&self) -> &[ShortSpot]
         ensures { result.now ≡ self.now }
     {
         &self.items[..self.count]
@@ -62,7 +63,7 @@ impl FewSpots {
     }
 
     /// Puts a spot behind the others.
-    fn push(&mut self, spot: Spot)
+    fn push(&mut self, spot: ShortSpot)
         requires { length self.old < FEW }
         ensures { self.new ≡ self.old ++ spot ∷ [] }
     {
@@ -76,7 +77,7 @@ impl FewSpots {
 pub(crate) struct SpotList {
     few: FewSpots,
     // all of them, once they are more than a few, and before that nothing
-    many: Vec<Spot>,
+    many: Vec<ShortSpot>,
 }
 
 impl Model for SpotList {
@@ -101,7 +102,7 @@ impl SpotList {
     }
 
     /// All of them.
-    pub(crate) fn as_slice(&self) -> &[Spot]
+    pub(crate) fn as_slice(&self) -> &[ShortSpot]
         ensures { result.now ≡ self.now }
     {
         if self.many.is_empty() {
@@ -112,7 +113,7 @@ impl SpotList {
     }
 
     /// Puts a spot behind the others.
-    pub(crate) fn push(&mut self, spot: Spot) -> Result<(), AllocError>
+    pub(crate) fn push(&mut self, spot: ShortSpot) -> Result<(), AllocError>
         ensures ok { OnOk result (self.new ≡ self.old ++ spot ∷ []) }
         ensures err { OnErr result (self.new ≡ self.old) }
     {

@@ -4,6 +4,7 @@ ghost use Rattle.std.specs.Prelude.{◌≡◌, ◌==◌, [], OnErr, OnOk};
 ghost use Rattle.std.specs.List.{list_any};
 ghost use Rattle.frame_index.specs.Spots as S;
 
+use crate::short_spot::ShortSpot;
 use crate::spot_list::SpotList;
 use definitions::Spot;
 use std::alloc::{AllocError, Global};
@@ -28,10 +29,10 @@ impl Model for Spots {
 }
 
 /// Whether one of the spots is in the log.
-fn has_log(spots: &[Spot], log: u32) -> bool
+fn has_log(spots: &[ShortSpot], log: u32) -> bool
     ensures { result ≡ list_any (λ x. x.log == log) spots.now }
 {
-    spots.iter().any(|other| other.log == log)
+    spots.iter().any(|other| other.log() == log)
 }
 
 impl Spots {
@@ -46,7 +47,7 @@ impl Spots {
     }
 
     /// All of them.
-    pub(crate) fn all(&self) -> &[Spot]
+    pub(crate) fn all(&self) -> &[ShortSpot]
         ensures { result.now ≡ self.now.items }
     {
         self.list.as_slice()
@@ -61,13 +62,14 @@ impl Spots {
 
     /// Notes a spot, unless its log has one.
     pub(crate) fn note(&mut self, spot: Spot) -> Result<(), AllocError>
+        requires { S.IsInRange spot }
         ensures ok { OnOk result (self.new.items ≡ S.spot_noted self.old.items spot) }
         ensures err { OnErr result (self.new.items ≡ self.old.items) }
     {
         if self.has(spot.log) {
             return Ok(());
         }
-        self.list.push(spot)?;
+        self.list.push(ShortSpot::new(spot))?;
         self.top = self.top.max(spot.log);
         Ok(())
     }

@@ -259,7 +259,7 @@ fn all_findings(
     index: &FrameIndex,
 ) -> Result<Vec<Finding>, Fail> {
     let mut walker = Walker::new(alloc, session.grid())?;
-    Ok(findings(alloc, session, &mut walker, index)?)
+    Ok(findings(alloc, session, &mut walker, index, &[])?)
 }
 
 /// The opening of a player who goes to the column, with a nonce of 32 such bytes.

@@ -13,4 +13,4 @@ returns-clause-places c =
     let of_one : key_bytes c.args.frame.now c.args.digest ≡ key_bytes one.frame one.digest = λ n. key_bytes (sym c.in_ok-one.ensures.0 n) (sym c.in_ok-one.ensures.1 n) in
     let here : FEW ≤ length ks → has_place new (key_bytes one.frame one.digest) ≡ true = λ few. subst (λ (key : List ℕ). has_place new key ≡ true) (c.key_of.ensures ∙ of_one) (c.in_ok-note_place.ensures.now (omega (arith, few, c.len.ensures, ap length c.make_room.ensures))) in
     subst (λ (xs : List KeptFrame). HavePlaces xs new) (sym (c.in_ok-push.ensures.items ∙ ap (λ (xs : List KeptFrame). xs ++ one ∷ []) c.make_room.ensures))
-    (places_push ks one new here (λ at k few there. c.note_place.ensures.stay (key_bytes k.frame k.digest) (c.requires at k few there)))
+    (places_push ks one new here (λ at k few there. c.note_place.ensures.stay (key_bytes k.frame k.digest) (c.requires.places at k few there)))

@@ -12,9 +12,11 @@ returns-in-Some-clause-ok c =
     (subst (λ (ks : List KeptFrame). StandsAt ks c.in-Some.at c.args.frame.now) c.deref.ensures.value c.in-Some.ensures.some) is) c.note_at.ensures.ok
 
 pub note_at-requires-in-Some-late_place : goal.note_at-requires-in-Some-late_place
-note_at-requires-in-Some-late_place c =
-    stands_within c.args.kept.now.items c.in-Some-late_place.at c.args.frame.now
-    (subst (λ (ks : List KeptFrame). StandsAt ks c.in-Some-late_place.at c.args.frame.now) c.deref-2.ensures.value c.in-Some-late_place.ensures.some)
+note_at-requires-in-Some-late_place c = record {
+  at = stands_within c.args.kept.now.items c.in-Some-late_place.at c.args.frame.now
+      (subst (λ (ks : List KeptFrame). StandsAt ks c.in-Some-late_place.at c.args.frame.now) c.deref-2.ensures.value c.in-Some-late_place.ensures.some);
+  spot = c.requires.spot;
+}
 
 pub returns-in-Some-late_place-clause-ok : goal.returns-in-Some-late_place-clause-ok
 returns-in-Some-late_place-clause-ok c =

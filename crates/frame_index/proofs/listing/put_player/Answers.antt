@@ -6,9 +6,9 @@ use Rattle.frame_index.proofs.Joined.{joined_more}
 use Rattle.frame_index.proofs.Plainly.{none_found}
 use Rattle.frame_index.proofs.listing.put_player.Goals as goal
 
-pub returns-then-is_plain_player : goal.returns-then-is_plain_player
-returns-then-is_plain_player c = λ logs few index. sym (append-nil c.args.out.now.items)
-    ∙ ap (λ (fs : List Finding). c.args.out.now.items ++ fs) (sym (none_found (findings_in c.args.session.now logs c.args.player) 0 c.args.session.now.turns (λ t le lt. c.if-is_plain_player.ensures refl logs index t (omega (arith, lt)))))
+pub returns-then-shows_nothing : goal.returns-then-shows_nothing
+returns-then-shows_nothing c = λ logs few index. sym (append-nil c.args.out.now.items)
+    ∙ ap (λ (fs : List Finding). c.args.out.now.items ++ fs) (sym (none_found (findings_in c.args.session.now logs c.args.player) 0 c.args.session.now.turns (λ t le lt. c.if-shows_nothing.ensures refl logs index t (omega (arith, lt)))))
 
 pub loop-turn-init : goal.loop-turn-init
 loop-turn-init c = record {

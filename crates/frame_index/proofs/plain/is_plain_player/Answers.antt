@@ -1,11 +1,9 @@
-use Rattle.std.proofs.Common.{refl, List, None, Option, Some, [], arith, inl, inr, subst, ◌≡◌}
-use Rattle.std.proofs.lemmas.Bool.{cases_lt}
+use Rattle.std.proofs.Common.{refl, List, Option, Some, subst}
 use Rattle.definitions.specs.declared.world.Track.{Track}
-use Rattle.definitions.specs.Findings.{findings_in}
 use Rattle.frame_index.specs.declared.kept.KeptFrame.{KeptFrame}
 use Rattle.frame_index.specs.Frames.{kept_of}
 use Rattle.frame_index.specs.Plain.{IsPlain, LeadsTo, move_in}
-use Rattle.frame_index.proofs.Plainly.{along_on, led_opens, nothing_found}
+use Rattle.frame_index.proofs.Plainly.{along_on, led_opens, none_more}
 use Rattle.frame_index.proofs.plain.is_plain_player.Goals as goal
 
 pub loop-turn-preserved : goal.loop-turn-preserved
@@ -20,11 +18,6 @@ loop-turn-preserved c =
     record {
       track = led_opens game q c.loop-turn.track c.in-Some.next (move_in ks) led c.loop-turn.invariant.track;
       along = λ logs w. along_on game q c.loop-turn.turn logs c.args.index.now w plain c.loop-turn.track c.in-Some.next led (c.loop-turn.invariant.along logs w);
-      none = λ logs w u lt. elim (cases_lt u c.loop-turn.turn) [
-        | inl less ↦ c.loop-turn.invariant.none logs w u less
-        | inr ge ↦
-            let same : c.loop-turn.turn ≡ u = omega (arith, lt, ge) in
-            subst (λ n. findings_in game logs q n ≡ []) same
-            (nothing_found game q c.loop-turn.turn logs c.args.index.now w plain c.loop-turn.track (Some c.in-Some.next) led (λ e. absurd (let s : Some c.in-Some.next ≡ None = e in cc)) (c.loop-turn.invariant.along logs w))
-      ];
+      none = λ logs w.
+          none_more game q c.loop-turn.turn logs c.args.index.now w c.loop-turn.track c.in-Some.next (record { plain = plain; led = led }) (c.loop-turn.invariant.along logs w) (c.loop-turn.invariant.none logs w);
     }

@@ -20,7 +20,7 @@ loop-turn-preserved c =
     let self = c.args.self.now in
     let t = c.loop-turn.turn in
     let plays : (logs : List (List Entry)) → IsReadable self logs → ArePlays self.session self.owners logs c.args.player c.in-Some.plays.got.items c.in-Some.plays.made.items =
-    subst (λ (o : Option Plays). IfSome o (λ p. (logs : List (List Entry)) → IsReadable self logs → ArePlays self.session self.owners logs c.args.player p.got.items p.made.items)) c.in-Some.is c.in_ok-plays.ensures in
+    subst (λ (o : Option Plays). IfSome o (λ p. (logs : List (List Entry)) → IsReadable self logs → ArePlays self.session self.owners logs c.args.player p.got.items p.made.items)) c.in-Some.is c.in_ok-plays.ensures.plays in
     let one = c.in_ok-put_joined.ensures.one in
     let few = c.loop-turn.invariant.few in
     let end = c.turns-turn-end.ensures.value in

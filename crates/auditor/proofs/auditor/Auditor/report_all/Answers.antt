@@ -23,8 +23,8 @@ returns c = λ game logs w.
           ap (λ (ns : List ℕ). item_or ns q 0) (c.in_ok-agreed.ensures.counts ∙ map_lengths c.in_ok-agreed.agreed.moves.items ∙ ap (map length) moves)
           ∙ item_length (all_agreed_moves self.session self.owners logs) q ∙ ap length (agreed_item self.session self.owners logs q lt);
       world = λ owned q lt.
-          let moves : map (λ own. own.items) c.deref.result.now ≡ all_agreed_moves self.session self.owners logs =
-          ap (map (λ own. own.items)) c.deref.ensures.value ∙ c.in_ok-agreed.ensures.moves logs (record { audit = here; owned = owned }) in
+          let moves : map (λ own. own.items) c.deref-2.result.now ≡ all_agreed_moves self.session self.owners logs =
+          ap (map (λ own. own.items)) c.deref-2.ensures.value ∙ c.in_ok-agreed.ensures.moves logs (record { audit = here; owned = owned }) in
           c.in_ok-lines.ensures.lines (subst (AreLegalIfWhole self.session) (sym moves) (agreed_legal self.session self.owners logs)) q lt
           ∙ ap (λ (ms : List (List Move)). world_by self.session ms q) moves;
       beyond = λ q ge. (

@@ -21,7 +21,7 @@ returns-in-Some-clause-ok c =
     ap (λ (o : Option TurnFrames). option_map_or items o []) c.in-Some.ensures.value in
     let updates = (c.get_mut.follows.holds c.take.new.self).3 (search rules) in
     let new : FrameIndex = record { alloc = c.args.self.now.alloc; rows = c.args.self.now.rows; beyond = c.get_mut.follows.lender c.take.new.self } in
-    on_ok c.take.result (λ grows. taken_beyond c.args.self.now new refl c.args.session.now c.args.frame.now c.args.spot c.requires
+    on_ok c.take.result (λ grows. taken_beyond c.args.self.now new refl c.args.session.now c.args.frame.now c.args.spot c.requires.turn
     (taken_by items (λ q t. get key_eq c.args.self.now.beyond (record { player = q; turn = t })) (λ q t. get key_eq (c.get_mut.follows.lender c.take.new.self) (record { player = q; turn = t }))
     c.key_of-key.result.player c.key_of-key.result.turn c.take.new.self (λ q t. updates.0 (record { player = q; turn = t })) c.args.session.now c.args.frame.now c.args.spot
     c.key_of-key.ensures.player c.key_of-key.ensures.turn (items c.in-Some.frames.now) old grows)) c.take.ensures.ok
@@ -44,7 +44,7 @@ returns-clause-ok c =
     let none : option_map_or items (get key_eq c.args.self.now.beyond (record { player = c.key_of-key.result.player; turn = c.key_of-key.result.turn })) [] ≡ [] =
     ap (λ (o : Option TurnFrames). option_map_or items o []) (sym c.in_default.ensures.value) in
     let new : FrameIndex = record { alloc = c.args.self.now.alloc; rows = c.args.self.now.rows; beyond = c.insert.new.self } in
-    taken_beyond c.args.self.now new refl c.args.session.now c.args.frame.now c.args.spot c.requires
+    taken_beyond c.args.self.now new refl c.args.session.now c.args.frame.now c.args.spot c.requires.turn
     (taken_by items (λ q t. get key_eq c.args.self.now.beyond (record { player = q; turn = t })) (λ q t. get key_eq c.insert.new.self (record { player = q; turn = t }))
     c.key_of-key.result.player c.key_of-key.result.turn c.take-2.new.self
     (λ q t. c.in_ok-insert.ensures.updates.0 (record { player = q; turn = t })
