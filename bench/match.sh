@@ -4,6 +4,10 @@
 # and what a turn costs of the processor, and a player of memory. ./build first.
 . "$(dirname "$0")/common.sh"
 program=${1:-$here/../crates/lethwyrn/out/lethwyrn}
+if [ ! -x "$program" ]; then
+    echo 'bench/match.sh: ./build builds the program first' >&2
+    exit 1
+fi
 turns=2000
 python3 - "$program" "$work" "$turns" <<'END'
 import os, resource, socket, subprocess, sys, tempfile, time

@@ -1,5 +1,5 @@
 #!/bin/sh
-# What a turn costs beside a player of whom nothing is heard, as the turns that it missed grow, on the largest ground as one long
+# What a turn costs beside a player of whom nothing is heard, as the turns that it missed grow, on a ground of 256 x 256 cells as one long
 # way: the set of the cells that it can be at grows by what the turn adds, so each turn costs the same. README.md says how it is
 # measured. Run it by hand, on a machine that does nothing else: bench/silent.sh
 . "$(dirname "$0")/common.sh"

@@ -71,6 +71,8 @@ def fault(whole, ran, late):
 
 def main():
     program = os.path.abspath(sys.argv[1] if len(sys.argv) > 1 else os.path.join(HERE, "..", "crates", "lethwyrn", "out", "lethwyrn"))
+    if not os.path.exists(program):
+        sys.exit("trials/memory.py: ./build builds the program first")
     wrong = 0
     with tempfile.TemporaryDirectory() as folder:
         shim = os.path.join(folder, "refuse.so")

@@ -15,8 +15,8 @@
  * handed out is written to memory of the caller. Where a call is refused, what it would have written is unchanged, but for the counts
  * `*count`, `*used` and `*made`, which are 0 then.
  *
- * Turns, places, entries and bytes are counted from 0, lines from 1. A place is a frame's number in the stream of its player: 2 * turn
- * for a session that commits no turn ahead.
+ * Turns, places, entries and bytes are counted from 0, lines from 1. A place is a frame's number in the stream of its player: where players
+ * commit one turn ahead, 2 * turn for a commitment and 2 * turn + 1 for a reveal.
  */
 #ifndef LETHWYRN_H
 #define LETHWYRN_H
@@ -60,7 +60,7 @@ enum lethwyrn_code {
     LETHWYRN_STRIKE_FAR = 15,    /* .. is past the player's reach */
     LETHWYRN_NO_CHARGE = 16,     /* choose: the charge is below the cost of a strike */
     LETHWYRN_NO_ROOM = 17,       /* evidence: the text is longer than the room for it */
-    LETHWYRN_WHOLE_LOG = 18,     /* evidence: an illegal move, which two frames alone don't show: the log does */
+    LETHWYRN_WHOLE_LOG = 18,     /* evidence: an illegal move, of which no text is given: the log shows it */
     /* hear */
     LETHWYRN_MORE = 30,          /* all bytes are used, and they end no frame */
     LETHWYRN_HELLO = 31,         /* a hello came: greet says whose, whether it names this session, its pass, and the place wanted next */

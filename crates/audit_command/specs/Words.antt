@@ -1,7 +1,7 @@
 -- Words: what the words of the command say.
 use Rattle.std.specs.Prelude.{ℕ, Bool, not, List, [], ◌∷◌, Option, Some, None, length, map, nat_le, ◌&&◌, if◌then◌else◌}
 use Rattle.definitions.specs.Lists.{is_empty}
-use Rattle.audit_command.specs.declared.limits.TheConstants.{MOST_AUDITED}
+use Rattle.program_words.specs.declared.limits.TheConstants.{MOST_AUDITED}
 use Rattle.audit_command.specs.declared.words.AuditWords.{AuditWords}
 
 -- a run of the command, by its words

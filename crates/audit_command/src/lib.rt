@@ -9,11 +9,9 @@
 
 pub mod auditing;
 pub mod laws;
-pub mod limits;
 mod lines;
 mod printing;
 pub mod words;
 
 pub use auditing::put_audit;
-pub use limits::MOST_AUDITED;
 pub use words::{AuditWords, read_audit_words};

@@ -3,7 +3,7 @@
 ghost use Rattle.std.specs.Prelude.{◌≡◌, map, option_map};
 ghost use Rattle.audit_command.specs.Words as W;
 
-use crate::limits::MOST_AUDITED;
+use program_words::MOST_AUDITED;
 
 /// What the words say: the session's file, and the files of logs, from 1 to `MOST_AUDITED`.
 #[derive(Clone, Copy)]

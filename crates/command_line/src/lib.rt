@@ -9,7 +9,6 @@
 #![tactic(auto)]
 
 mod commands;
-pub mod limits;
 mod lines;
 mod names;
 mod words;

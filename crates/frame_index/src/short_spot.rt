@@ -1,4 +1,4 @@
-//! A spot in four bytes, so that those of sixteen logs stand in a line of a processor's cache.
+//! A spot in four bytes, so that those of sixteen logs take 64 bytes, as many as a line of a processor's cache has.
 
 ghost use Rattle.std.specs.Prelude.{◌≡◌};
 ghost use Rattle.frame_index.specs.Spots.{IsInRange};

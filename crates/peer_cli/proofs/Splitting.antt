@@ -15,7 +15,7 @@ use Rattle.upgrade_command.specs.Words.{upgrading_in}
 use Rattle.judge_command.specs.Words.{judging_in}
 use Rattle.schedule_command.specs.Words.{scheduling_in}
 use Rattle.make_command.specs.Words.{making_in}
-use Rattle.audit_command.specs.declared.limits.TheConstants.{MOST_AUDITED}
+use Rattle.program_words.specs.declared.limits.TheConstants.{MOST_AUDITED}
 use Rattle.audit_command.specs.Words.{Auditing, are_few, auditing_in}
 use Rattle.peer_command.specs.Words.{peering_in}
 use Rattle.peer_runs.specs.Peers.{peering_behind, peering_named, peering_of}

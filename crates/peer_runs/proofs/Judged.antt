@@ -9,7 +9,7 @@ use Rattle.station.specs.Since.{since}
 use Rattle.line_io.specs.Fronts.{AllShown}
 use Rattle.run_frame.specs.declared.statuses.Status.{Status}
 use Rattle.run_frame.specs.declared.statuses.Status.TheVariants.{BadLine, BadSession, InputFault, NoMemory}
-use Rattle.run_frame.specs.declared.statuses.TextName.TheVariants.{Evidence, Script, Roster, Moves, Seed, Roots}
+use Rattle.run_frame.specs.declared.statuses.TextName.TheVariants.{Evidence, Script, Roster, Moves}
 use Rattle.evidence.specs.declared.exhibit.Exhibit.{Exhibit}
 use Rattle.judge_command.specs.Judge.{judge_answer}
 use Rattle.judge_command.specs.Words.{Judging}
@@ -94,6 +94,4 @@ case_refused due (BadLine Evidence line) d = ap judge_answer d
 case_refused due (BadLine Script line) d = absurd d
 case_refused due (BadLine Roster line) d = absurd d
 case_refused due (BadLine Moves line) d = absurd d
-case_refused due (BadLine Seed line) d = absurd d
-case_refused due (BadLine Roots line) d = absurd d
 case_refused due s d = absurd d

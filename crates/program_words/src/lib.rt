@@ -4,8 +4,10 @@
 //! takes memory from the allocator that it is given, and touches nothing outside.
 #![tactic(auto)]
 
+pub mod limits;
 mod one;
 mod texts;
 
+pub use limits::MOST_AUDITED;
 pub use one::only_word;
 pub use texts::{are_words, read_texts};

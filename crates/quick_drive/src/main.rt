@@ -7,7 +7,7 @@
 
 use drive_command::{DriveWords, drive, read_drive_words};
 use file_shelf::FileShelf;
-use run_frame::Status;
+use run_frame::{Status, refuse};
 use session_files::open_peer;
 use station::{StdSink, StdSource, words_of};
 use std::io;
@@ -17,9 +17,8 @@ use std::process::ExitCode;
 const REFUSED: u8 = 15;
 
 /// Drives a peer by the standard input.
-fn drive_by(rt: &HostRuntime, words: DriveWords<'_>) -> Status {
+fn drive_by<W: io::Write>(rt: &HostRuntime, words: DriveWords<'_>, out: &mut StdSink<W>) -> Status {
     let mut input = StdSource::new(rt.reader());
-    let mut out = StdSink::new(io::writer(rt));
     let mut shelf = FileShelf::new(rt.alloc(), rt);
     match open_peer(
         rt.alloc(),
@@ -28,7 +27,7 @@ fn drive_by(rt: &HostRuntime, words: DriveWords<'_>) -> Status {
         words.player,
         words.old,
     ) {
-        Ok(begun) => drive(begun.peer, begun.dropped, &mut input, &mut out),
+        Ok(begun) => drive(begun.peer, begun.dropped, &mut input, out),
         Err(status) => status,
     }
 }
@@ -37,9 +36,10 @@ fn main(rt: HostRuntime) -> ExitCode {
     let Ok(words) = words_of(&rt) else {
         return ExitCode::from(REFUSED);
     };
+    let mut out = StdSink::new(io::writer(&rt));
     let status = match read_drive_words(words.as_slice()) {
-        Some(words) => drive_by(&rt, words),
+        Some(words) => drive_by(&rt, words, &mut out),
         None => Status::Usage,
     };
-    ExitCode::from(status.code())
+    ExitCode::from(refuse(status, &mut out).code())
 }

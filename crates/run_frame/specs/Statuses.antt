@@ -5,7 +5,7 @@ use Rattle.definitions.specs.declared.sessions.SessionRule.TheVariants.{S1, S2, 
 use Rattle.definitions.specs.declared.logs.LogWhy.{LogWhy}
 use Rattle.definitions.specs.declared.logs.LogWhy.TheVariants.{TooLong, Torn, BadChain, BadEntry, NotReplayed}
 use Rattle.run_frame.specs.declared.statuses.TextName.{TextName}
-use Rattle.run_frame.specs.declared.statuses.TextName.TheVariants.{Script, Roster, Moves, Evidence, Seed, Roots}
+use Rattle.run_frame.specs.declared.statuses.TextName.TheVariants.{Script, Roster, Moves, Evidence}
 use Rattle.run_frame.specs.declared.statuses.Status.{Status}
 use Rattle.run_frame.specs.declared.statuses.Status.TheVariants.{Done, NoMemory, Usage, BadSession, InputFault, OutputFault, Caught, GaveUp, KeepFault, PollFault, BadLog, BadLine, OwnMove}
 
@@ -54,8 +54,6 @@ text_word Script = codes "script"
 text_word Roster = codes "roster"
 text_word Moves = codes "moves"
 text_word Evidence = codes "evidence"
-text_word Seed = codes "seed"
-text_word Roots = codes "roots"
 
 -- the line that tells of a session text that is not in its grammar
 unfoldable pub bad_session_line : ℕ → SessionRule → List ℕ

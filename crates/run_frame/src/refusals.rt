@@ -59,8 +59,6 @@ fn word_of_text(text: TextName) -> &'static [u8]
         TextName::Roster => b"roster",
         TextName::Moves => b"moves",
         TextName::Evidence => b"evidence",
-        TextName::Seed => b"seed",
-        TextName::Roots => b"roots",
     }
 }
 

@@ -16,10 +16,6 @@ pub enum TextName {
     Moves,
     /// What shows a finding to others.
     Evidence,
-    /// What a player's keys are made of.
-    Seed,
-    /// The roots of the players' keys.
-    Roots,
 }
 
 /// How a run ends. `code` gives its exit status.

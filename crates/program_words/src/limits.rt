@@ -1,4 +1,4 @@
-//! The limit of the words.
+//! How many words there may be.
 
 /// The most logs that `audit` takes, behind its session.
 pub const MOST_AUDITED: usize = 16;
