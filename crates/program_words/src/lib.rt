@@ -1,6 +1,6 @@
 //! Which words a program may be given, and those as texts: each is UTF-8, and none begins with `-`.
 //!
-//! This says nothing of what the words mean, and needs no library for command lines, so that a program may read its words by it alone. The crate
+//! Beside how many logs `audit` takes it says nothing of what the words mean, and it needs no library for command lines, so that a program may read its words by it alone. The crate
 //! takes memory from the allocator that it is given, and touches nothing outside.
 #![tactic(auto)]
 
