@@ -1,6 +1,0 @@
-//! Stepped matches, their command, and matches of a number.
-
-mod made_matches;
-mod stepped_texts;
-mod tables;
-mod whole_matches;

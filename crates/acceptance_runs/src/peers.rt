@@ -1,5 +1,0 @@
-//! Runs over sockets in memory.
-
-mod dialled;
-mod peers;
-mod runs;

@@ -1,5 +1,0 @@
-//! Matches over the machine's sockets.
-
-mod fields;
-mod matches;
-mod runs;

@@ -1,0 +1,5 @@
+use Rattle.std.proofs.Common.{◌≡◌, []}
+use Rattle.worked_cases.proofs.playing.station_of.Given as goal
+
+abbrev pub invariant-sockets : goal.invariant-sockets
+invariant-sockets l = l.station.book.history ≡ []

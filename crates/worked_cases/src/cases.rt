@@ -1,0 +1,148 @@
+//! A case: what the program is run on, and what must come out.
+
+use crate::files::Files;
+use std::alloc::Global;
+
+/// The calls of each object that are to fail, counted from 1.
+#[derive(Drop)]
+pub struct Fails {
+    pub files: Vec<u32>,
+    pub input: Vec<u32>,
+    pub output: Vec<u32>,
+    pub station: Option<u32>,
+}
+
+/// What a case wants of a run, as far as it says so.
+#[derive(Drop)]
+pub struct Wants {
+    /// What is written.
+    pub writes: Option<Vec<u8>>,
+    /// Lines that are written in this order, with others between them.
+    pub among: Option<Vec<u8>>,
+    /// The last lines that are written, with none between them.
+    pub ends: Option<Vec<u8>>,
+    /// How many lines are written.
+    pub lines: Option<usize>,
+    /// The status.
+    pub status: Option<usize>,
+    /// How many polls are made.
+    pub polls: Option<usize>,
+    /// How many bytes the log keeps.
+    pub keeps: Option<usize>,
+    /// How many bytes are given on the first socket.
+    pub gives: Option<usize>,
+}
+
+/// What a socket brings that comes to the station, and in pieces of how many bytes.
+#[derive(Drop)]
+pub struct Socket {
+    pub bytes: Vec<u8>,
+    pub size: usize,
+}
+
+/// What the program is run on.
+#[derive(Drop)]
+pub struct Run {
+    pub words: Vec<Vec<u8>>,
+    pub files: Files,
+    pub input: Vec<u8>,
+    pub fails: Fails,
+    /// How many items the station has room for.
+    pub room: u32,
+    pub sockets: Vec<Socket>,
+}
+
+/// What lines with a mark say behind a line of a case.
+#[derive(Clone, Copy)]
+pub enum Part {
+    /// Nothing: no line with a mark may follow.
+    Nothing,
+    /// Words, one a line.
+    Words,
+    /// The last file.
+    File,
+    Input,
+    /// What the last socket brings.
+    Socket,
+    Writes,
+    Among,
+    Ends,
+}
+
+/// What the program is run on, and what is wanted of the run.
+#[derive(Drop)]
+pub struct Case {
+    /// The line of its sentence.
+    pub line: u32,
+    pub sentence: String,
+    pub run: Run,
+    pub wants: Wants,
+    /// What lines with a mark say now.
+    pub part: Part,
+}
+
+impl Fails {
+    /// No call fails.
+    fn none(alloc: Global) -> Fails {
+        Fails {
+            files: Vec::new(alloc),
+            input: Vec::new(alloc),
+            output: Vec::new(alloc),
+            station: None,
+        }
+    }
+}
+
+impl Wants {
+    /// Nothing is wanted.
+    fn nothing() -> Wants {
+        Wants {
+            writes: None,
+            among: None,
+            ends: None,
+            lines: None,
+            status: None,
+            polls: None,
+            keeps: None,
+            gives: None,
+        }
+    }
+
+    /// Whether nothing is wanted, so that each run comes out as the case says.
+    pub fn is_nothing(&self) -> bool {
+        let has_text = self.writes.is_some() || self.among.is_some() || self.ends.is_some();
+        let has_end = self.lines.is_some() || self.status.is_some() || self.polls.is_some();
+        let has_bytes = self.keeps.is_some() || self.gives.is_some();
+        !has_text && !has_end && !has_bytes
+    }
+}
+
+/// How many items a station has room for, where a case doesn't say it.
+const USUAL_ROOM: u32 = 4000;
+
+impl Run {
+    /// A run of no words, without files and input.
+    fn new(alloc: Global) -> Run {
+        Run {
+            words: Vec::new(alloc),
+            files: Files::new(alloc),
+            input: Vec::new(alloc),
+            fails: Fails::none(alloc),
+            room: USUAL_ROOM,
+            sockets: Vec::new(alloc),
+        }
+    }
+}
+
+impl Case {
+    /// A case of this sentence, of which nothing else is said yet.
+    pub fn new(alloc: Global, line: u32, sentence: String) -> Case {
+        Case {
+            line,
+            sentence,
+            run: Run::new(alloc),
+            wants: Wants::nothing(),
+            part: Part::Nothing,
+        }
+    }
+}

@@ -1,0 +1,158 @@
+//! How a run differs from what a case wants.
+
+use crate::cases::Wants;
+use crate::playing::Ran;
+use hex::encode;
+use std::alloc::{AllocError, Global};
+use std::str;
+
+/// The lines of the bytes, each with its LF if it has one.
+fn lines_of(alloc: Global, bytes: &[u8]) -> Result<Vec<&[u8]>, AllocError> {
+    bytes.split_inclusive(|byte| *byte == b'\n').collect(alloc)
+}
+
+/// A line for the reader: its text, or its digits where it is no text.
+fn shown(alloc: Global, line: Option<&&[u8]>) -> Result<String, AllocError> {
+    let Some(line) = line else {
+        return String::from_str(alloc, "(nothing more)");
+    };
+    match str::from_utf8(line) {
+        Ok(text) => format!(in alloc; "{text:?}"),
+        Err(_) => encode(alloc, line),
+    }
+}
+
+/// Two lines that differ, as a text.
+fn two_lines(
+    alloc: Global,
+    at: usize,
+    wanted: Option<&&[u8]>,
+    came: Option<&&[u8]>,
+) -> Result<String, AllocError> {
+    let number = at.saturating_add(1);
+    let wanted = shown(alloc, wanted)?;
+    let came = shown(alloc, came)?;
+    format!(in alloc; "  line {number} of these: wanted {wanted}, and {came} came\n")
+}
+
+/// The first of the lines that differ, if some do.
+fn lines_differ(
+    alloc: Global,
+    wanted: &[&[u8]],
+    came: &[&[u8]],
+) -> Result<Option<String>, AllocError> {
+    for at in 0..wanted.len().max(came.len()) {
+        let due = wanted.get(at);
+        let own = came.get(at);
+        if due != own {
+            let text = two_lines(alloc, at, due, own)?;
+            return Ok(Some(text));
+        }
+    }
+    Ok(None)
+}
+
+/// The first line in which the texts differ, if they do.
+fn text_differs(alloc: Global, wanted: &[u8], came: &[u8]) -> Result<Option<String>, AllocError> {
+    let wanted = lines_of(alloc, wanted)?;
+    let came = lines_of(alloc, came)?;
+    lines_differ(alloc, wanted.as_slice(), came.as_slice())
+}
+
+/// The first of the last lines that differs, if one does, where as many are looked at as are
+/// wanted.
+fn end_differs(alloc: Global, wanted: &[u8], came: &[u8]) -> Result<Option<String>, AllocError> {
+    let wanted = lines_of(alloc, wanted)?;
+    let came = lines_of(alloc, came)?;
+    let from = came.len().saturating_sub(wanted.len());
+    let end = &came.as_slice()[from..];
+    lines_differ(alloc, wanted.as_slice(), end)
+}
+
+/// How many of the wanted lines came, in their order, with others between them.
+fn in_order(wanted: &[&[u8]], came: &[&[u8]]) -> usize {
+    let mut next = 0usize;
+    for line in came {
+        if wanted.get(next) == Some(line) {
+            next = next.saturating_add(1);
+        }
+    }
+    next
+}
+
+/// The first of the wanted lines that doesn't come after those before it, if there is one.
+fn lines_lack(alloc: Global, wanted: &[u8], came: &[u8]) -> Result<Option<String>, AllocError> {
+    let wanted = lines_of(alloc, wanted)?;
+    let came = lines_of(alloc, came)?;
+    let next = in_order(wanted.as_slice(), came.as_slice());
+    let line = wanted.get(next);
+    if line.is_none() {
+        return Ok(None);
+    }
+    let line = shown(alloc, line)?;
+    let text = format!(in alloc; "  no line {line} came in its place\n")?;
+    Ok(Some(text))
+}
+
+/// How the written text differs from what is wanted of its lines, if it does.
+fn writes_otherwise(
+    alloc: Global,
+    wants: &Wants,
+    text: &[u8],
+) -> Result<Option<String>, AllocError> {
+    if let Some(wanted) = &wants.writes
+        && let Some(said) = text_differs(alloc, wanted.as_slice(), text)?
+    {
+        return Ok(Some(said));
+    }
+    if let Some(wanted) = &wants.among
+        && let Some(said) = lines_lack(alloc, wanted.as_slice(), text)?
+    {
+        return Ok(Some(said));
+    }
+    match &wants.ends {
+        None => Ok(None),
+        Some(wanted) => end_differs(alloc, wanted.as_slice(), text),
+    }
+}
+
+/// How a count differs from what is wanted, if it does.
+fn counts_otherwise(
+    alloc: Global,
+    what: &str,
+    wanted: Option<usize>,
+    came: usize,
+) -> Result<Option<String>, AllocError> {
+    match wanted {
+        Some(count) if count != came => {
+            let text = format!(in alloc; "  {what}: wanted {count}, and {came} came\n")?;
+            Ok(Some(text))
+        }
+        _ => Ok(None),
+    }
+}
+
+/// The counts of a run beside those that are wanted.
+fn counts_of(wants: &Wants, ran: &Ran) -> [(&'static str, Option<usize>, usize); 5] {
+    let lines = ran.text.iter().filter(|byte| **byte == b'\n').count();
+    [
+        ("lines", wants.lines, lines),
+        ("status", wants.status, usize::from(ran.status)),
+        ("polls", wants.polls, ran.polls as usize),
+        ("keeps", wants.keeps, ran.kept),
+        ("gives", wants.gives, ran.given),
+    ]
+}
+
+/// The first thing in which a run differs from what the case wants, as a text, if there is one.
+pub fn differs(alloc: Global, wants: &Wants, ran: &Ran) -> Result<Option<String>, AllocError> {
+    if let Some(said) = writes_otherwise(alloc, wants, ran.text.as_slice())? {
+        return Ok(Some(said));
+    }
+    for (what, wanted, came) in counts_of(wants, ran) {
+        if let Some(said) = counts_otherwise(alloc, what, wanted, came)? {
+            return Ok(Some(said));
+        }
+    }
+    Ok(None)
+}

@@ -1,0 +1,147 @@
+//! A run of the program as a case asks for it.
+
+ghost use Rattle.std.specs.Prelude.{◌≡◌, [], IfOk};
+
+use crate::cases::{Fails, Run, Socket};
+use crate::faults::Fault;
+use bytes::Bytes;
+use memory_station::MemoryStation;
+use rand_core::SeedableRng;
+use rand_pcg::Pcg32;
+use run_frame::Status;
+use socket_station::Station;
+use station::{MemoryShelf, MemorySink, MemorySource};
+use std::alloc::{AllocError, Global};
+
+/// How many bytes a run may write.
+const MOST_WRITTEN: usize = 2_097_152;
+
+/// How many bytes a station has room for.
+const MOST_CARRIED: u32 = 16_384;
+
+/// How a run ended: its status, what it wrote, how many polls it made, how many bytes it kept, and
+/// how many it gave on its first socket.
+#[derive(Drop)]
+pub struct Ran {
+    pub status: u8,
+    pub text: Vec<u8>,
+    pub polls: u32,
+    pub kept: usize,
+    pub given: usize,
+}
+
+/// Brings a new socket, and what it brings in pieces.
+fn bring(alloc: Global, station: &mut MemoryStation, brought: &Socket) -> Result<(), Fault>
+    ensures { station.new.book.history ≡ station.old.book.history }
+{
+    let Some(socket) = station.bring_socket() else {
+        return Err(Fault::Wanted("at most 512 sockets"));
+    };
+    'pieces: for piece in brought.bytes.as_slice().chunks(brought.size.max(1)) {
+        if piece.is_empty() || !station.is_known(socket) {
+            return Err(Fault::Wanted("pieces that are not empty"));
+        }
+        let piece = Bytes::copy_from_slice(alloc, piece)?;
+        if station.bring(socket, piece).is_err() {
+            return Err(Fault::Wanted("at most 65536 pieces"));
+        }
+    }
+    Ok(())
+}
+
+/// The station of a run, to which nothing came yet.
+fn bare_station(alloc: Global, asked: &Run) -> Result<MemoryStation, AllocError>
+    ensures { IfOk result (λ station. station.book.history ≡ []) }
+{
+    let mut station = MemoryStation::new(alloc, asked.room, MOST_CARRIED)?;
+    match asked.fails.station {
+        None => Ok(station),
+        Some(number) => {
+            station.fail_call(number);
+            Ok(station)
+        }
+    }
+}
+
+/// The station of a run, of which no call was made.
+fn station_of(alloc: Global, asked: &Run) -> Result<MemoryStation, Fault>
+    ensures { IfOk result (λ station. station.book.history ≡ []) }
+{
+    let mut station = bare_station(alloc, asked)?;
+    'sockets: for socket in &asked.sockets {
+        bring(alloc, &mut station, socket)?;
+    }
+    Ok(station)
+}
+
+/// Runs the words over these objects, with nonces that are drawn of 7.
+fn run_over(
+    alloc: Global,
+    words: &[Vec<u8>],
+    input: &mut MemorySource,
+    out: &mut MemorySink,
+    shelf: &mut MemoryShelf,
+    station: &mut MemoryStation,
+) -> Status
+    requires { ⟦<MemoryStation as Station>⟧.history station.old ≡ [] }
+{
+    let mut chance = Pcg32::seed_from_u64(7);
+    peer_cli::run(alloc, words, input, out, shelf, station, &mut chance)
+}
+
+/// How many bytes were given on the first socket.
+fn given_first(station: &MemoryStation) -> usize {
+    let mut out = [0; 4096];
+    station.given(0, 0, &mut out)
+}
+
+/// What shows of a run that ended so.
+fn ran_of(
+    alloc: Global,
+    status: Status,
+    out: &MemorySink,
+    station: &MemoryStation,
+) -> Result<Ran, Fault> {
+    let text = Vec::from_slice(alloc, out.bytes())?;
+    let status = status.code();
+    let polls = station.polls();
+    let kept = station.kept().len();
+    let given = given_first(station);
+    Ok(Ran {
+        status,
+        text,
+        polls,
+        kept,
+        given,
+    })
+}
+
+/// Runs the program as a case asks for it.
+pub fn play(alloc: Global, asked: Run) -> Result<Ran, Fault> {
+    let mut station = station_of(alloc, &asked)?;
+    let Run {
+        words,
+        files,
+        input,
+        fails,
+        ..
+    } = asked;
+    let Fails {
+        files: bad_files,
+        input: bad_input,
+        output: bad_output,
+        ..
+    } = fails;
+    let mut input = MemorySource::new(input, bad_input);
+    let mut out = MemorySink::new(alloc, MOST_WRITTEN, bad_output)?;
+    let mut shelf = files.into_shelf(alloc, bad_files)?;
+    let status = run_over(
+        alloc,
+        words.as_slice(),
+        &mut input,
+        &mut out,
+        &mut shelf,
+        &mut station,
+    );
+    ran_of(alloc, status, &out, &station)
+}

@@ -1,0 +1,224 @@
+//! What the lines of a case say.
+
+use crate::book::Book;
+use crate::cases::{Case, Part, Run, Socket, Wants};
+use crate::faults::Fault;
+use crate::lines::{Line, line_of, number};
+use crate::spelling::spelled;
+use std::alloc::Global;
+
+/// A copy of the bytes of this name.
+fn copy_of(book: &Book, name: &str) -> Result<Vec<u8>, Fault> {
+    let bytes = book.find(name)?;
+    let copy = Vec::from_slice(book.alloc, bytes)?;
+    Ok(copy)
+}
+
+/// The numbers of a text.
+fn numbers_of(book: &Book, text: &str) -> Result<Vec<u32>, Fault> {
+    let mut numbers = Vec::new(book.alloc);
+    for word in text.split(' ') {
+        let number = number(word)?;
+        numbers.push(number)?;
+    }
+    Ok(numbers)
+}
+
+/// Refuses what a case says for the second time.
+fn refuse_again(is_said: bool) -> Result<(), Fault> {
+    if is_said {
+        return Err(Fault::Wanted("this once in a case"));
+    }
+    Ok(())
+}
+
+/// The number of a text is wanted from now on.
+fn want_count(wanted: &mut Option<usize>, text: &str) -> Result<Part, Fault> {
+    refuse_again(wanted.is_some())?;
+    let count = number(text)?;
+    *wanted = Some(count);
+    Ok(Part::Nothing)
+}
+
+/// A text is wanted from now on, of which no line stands yet. Its lines are this part.
+fn want_text(alloc: Global, wanted: &mut Option<Vec<u8>>, part: Part) -> Result<Part, Fault> {
+    refuse_again(wanted.is_some())?;
+    *wanted = Some(Vec::new(alloc));
+    Ok(part)
+}
+
+/// These calls fail from now on.
+fn fail_calls(calls: &mut Vec<u32>, numbers: Vec<u32>) -> Result<(), Fault> {
+    refuse_again(!calls.is_empty())?;
+    *calls = numbers;
+    Ok(())
+}
+
+/// The one call of these numbers fails from now on.
+fn fail_one_call(call: &mut Option<u32>, numbers: &[u32]) -> Result<(), Fault> {
+    refuse_again(call.is_some())?;
+    let [number] = numbers else {
+        return Err(Fault::Wanted("one number"));
+    };
+    *call = Some(*number);
+    Ok(())
+}
+
+impl Run {
+    /// The file `s` is the text of the session of this name, over which frames are spelled now.
+    fn say_over(&mut self, book: &mut Book, name: &str) -> Result<Part, Fault> {
+        let text = copy_of(book, name)?;
+        book.go_over(name)?;
+        let own = spelled(book, "s")?;
+        self.files.add(own, text)?;
+        Ok(Part::Nothing)
+    }
+
+    /// The words are those of the text, between its spaces.
+    fn say_words(&mut self, book: &Book, text: &str) -> Result<Part, Fault> {
+        if !text.is_empty() {
+            for word in text.split(' ') {
+                let word = Vec::from_slice(book.alloc, word.as_bytes())?;
+                self.words.push(word)?;
+            }
+        }
+        Ok(Part::Words)
+    }
+
+    /// There is a file, by the words `NAME` or `NAME is TEXT`.
+    fn say_file(&mut self, book: &Book, words: &str) -> Result<Part, Fault> {
+        match words.split_once(" is ") {
+            None => {
+                let name = spelled(book, words)?;
+                self.files.add(name, Vec::new(book.alloc))?;
+                Ok(Part::File)
+            }
+            Some((name, text)) => {
+                let name = spelled(book, name)?;
+                let bytes = copy_of(book, text)?;
+                self.files.add(name, bytes)?;
+                Ok(Part::Nothing)
+            }
+        }
+    }
+
+    /// There is an input, perhaps one that is the text of a name.
+    fn say_input(&mut self, book: &Book, words: &str) -> Result<Part, Fault> {
+        if let Some(name) = words.strip_prefix("is ") {
+            self.input = copy_of(book, name)?;
+        }
+        Ok(Part::Input)
+    }
+
+    /// These calls of an object fail, by the words `OBJECT NUMBER..`.
+    fn say_fails(&mut self, book: &Book, words: &str) -> Result<Part, Fault> {
+        let line = line_of(words);
+        let numbers = numbers_of(book, line.rest)?;
+        match line.word {
+            "files" => fail_calls(&mut self.fails.files, numbers)?,
+            "input" => fail_calls(&mut self.fails.input, numbers)?,
+            "output" => fail_calls(&mut self.fails.output, numbers)?,
+            "station" => fail_one_call(&mut self.fails.station, numbers.as_slice())?,
+            _ => return Err(Fault::Wanted("files, input, output or station")),
+        }
+        Ok(Part::Nothing)
+    }
+
+    /// A socket comes, and what it brings comes in pieces of so many bytes.
+    fn say_socket(&mut self, book: &Book, size: &str) -> Result<Part, Fault> {
+        let size = number::<usize>(size)?;
+        let bytes = Vec::new(book.alloc);
+        self.sockets.push(Socket { bytes, size })?;
+        Ok(Part::Socket)
+    }
+
+    /// What a line without a mark says of the run. None where it says nothing of that.
+    fn say(&mut self, book: &mut Book, line: Line<'_>) -> Result<Option<Part>, Fault> {
+        let part = match line.word {
+            "over" => self.say_over(book, line.rest)?,
+            "words" => self.say_words(book, line.rest)?,
+            "file" => self.say_file(book, line.rest)?,
+            "input" => self.say_input(book, line.rest)?,
+            "fail" => self.say_fails(book, line.rest)?,
+            "room" => self.say_room(line.rest)?,
+            "socket" => self.say_socket(book, line.rest)?,
+            _ => return Ok(None),
+        };
+        Ok(Some(part))
+    }
+
+    /// The station has room for so many items.
+    fn say_room(&mut self, items: &str) -> Result<Part, Fault> {
+        self.room = number(items)?;
+        Ok(Part::Nothing)
+    }
+
+    /// One word more. A line's LF isn't part of it.
+    fn add_word(&mut self, mut word: Vec<u8>) -> Result<(), Fault> {
+        if word.as_slice().last() == Some(&b'\n') {
+            let _ = word.pop();
+        }
+        self.words.push(word)?;
+        Ok(())
+    }
+
+    /// The last socket brings these bytes too.
+    fn add_brought(&mut self, bytes: &[u8]) -> Result<(), Fault> {
+        if let Some(socket) = self.sockets.last_mut() {
+            socket.bytes.extend_from_slice(bytes)?;
+        }
+        Ok(())
+    }
+}
+
+impl Wants {
+    /// What a line says of what must come out.
+    fn say(&mut self, book: &Book, line: Line<'_>) -> Result<Part, Fault> {
+        match line.word {
+            "writes" => want_text(book.alloc, &mut self.writes, Part::Writes),
+            "among" => want_text(book.alloc, &mut self.among, Part::Among),
+            "ends" => want_text(book.alloc, &mut self.ends, Part::Ends),
+            "lines" => want_count(&mut self.lines, line.rest),
+            "status" => want_count(&mut self.status, line.rest),
+            "polls" => want_count(&mut self.polls, line.rest),
+            "keeps" => want_count(&mut self.keeps, line.rest),
+            "gives" => want_count(&mut self.gives, line.rest),
+            _ => Err(Fault::Wanted("a word of the format")),
+        }
+    }
+}
+
+impl Case {
+    /// What a line without a mark says.
+    pub fn say(&mut self, book: &mut Book, line: Line<'_>) -> Result<(), Fault> {
+        let said = self.run.say(book, line)?;
+        self.part = match said {
+            Some(part) => part,
+            None => self.wants.say(book, line)?,
+        };
+        Ok(())
+    }
+
+    /// What a line with a mark says, of the part that the last line without one said.
+    pub fn say_marked(&mut self, bytes: Vec<u8>) -> Result<(), Fault> {
+        match self.part {
+            Part::Nothing => return Err(Fault::Wanted("a line without a mark")),
+            Part::Words => self.run.add_word(bytes)?,
+            Part::File => self.run.files.extend(bytes.as_slice())?,
+            Part::Input => self.run.input.extend_from_slice(bytes.as_slice())?,
+            Part::Socket => self.run.add_brought(bytes.as_slice())?,
+            Part::Writes => add_wanted(&mut self.wants.writes, bytes.as_slice())?,
+            Part::Among => add_wanted(&mut self.wants.among, bytes.as_slice())?,
+            Part::Ends => add_wanted(&mut self.wants.ends, bytes.as_slice())?,
+        }
+        Ok(())
+    }
+}
+
+/// These bytes are wanted behind those before.
+fn add_wanted(wanted: &mut Option<Vec<u8>>, bytes: &[u8]) -> Result<(), Fault> {
+    if let Some(text) = wanted {
+        text.extend_from_slice(bytes)?;
+    }
+    Ok(())
+}
