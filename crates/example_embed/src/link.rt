@@ -8,7 +8,8 @@ use wire_frames::{FedWhat, FrameReader};
 /// How many bytes are read of one link: far more than a whole match has.
 const MOST: u64 = 16_777_216;
 
-/// A reader of one link, and how many bytes it used. A link that comes again after it was lost begins anew.
+/// A reader of one link, and how many bytes it used. A link that comes again after it was lost
+/// begins anew.
 #[derive(Drop)]
 pub struct Link {
     reader: FrameReader,
@@ -26,8 +27,8 @@ impl Link {
         }
     }
 
-    /// Reads on with these bytes up to the end of the first frame that ends in them, and says how many bytes were used and what
-    /// was found. None where the link has brought too many.
+    /// Reads on with these bytes up to the end of the first frame that ends in them, and says how
+    /// many bytes were used and what was found. None where the link has brought too many.
     pub fn feed(&mut self, bytes: &[u8], used: &mut usize) -> Option<FedWhat>
         ensures { used.new ≤ length bytes.now }
     {

@@ -1,8 +1,9 @@
 //! Two peers that are embedded in one program play a match against each other, over bytes alone.
 //!
-//! Each side stores the entries of its log before it sends the frames that they allow, hears what comes in pieces of seven bytes,
-//! and handles every answer of its peer. In mid-match one side is lost and goes on from what its disk has; both greet over a
-//! new link, and the match is played to its end.
+//! Each side stores the entries of its log before it sends the frames that they allow, hears what
+//! comes in pieces of seven bytes, and handles every answer of its peer. In mid-match one side is
+//! lost and goes on from what its disk has; both greet over a new link, and the match is played to
+//! its end.
 #![tactic(auto)]
 
 mod link;
@@ -88,14 +89,17 @@ fn play(
     println!(rt; "no end after {ROUNDS} rounds")
 }
 
+/// Plays a match in this session.
+fn play_in(rt: &(impl Print + RandomSource), alloc: Global, session: &Session) -> io::Result<()> {
+    let mut left = Side::new(alloc, session, 0)?;
+    let mut right = Side::new(alloc, session, 1)?;
+    play(rt, alloc, session, &mut left, &mut right)
+}
+
 fn main(rt: HostRuntime) -> io::Result<()> {
     let alloc = rt.alloc();
     match read_session(alloc, GROUND) {
         Err(fault) => println!(&rt; "bad session: {fault:?}"),
-        Ok(session) => {
-            let mut left = Side::new(alloc, &session, 0)?;
-            let mut right = Side::new(alloc, &session, 1)?;
-            play(&rt, alloc, &session, &mut left, &mut right)
-        }
+        Ok(session) => play_in(&rt, alloc, &session),
     }
 }

@@ -8,22 +8,19 @@ fn beside(at: u16, step: u32) -> u16 {
     at.saturating_add((step % 3) as u16).saturating_sub(1)
 }
 
-/// A step to one of the cells around, by the turn and the player, and now and then a strike beside it. It may lead against a wall,
-/// which isn't legal.
+/// A step to one of the cells around, by the turn and the player, and now and then a strike beside
+/// it. It may lead against a wall, which isn't legal.
 pub fn next_move(choice: &Choice, player: PlayerId) -> Move {
     let dice = choice
         .turn
         .wrapping_mul(2_654_435_761)
         .wrapping_add(u32::from(player).wrapping_mul(1_779_033_703));
-    let to = Cell {
-        x: beside(choice.track.at.x, dice >> 16),
-        y: beside(choice.track.at.y, dice >> 24),
-    };
+    let x = beside(choice.track.at.x, dice >> 16);
+    let y = beside(choice.track.at.y, dice >> 24);
+    let to = Cell { x, y };
+    let aside = beside(x, dice >> 20);
     let strike = if choice.track.charge >= 3 {
-        Some(Cell {
-            x: beside(to.x, dice >> 20),
-            y: to.y,
-        })
+        Some(Cell { x: aside, y })
     } else {
         None
     };

@@ -1,5 +1,5 @@
-//! A peer in a program that embeds it, with what such a program keeps beside it: how much of the log is stored, which frame is
-//! sent next, and the link to the other player.
+//! A peer in a program that embeds it, with what such a program keeps beside it: how much of the
+//! log is stored, which frame is sent next, and the link to the other player.
 
 ghost use Rattle.std.specs.Prelude.{◌≡◌, ◌≤◌, ◌<◌, ◌++◌, length, take, drop, OnOk};
 ghost use Rattle.session_log.specs.Writing.{all_written};
@@ -14,7 +14,7 @@ use std::alloc::AllocError;
 use wire_frames::{FedWhat, Frame, put_frame};
 
 /// What came over the link.
-#[derive(Clone, Copy, Debug, PartialEq, Eq)]
+#[derive(Clone, Copy)]
 pub enum Came {
     /// The bytes end no further frame.
     Nothing,
@@ -67,7 +67,8 @@ fn put_made(peer: &Peer, place: u32, out: &mut Vec<u8>) -> Result<(), AllocError
 }
 
 impl Seat {
-    /// A seat for this peer. The entries that its log has are stored already: those from which it goes on, or none.
+    /// A seat for this peer. The entries that its log has are stored already: those from which it
+    /// goes on, or none.
     pub fn new(peer: Peer, other: PlayerId) -> Seat
         requires { other < players_of peer.game }
     {
@@ -117,8 +118,8 @@ impl Seat {
         Ok(())
     }
 
-    /// Sends the own frames that weren't sent yet, by rising place, as far as their entries are stored: what goes out is what the
-    /// stored entries say was made.
+    /// Sends the own frames that weren't sent yet, by rising place, as far as their entries are
+    /// stored: what goes out is what the stored entries say was made.
     pub fn send(&mut self, out: &mut Vec<u8>) -> Result<(), AllocError>
         ensures bytes { OnOk result (out.new.items ≡ out.old.items ++ bytes_from (take self.old.stored self.old.peer.entries) self.old.sent) }
         ensures peer { self.new.peer ≡ self.old.peer }
@@ -131,22 +132,31 @@ impl Seat {
         Ok(())
     }
 
-    /// Begins a new link: greets the other player, and names the place of the frame that is wanted next. A real program also
-    /// shows the pass that both agreed on.
+    /// The greeting that names the place of the frame that is wanted next.
+    fn hello(&self) -> Frame {
+        let id = *self.peer.session().id();
+        let player = self.peer.me();
+        let next = self.peer.player(self.other).next;
+        Frame::Hello {
+            id,
+            player,
+            pass: [0; 16],
+            next,
+        }
+    }
+
+    /// Begins a new link: greets the other player, and names the place of the frame that is wanted
+    /// next. A real program also shows the pass that both agreed on.
     pub fn greet(&mut self, out: &mut Vec<u8>) -> Result<(), AllocError> {
         self.link = Link::new();
-        let hello = Frame::Hello {
-            id: *self.peer.session().id(),
-            player: self.peer.me(),
-            pass: [0; 16],
-            next: self.peer.player(self.other).next,
-        };
+        let hello = self.hello();
         let mut bytes = [0; 64];
         let count = put_frame(&hello, &mut bytes);
         out.extend_from_slice(&bytes[..count])
     }
 
-    /// Reads on in the bytes that came, up to the end of the first frame that ends in them, and says how many were used.
+    /// Reads on in the bytes that came, up to the end of the first frame that ends in them, and
+    /// says how many were used.
     pub fn hear(&mut self, bytes: &[u8], used: &mut usize) -> Came
         ensures { used.new ≤ length bytes.now }
     {

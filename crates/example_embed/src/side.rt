@@ -4,10 +4,10 @@ ghost use Rattle.std.specs.Prelude.{◌<◌};
 
 use crate::moves::{next_move, staying};
 use crate::seat::{Came, Seat};
-use definitions::{GotAnswer, LogWhy, Nonce, OwnFault, PlayerId, Progress};
+use definitions::{GotAnswer, LogWhy, MoveFault, Nonce, OwnFault, PlayerId, Progress};
 use grid_world::Session;
 use old_log::{OldFault, resume_from};
-use peer_core::{Peer, PlayerView};
+use peer_core::{Choice, Peer, PlayerView};
 use std::alloc::{AllocError, Global};
 use std::io;
 use std::mem::replace;
@@ -31,14 +31,14 @@ impl Side {
     {
         session.facts();
         let peer = Peer::new(alloc, session, me)?;
-        Ok(Side {
-            seat: Seat::new(peer, 1 - me),
-            disk: Vec::new(alloc),
-            inbox: Vec::new(alloc),
-        })
+        let seat = Seat::new(peer, 1 - me);
+        let disk = Vec::new(alloc);
+        let inbox = Vec::new(alloc);
+        Ok(Side { seat, disk, inbox })
     }
 
-    /// The side that goes on from what stands on a disk. What a crash left there of an entry is dropped.
+    /// The side that goes on from what stands on a disk. What a crash left there of an entry is
+    /// dropped.
     pub fn resume(
         alloc: Global,
         session: &Session,
@@ -55,11 +55,9 @@ impl Side {
         if let Some(at) = resumed.dropped {
             disk.truncate(at as usize);
         }
-        Ok(Side {
-            seat: Seat::new(resumed.peer, 1 - me),
-            disk,
-            inbox: Vec::new(alloc),
-        })
+        let seat = Seat::new(resumed.peer, 1 - me);
+        let inbox = Vec::new(alloc);
+        Ok(Side { seat, disk, inbox })
     }
 
     /// Loses all but the disk, on which an entry was just being written, and goes on from that.
@@ -97,7 +95,8 @@ impl Side {
         peer.player(player)
     }
 
-    /// Hears what came, lets the player choose where it may, makes what is allowed, and stores it before it is sent.
+    /// Hears what came, lets the player choose where it may, makes what is allowed, and stores it
+    /// before it is sent.
     pub fn step(
         &mut self,
         rt: &(impl Print + RandomSource),
@@ -120,20 +119,32 @@ impl Side {
 
     /// Chooses the next move, where one may be chosen now, or stays where that move isn't legal.
     fn choose(&mut self, rt: &(impl Print + RandomSource)) -> io::Result<()> {
+        if !self.seat.peer().may_choose() {
+            return Ok(());
+        }
         let choice = self.seat.peer().choice();
-        let me = self.seat.peer().me();
-        match self.seat.choose(next_move(&choice, me), Self::draw(rt)?) {
+        let mv = next_move(&choice, self.seat.peer().me());
+        let nonce = Self::draw(rt)?;
+        match self.seat.choose(mv, nonce) {
             Ok(()) | Err(OwnFault::NotNow) => Ok(()),
-            Err(OwnFault::Illegal(fault)) => {
-                println!(rt;
-                    "player {me} may not go there in turn {}: {fault:?}; it stays",
-                    choice.turn
-                )?;
-                match self.seat.choose(staying(&choice), Self::draw(rt)?) {
-                    Ok(()) => Ok(()),
-                    Err(fault) => println!(rt; "player {me} may not stay: {fault:?}"),
-                }
-            }
+            Err(OwnFault::Illegal(fault)) => self.stay(rt, &choice, &fault),
+        }
+    }
+
+    /// Stays, where the move that was chosen isn't legal, with a nonce of its own.
+    fn stay(
+        &mut self,
+        rt: &(impl Print + RandomSource),
+        choice: &Choice,
+        fault: &MoveFault,
+    ) -> io::Result<()> {
+        let me = self.seat.peer().me();
+        let turn = choice.turn;
+        println!(rt; "player {me} may not go there in turn {turn}: {fault:?}; it stays")?;
+        let nonce = Self::draw(rt)?;
+        match self.seat.choose(staying(choice), nonce) {
+            Ok(()) => Ok(()),
+            Err(fault) => println!(rt; "player {me} may not stay: {fault:?}"),
         }
     }
 
@@ -158,8 +169,8 @@ impl Side {
     }
 }
 
-/// Tells of an answer that the match should know of. Frames that are taken, or wait for those before them, are the rule, and the same one comes
-/// again where a link is made anew.
+/// Tells of an answer that the match should know of. Frames that are taken, or wait for those
+/// before them, are the rule, and the same one comes again where a link is made anew.
 fn tell(rt: &impl Print, me: PlayerId, answer: &GotAnswer) -> io::Result<()> {
     match answer {
         GotAnswer::Taken | GotAnswer::Stashed | GotAnswer::Same => Ok(()),

@@ -79,14 +79,16 @@ fn convicts(report: &Report, player: PlayerId, turn: Turn) -> bool {
     false
 }
 
-/// The moves by which honest logs resolve a player's turn: the last of them, and whether two of them differ.
+/// The moves by which honest logs resolve a player's turn: the last of them, and whether two of
+/// them differ.
 #[derive(Clone, Copy)]
 struct Told {
     last: Option<Move>,
     differ: bool,
 }
 
-/// The moves by which the owner's log resolves a player's turns, where the owner's own frames are those that it made.
+/// The moves by which the owner's log resolves a player's turns, where the owner's own frames are
+/// those that it made.
 fn moves_in(
     alloc: Global,
     ground: &Ground,
@@ -106,6 +108,21 @@ fn moves_in(
     Ok(moves)
 }
 
+/// A log resolves the turn by this move.
+fn tell(turn: &mut Told, mv: &Move) {
+    if let Some(last) = turn.last {
+        turn.differ = turn.differ || last != *mv;
+    }
+    turn.last = Some(*mv);
+}
+
+/// A log resolves the first of these turns by these moves.
+fn tell_all(told: &mut [Told], moves: &[Move]) {
+    for (turn, mv) in told.iter_mut().zip(moves.iter()) {
+        tell(turn, mv);
+    }
+}
+
 /// What the logs of the honest players tell of the player's turns, in their order.
 fn told_of(
     alloc: Global,
@@ -121,16 +138,14 @@ fn told_of(
     for owner in 0..ground.players {
         if let Some(log) = log_in(table, owner) {
             let moves = moves_in(alloc, ground, owner, log, player)?;
-            for (turn, mv) in told.iter_mut().zip(moves.iter()) {
-                turn.differ = turn.differ || turn.last.is_some_and(|last| last != *mv);
-                turn.last = Some(*mv);
-            }
+            tell_all(told.as_mut_slice(), moves.as_slice());
         }
     }
     Ok(told)
 }
 
-/// Whether the logs agree on the player's turn. Where two of them have different moves of it, the player is hostile and is found.
+/// Whether the logs agree on the player's turn. Where two of them have different moves of it, the
+/// player is hostile and is found.
 fn agree_on(
     table: &Table,
     report: &Report,
@@ -180,8 +195,8 @@ fn agreed_of(
     count_agreed(table, report, player, told.as_slice())
 }
 
-/// Whether the report names no honest player, and each hostile one that told two logs two moves, and agrees on the turns on which the
-/// logs do.
+/// Whether the report names no honest player, and each hostile one that told two logs two moves,
+/// and agrees on the turns on which the logs do.
 pub fn names_the_right(
     alloc: Global,
     ground: &Ground,
@@ -195,8 +210,9 @@ pub fn names_the_right(
         )?;
     }
     for player in 0..ground.players {
+        let agreed = agreed_of(alloc, ground, table, report, player)?;
         hold(
-            report.agreed(player) == agreed_of(alloc, ground, table, report, player)?,
+            report.agreed(player) == agreed,
             "the audit agrees on other turns than the logs",
         )?;
     }

@@ -82,7 +82,8 @@ fn check_entry(
     }
 }
 
-/// What has to hold of a log: of each entry from this number on, and that no frame is left that its owner may make.
+/// What has to hold of a log: of each entry from this number on, and that no frame is left that
+/// its owner may make.
 fn check_log(
     ground: &Ground,
     table: &Table,
@@ -162,7 +163,8 @@ fn check_players(ground: &Ground, table: &Table, checked: &[usize]) -> Result<()
     Ok(())
 }
 
-/// What has to hold of every table. Of each log the first entries are left out that were checked before, by player.
+/// What has to hold of every table. Of each log the first entries are left out that were checked
+/// before, by player.
 pub fn check_table(
     alloc: Global,
     ground: &Ground,

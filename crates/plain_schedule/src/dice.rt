@@ -1,8 +1,10 @@
-//! Numbers that look drawn, and the matches that they make: who plays on which ground, and who is hostile and how.
+//! Numbers that look drawn, and the matches that they make: who plays on which ground, and who is
+//! hostile and how.
 
 ghost use Rattle.std.specs.Prelude.{◌<◌};
 
 use crate::grounds::Ground;
+use crate::texts::put_line;
 use crate::worlds::{Trouble, World};
 use grid_world::read_session;
 use rand_core::utils::NextWord;
@@ -55,39 +57,71 @@ impl Dice {
 }
 
 /// The side of the ground on which drawn matches are played.
-const SIDE: u8 = 20;
+const SIDE: u32 = 20;
 
-/// The lines of a session before those of its players: of version 1, where players commit one turn ahead and that is drawn.
-fn head_of(alloc: Global, dice: &mut Dice, players: u8) -> Result<String, AllocError> {
-    let speed = 1 + dice.small(2);
-    let reach = dice.small(3);
-    let blast = dice.small(2);
-    let turns = 10 + dice.small(21);
-    let ahead = 1 + dice.small(3);
-    if ahead == 1 && dice.once_in(2) {
-        return format!(in alloc;
-            "playout 1\ngrid {SIDE} {SIDE}\nrules {speed} {reach} {blast}\ncharge 1 3 2\nturns {turns}\nplayers {players}\n"
-        );
+/// Adds the lines of the players.
+fn put_players(text: &mut String, dice: &mut Dice, players: u8) -> Result<(), AllocError> {
+    put_line(text, "players", &[u32::from(players)])?;
+    for player in 0..players {
+        let x = dice.below(SIDE);
+        let y = dice.below(SIDE);
+        put_line(text, "player", &[u32::from(player), x, y])?;
     }
-    format!(in alloc;
-        "playout 2\ngrid {SIDE} {SIDE}\nrules {speed} {reach} {blast}\ncharge 1 3 2\nturns {turns}\nahead {ahead}\nplayers {players}\n"
-    )
+    text.push_str("end\n")
+}
+
+/// The numbers of a session that are drawn.
+#[derive(Drop)]
+struct Drawn {
+    rules: [u32; 3],
+    turns: u32,
+    ahead: u32,
+    /// Whether it is of version 1, where players commit one turn ahead.
+    is_old: bool,
+}
+
+/// Draws them.
+fn drawn_of(dice: &mut Dice) -> Drawn {
+    let speed = 1 + dice.below(2);
+    let reach = dice.below(3);
+    let blast = dice.below(2);
+    let turns = 10 + dice.below(21);
+    let ahead = 1 + dice.below(3);
+    let is_old = ahead == 1 && dice.once_in(2);
+    Drawn {
+        rules: [speed, reach, blast],
+        turns,
+        ahead,
+        is_old,
+    }
+}
+
+/// Adds the lines before those of the players.
+fn put_head(text: &mut String, drawn: &Drawn) -> Result<(), AllocError> {
+    let version = if drawn.is_old { 1 } else { 2 };
+    put_line(text, "playout", &[version])?;
+    put_line(text, "grid", &[SIDE, SIDE])?;
+    put_line(text, "rules", &drawn.rules)?;
+    put_line(text, "charge", &[1, 3, 2])?;
+    put_line(text, "turns", &[drawn.turns])?;
+    if drawn.is_old {
+        return Ok(());
+    }
+    put_line(text, "ahead", &[drawn.ahead])
 }
 
 /// The text of a session of four to eight players.
 fn session_text(alloc: Global, dice: &mut Dice) -> Result<String, AllocError> {
     let players = 4 + dice.small(5);
-    let mut text = head_of(alloc, dice, players)?;
-    for player in 0..players {
-        let x = dice.small(SIDE);
-        let y = dice.small(SIDE);
-        text.push_str(format!(in alloc; "player {player} {x} {y}\n")?.as_str())?;
-    }
-    text.push_str("end\n")?;
+    let drawn = drawn_of(dice);
+    let mut text = String::new(alloc);
+    put_head(&mut text, &drawn)?;
+    put_players(&mut text, dice, players)?;
     Ok(text)
 }
 
-/// A drawn match, and the text of its session; a bit says of each hostile player whether it sends nothing.
+/// A drawn match, and the text of its session; a bit says of each hostile player whether it sends
+/// nothing.
 #[derive(Drop)]
 pub struct Match {
     pub world: World,
@@ -111,7 +145,8 @@ fn some_players(dice: &mut Dice, players: u8, sides: u32) -> u64
 /// Player 2, who is there in every match.
 const THIRD: u64 = 4;
 
-/// The match of these numbers. By the seed, nobody is hostile, or the hostile players send nothing, or one at least sends what it likes.
+/// The match of these numbers. By the seed, nobody is hostile, or the hostile players send
+/// nothing, or one at least sends what it likes.
 pub fn match_of(alloc: Global, dice: &mut Dice, seed: u64) -> Result<Match, Trouble> {
     let text = session_text(alloc, dice)?;
     let session = read_session(alloc, text.as_str().as_bytes())?;
@@ -123,14 +158,16 @@ pub fn match_of(alloc: Global, dice: &mut Dice, seed: u64) -> Result<Match, Trou
         1 => (some, some),
         _ => (some, some & fewer & !THIRD),
     };
+    let offers = Vec::new(alloc);
+    let world = World {
+        session,
+        ground,
+        hostile,
+        wishes: &[],
+        offers,
+    };
     Ok(Match {
-        world: World {
-            session,
-            ground,
-            hostile,
-            wishes: &[],
-            offers: Vec::new(alloc),
-        },
+        world,
         text,
         silent,
     })

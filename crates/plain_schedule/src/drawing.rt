@@ -9,21 +9,27 @@ use crate::worlds::nonce_of;
 use definitions::{Cell, Move, Nonce, PlayerId, Slot, Track, TurnFrame, What};
 use schedule::{Stand, Step, Table};
 
+/// A cell near this one, up to so many columns and rows away.
+fn cell_near(dice: &mut Dice, at: Cell, away: u8) -> Cell {
+    let x = dice.near(at.x, away);
+    let y = dice.near(at.y, away);
+    Cell { x, y }
+}
+
+/// Now and then a cell near this one.
+fn any_strike(dice: &mut Dice, at: Cell, reach: u8) -> Option<Cell> {
+    if dice.once_in(3) {
+        Some(cell_near(dice, at, reach))
+    } else {
+        None
+    }
+}
+
 /// A move near the player's cell, with a strike now and then; to stay, where that isn't legal.
 fn any_move(ground: &Ground, dice: &mut Dice, player: PlayerId, track: &Track) -> Move {
     let seat = ground.seat(player);
-    let to = Cell {
-        x: dice.near(track.at.x, seat.speed),
-        y: dice.near(track.at.y, seat.speed),
-    };
-    let strike = if dice.once_in(3) {
-        Some(Cell {
-            x: dice.near(to.x, seat.reach),
-            y: dice.near(to.y, seat.reach),
-        })
-    } else {
-        None
-    };
+    let to = cell_near(dice, track.at, seat.speed);
+    let strike = any_strike(dice, to, seat.reach);
     let mv = Move { to, strike };
     if ground.is_legal(player, track, &mv) {
         mv
@@ -40,11 +46,9 @@ fn any_choice(game: &Match, table: &Table, dice: &mut Dice, player: PlayerId) ->
     let log = log_in(table, player)?;
     let turn = own_of(log).chosen;
     let track = own_track(&game.world.ground, player, log, turn);
-    Some(Step::Choose {
-        player,
-        mv: any_move(&game.world.ground, dice, player, &track),
-        nonce: nonce_of(player, turn),
-    })
+    let mv = any_move(&game.world.ground, dice, player, &track);
+    let nonce = nonce_of(player, turn);
+    Some(Step::Choose { player, mv, nonce })
 }
 
 /// The next place, one near it, or one that was there before.
@@ -135,7 +139,20 @@ fn hostile_frame(game: &Match, from: PlayerId, place: u32, bend: Bend) -> TurnFr
     ground.frame_of(owner, &slot, Move { to, strike: None }, nonce)
 }
 
-/// A frame that a hostile player sends: of its play, of another move or nonce, or forged; at the next place, near it or before it.
+/// Now and then something differs.
+fn any_bend(dice: &mut Dice) -> Bend {
+    let forged = dice.once_in(20);
+    let other_nonce = dice.once_in(30);
+    let leaps = dice.once_in(40);
+    Bend {
+        forged,
+        other_nonce,
+        leaps,
+    }
+}
+
+/// A frame that a hostile player sends: of its play, of another move or nonce, or forged; at the
+/// next place, near it or before it.
 fn any_hostile(
     game: &Match,
     table: &Table,
@@ -149,11 +166,7 @@ fn any_hostile(
     let log = log_in(table, to)?;
     let next = known_of(&game.world.ground, log, from).next();
     let place = any_place(dice, next);
-    let bend = Bend {
-        forged: dice.once_in(20),
-        other_nonce: dice.once_in(30),
-        leaps: dice.once_in(40),
-    };
+    let bend = any_bend(dice);
     let frame = hostile_frame(game, from, place, bend);
     Some(Step::Hostile { from, to, frame })
 }
@@ -187,7 +200,8 @@ pub fn any_step(game: &Match, table: &Table, dice: &mut Dice) -> Option<Step> {
     }
 }
 
-/// The frame for which the first honest player waits whom the hostile one holds; none of a silent one.
+/// The frame for which the first honest player waits whom the hostile one holds; none of a silent
+/// one.
 fn frame_for_one_held(game: &Match, table: &Table, from: PlayerId) -> Option<Step> {
     if from >= 64 || (game.silent >> from) & 1 == 1 {
         return None;
@@ -205,7 +219,8 @@ fn frame_for_one_held(game: &Match, table: &Table, from: PlayerId) -> Option<Ste
     None
 }
 
-/// The step that the stand asks for. None at an end: where a log has a finding, a silent player is waited for, or all is done.
+/// The step that the stand asks for. None at an end: where a log has a finding, a silent player is
+/// waited for, or all is done.
 pub fn asked_of(game: &Match, table: &Table, dice: &mut Dice) -> Option<Step> {
     match table.stand() {
         Stand::Moving(player) => any_choice(game, table, dice, player),

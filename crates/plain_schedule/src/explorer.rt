@@ -1,7 +1,7 @@
 //! Every interleaving of a small match: the graph of its states, breadth first.
 //!
-//! A state is the logs of all honest players, and is kept once, by a digest of them. A table has no copy, so it is made again from
-//! the steps that led to its state.
+//! A state is the logs of all honest players, and is kept once, by a digest of them. A table has
+//! no copy, so it is made again from the steps that led to its state.
 
 use crate::audits::{agrees_on_all, audit};
 use crate::checks::check_table;
@@ -30,8 +30,8 @@ struct Came {
     depth: u32,
 }
 
-/// How many states there are, how many steps were taken from them, how many of these changed a log, and how many states are ends:
-/// neither a choice nor a frame changes anything there.
+/// How many states there are, how many steps were taken from them, how many of these changed a
+/// log, and how many states are ends: neither a choice nor a frame changes anything there.
 #[derive(Clone, Copy, Debug, PartialEq, Eq)]
 pub struct Counts {
     pub states: usize,
@@ -55,6 +55,16 @@ struct Branch {
     outcome: Outcome,
 }
 
+/// A state behind this one, which was come to behind so many steps, by a step.
+fn came_by(from: usize, step: Step, depth: u32) -> Came {
+    let depth = depth.saturating_add(1);
+    Came {
+        from,
+        step: Some(step),
+        depth,
+    }
+}
+
 /// Whether the step is a stop.
 fn is_stop(step: &Step) -> bool {
     matches!(step, Step::Stop { .. })
@@ -68,6 +78,13 @@ fn is_change(table: &Table, outcome: &Outcome) -> bool {
     }
 }
 
+/// Puts the last 32 of these bytes there, if there are as many.
+fn put_last(last: &mut [u8; 32], bytes: &[u8]) {
+    if let Some(digest) = bytes.last_chunk::<32>() {
+        *last = *digest;
+    }
+}
+
 /// The digest of a player's log, as its bytes end.
 fn log_digest(table: &Table, player: PlayerId) -> [u8; 32] {
     let mut writer = LogWriter::new(table.session(), player);
@@ -76,11 +93,7 @@ fn log_digest(table: &Table, player: PlayerId) -> [u8; 32] {
         for entry in log {
             let mut out = [0; 96];
             let count = writer.put(entry, &mut out);
-            if let Some(digest) = out.get(count.saturating_sub(32)..count) {
-                if digest.len() == 32 {
-                    last.copy_from_slice(digest);
-                }
-            }
+            put_last(&mut last, out.get(..count).unwrap_or(&[]));
         }
     }
     last
@@ -92,9 +105,25 @@ fn key_of(table: &Table) -> Digest {
     for player in 0..table.session().players() {
         hasher.update(&log_digest(table, player));
     }
-    Digest {
-        bytes: hasher.finalize(),
+    let bytes = hasher.finalize();
+    Digest { bytes }
+}
+
+/// Adds a step that leads away.
+fn put_branch(branches: &mut Vec<Branch>, step: Step, outcome: Outcome) -> Result<(), Trouble> {
+    let branch = Branch { step, outcome };
+    branches.push(branch)?;
+    Ok(())
+}
+
+/// Whether all of these steps are stops.
+fn are_stops(branches: &[Branch]) -> bool {
+    for branch in branches {
+        if !is_stop(&branch.step) {
+            return false;
+        }
     }
+    true
 }
 
 /// Adds a step.
@@ -134,15 +163,18 @@ impl Graph {
 
     /// A graph of no states.
     pub fn new(alloc: Global) -> Graph {
+        let seen = IndexMap::new(alloc);
+        let trail = Vec::new(alloc);
+        let counts = Counts {
+            states: 0,
+            steps: 0,
+            changes: 0,
+            ends: 0,
+        };
         Graph {
-            seen: IndexMap::new(alloc),
-            counts: Counts {
-                states: 0,
-                steps: 0,
-                changes: 0,
-                ends: 0,
-            },
-            trail: Vec::new(alloc),
+            seen,
+            counts,
+            trail,
         }
     }
 
@@ -156,6 +188,26 @@ impl Graph {
         Ok(())
     }
 
+    /// Takes the step at the state's own table, if it is to change no log, or else adds it to the
+    /// others.
+    fn stay_or_branch(
+        &mut self,
+        alloc: Global,
+        world: &World,
+        table: &mut Table,
+        step: &Step,
+        branches: &mut Vec<Branch>,
+    ) -> Result<(), Trouble> {
+        let outcome = outcome_of(alloc, &world.ground, table, step)?;
+        self.counts.steps = self.counts.steps.saturating_add(1);
+        if is_change(table, &outcome) {
+            put_branch(branches, *step, outcome)
+        } else {
+            put_step(&mut self.trail, step)?;
+            take_so(table, step, &outcome)
+        }
+    }
+
     /// Takes the steps that are to change no log at the state's own table, and gives the others.
     fn stay(
         &mut self,
@@ -164,18 +216,9 @@ impl Graph {
         table: &mut Table,
     ) -> Result<Vec<Branch>, Trouble> {
         let mut branches = Vec::new(alloc);
-        for step in &steps_at(alloc, world, table)? {
-            let outcome = outcome_of(alloc, &world.ground, table, step)?;
-            self.counts.steps = self.counts.steps.saturating_add(1);
-            if is_change(table, &outcome) {
-                branches.push(Branch {
-                    step: *step,
-                    outcome,
-                })?;
-            } else {
-                put_step(&mut self.trail, step)?;
-                take_so(table, step, &outcome)?;
-            }
+        let steps = steps_at(alloc, world, table)?;
+        for step in &steps {
+            self.stay_or_branch(alloc, world, table, step, &mut branches)?;
         }
         Ok(branches)
     }
@@ -188,8 +231,8 @@ impl Graph {
         take_so(table, &branch.step, &branch.outcome)
     }
 
-    /// Takes a step that changes a log, at a table of its own. Behind a stop it now and then goes on to an end: the state may be
-    /// known, but not how a peer plays on that was stopped.
+    /// Takes a step that changes a log, at a table of its own. Behind a stop it now and then goes
+    /// on to an end: the state may be known, but not how a peer plays on that was stopped.
     fn branch(
         &mut self,
         alloc: Global,
@@ -213,11 +256,13 @@ impl Graph {
         if world.hostile != 0 {
             return Ok(());
         }
+        let is_finished = table.stand() == Stand::Finished;
         hold(
-            table.stand() == Stand::Finished,
+            is_finished,
             "a match of honest players ends before it is finished",
         )?;
-        agrees_on_all(&world.ground, &audit(alloc, table)?)
+        let report = audit(alloc, table)?;
+        agrees_on_all(&world.ground, &report)
     }
 
     /// Checks a state, and takes each step from it, where it stands behind less than so many.
@@ -238,15 +283,11 @@ impl Graph {
             return Ok(());
         }
         let branches = self.stay(alloc, world, &mut table)?;
-        if branches.iter().all(|branch| is_stop(&branch.step)) {
+        if are_stops(branches.as_slice()) {
             self.check_end(alloc, world, &table)?;
         }
         for branch in &branches {
-            let came = Came {
-                from: state,
-                step: Some(branch.step),
-                depth: depth.saturating_add(1),
-            };
+            let came = came_by(state, branch.step, depth);
             self.branch(alloc, world, path.as_slice(), branch, &came)?;
         }
         Ok(())
@@ -259,7 +300,8 @@ impl Graph {
             step: None,
             depth: 0,
         };
-        self.keep(&table_behind(alloc, world, &[])?, &first)?;
+        let table = table_behind(alloc, world, &[])?;
+        self.keep(&table, &first)?;
         for state in 0..MOST_STATES {
             if state >= self.seen.len() {
                 break;

@@ -49,27 +49,37 @@ impl Ground {
     pub fn new(alloc: Global, session: &Session) -> Result<Ground, AllocError> {
         session.facts();
         let rules = session.rules();
+        let width = session.grid().width();
+        let height = session.grid().height();
+        let digests = RefCell::new(IndexMap::new(alloc));
         let mut seats = Vec::new(alloc);
         for player in 0..session.players() {
+            let start = session.start(player);
+            let speed = session.speed(player);
+            let reach = session.reach(player);
             seats.push(Seat {
-                start: session.start(player),
-                speed: session.speed(player),
-                reach: session.reach(player),
+                start,
+                speed,
+                reach,
             })?;
         }
+        let id = *session.id();
+        let turns = session.turns();
+        let ahead = session.ahead();
+        let players = session.players();
         Ok(Ground {
-            id: *session.id(),
-            turns: session.turns(),
-            ahead: session.ahead(),
-            players: session.players(),
-            width: session.grid().width(),
-            height: session.grid().height(),
+            id,
+            turns,
+            ahead,
+            players,
+            width,
+            height,
             blast: rules.blast,
             first_charge: rules.start_charge,
             cap: rules.cap,
             cost: rules.cost,
             seats,
-            digests: RefCell::new(IndexMap::new(alloc)),
+            digests,
         })
     }
 
@@ -83,8 +93,9 @@ impl Ground {
 
     /// Where the player stands before the first turn, and its charge.
     pub fn first_track(&self, player: PlayerId) -> Track {
+        let at = self.seat(player).start;
         Track {
-            at: self.seat(player).start,
+            at,
             charge: self.first_charge,
         }
     }
@@ -127,7 +138,8 @@ impl Ground {
             .saturating_add(u32::from(self.blast))
     }
 
-    /// Whether the spheres of two players have a cell in common: the first walks one turn from its cell, and the second so many.
+    /// Whether the spheres of two players have a cell in common: the first walks one turn from its
+    /// cell, and the second so many.
     pub fn have_common(&self, one: (PlayerId, Cell), other: (PlayerId, Cell), turns: u32) -> bool {
         let spans = self
             .span(one.0, 1)
@@ -192,15 +204,15 @@ impl Ground {
                 turn,
                 mv,
                 nonce,
-            } => self.digest_opened(
-                frame,
-                &Opening {
+            } => {
+                let opening = Opening {
                     player,
                     turn,
                     mv,
                     nonce,
-                },
-            ),
+                };
+                self.digest_opened(frame, &opening)
+            }
         }
     }
 
@@ -215,11 +227,14 @@ impl Ground {
         };
         match slot.what {
             What::Reveal => reveal,
-            What::Commit => TurnFrame::Commit {
-                player,
-                turn,
-                digest: self.digest_in(&reveal),
-            },
+            What::Commit => {
+                let digest = self.digest_in(&reveal);
+                TurnFrame::Commit {
+                    player,
+                    turn,
+                    digest,
+                }
+            }
         }
     }
 }

@@ -4,8 +4,8 @@ use crate::grounds::Ground;
 use definitions::{Digest, Entry, Move, Nonce, PlayerId, Slot, Track, Turn, TurnFrame, What};
 use std::alloc::{AllocError, Global};
 
-/// How many commitments of another player are held, how many of its turns are resolved, its track after them, and the move of
-/// the last one.
+/// How many commitments of another player are held, how many of its turns are resolved, its track
+/// after them, and the move of the last one.
 #[derive(Clone, Copy)]
 pub struct Known {
     pub held: u32,
@@ -53,7 +53,8 @@ fn opened_by(
     }
 }
 
-/// The first move that opens the digest and is legal after the track, or where `legal` is false, isn't.
+/// The first move that opens the digest and is legal after the track, or where `legal` is false,
+/// isn't.
 fn first_opening(
     ground: &Ground,
     log: &[Entry],
@@ -96,7 +97,8 @@ impl Known {
         Some(more)
     }
 
-    /// Whether the log has a reveal of the first turn that isn't resolved which opens what is held, and whose move isn't legal.
+    /// Whether the log has a reveal of the first turn that isn't resolved which opens what is
+    /// held, and whose move isn't legal.
     fn is_illegal(&self, ground: &Ground, log: &[Entry], player: PlayerId) -> bool {
         let slot = Slot {
             what: What::Reveal,
@@ -113,10 +115,11 @@ impl Known {
 
 /// What is known of a player of whom nothing came.
 fn nothing_known(ground: &Ground, player: PlayerId) -> Known {
+    let track = ground.first_track(player);
     Known {
         held: 0,
         resolved: 0,
-        track: ground.first_track(player),
+        track,
         last: None,
     }
 }

@@ -1,9 +1,10 @@
-//! The plain schedule: what a step makes of a match that is stepped, worked out from the entries of its logs alone, and the walks
-//! that try every interleaving. Tests ask it beside a table.
+//! The plain schedule: what a step makes of a match that is stepped, worked out from the entries
+//! of its logs alone, and the walks that try every interleaving. Tests ask it beside a table.
 //!
-//! Nothing of it is shared with the tables that it is compared with: positions, spheres and frames are worked out anew from the
-//! session, by the rules and not by their code. It promises no more than that it is safe; what it is worth, the tests show, in
-//! which it and a second plain program in another language come to the same counts. It touches nothing outside.
+//! Nothing of it is shared with the tables that it is compared with: positions, spheres and frames
+//! are worked out anew from the session, by the rules and not by their code. It promises no more
+//! than that it is safe; what it is worth, the tests show, in which it and a second plain program
+//! in another language come to the same counts. It touches nothing outside.
 #![tactic(auto)]
 
 pub mod audits;
@@ -20,5 +21,6 @@ pub mod scenes;
 pub mod scripts;
 pub mod stands;
 pub mod taking;
+pub mod texts;
 pub mod turns;
 pub mod worlds;

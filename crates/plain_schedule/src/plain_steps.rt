@@ -18,8 +18,8 @@ pub fn log_in(table: &Table, player: PlayerId) -> Option<&[Entry]> {
     }
 }
 
-/// What a step is to make of the log of the player that it names last, and how it is to be answered. The log is none where the
-/// player has none.
+/// What a step is to make of the log of the player that it names last, and how it is to be
+/// answered. The log is none where the player has none.
 #[derive(Drop)]
 pub struct Outcome {
     pub player: PlayerId,

@@ -21,17 +21,16 @@ fn put_choices(
     let track = own_track(&world.ground, player, log, turn);
     for wish in world.wishes {
         if is_of_turn(wish, turn) {
-            steps.push(Step::Choose {
-                player,
-                mv: move_for(player, &track, wish),
-                nonce: nonce_of(player, turn),
-            })?;
+            let mv = move_for(player, &track, wish);
+            let nonce = nonce_of(player, turn);
+            steps.push(Step::Choose { player, mv, nonce })?;
         }
     }
     Ok(())
 }
 
-/// A delivery of each frame that one honest player made to another: the next one, those that come early, and repeats.
+/// A delivery of each frame that one honest player made to another: the next one, those that come
+/// early, and repeats.
 fn put_deliveries(
     table: &Table,
     from: PlayerId,

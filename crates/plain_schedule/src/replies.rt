@@ -4,7 +4,7 @@ use definitions::{GotAnswer, OwnFault, PlayerId};
 use schedule::{StepAnswer, Table, Tally};
 
 /// How a step is answered.
-#[derive(Clone, Copy, Debug, PartialEq, Eq)]
+#[derive(Clone, Copy, PartialEq, Eq)]
 pub enum Reply {
     Chosen(u32),
     NotNow,

@@ -1,7 +1,8 @@
 //! The small matches that are walked, and how many states they have.
 //!
-//! All are played on corridors, where two players meet whose columns are at most four apart, once all their turns before are known. The
-//! counts are those of a second program too, in another language, which keeps plain lists of entries and knows no peer.
+//! All are played on corridors, where two players meet whose columns are at most four apart, once
+//! all their turns before are known. The counts are those of a second program too, in another
+//! language, which keeps plain lists of entries and knows no peer.
 
 use crate::explorer::Counts;
 use crate::worlds::{Pace, Scene, Tale, Wish};
@@ -55,8 +56,8 @@ const PARTS: [Wish; 4] = [
     },
 ];
 
-/// A play of two turns, and besides: another move in the first turn, one that isn't legal in the second, a move of the other player, and one
-/// of a turn that isn't played.
+/// A play of two turns, and besides: another move in the first turn, one that isn't legal in the
+/// second, a move of the other player, and one of a turn that isn't played.
 const LIES: [Tale; 6] = [
     Tale {
         from: 1,

@@ -59,7 +59,8 @@ fn asked_step(world: &World, table: &Table) -> Option<Step> {
     }
 }
 
-/// Goes on by what the stand asks for, and notes the steps, until nothing is asked of honest players.
+/// Goes on by what the stand asks for, and notes the steps, until nothing is asked of honest
+/// players.
 pub fn go_on(
     alloc: Global,
     world: &World,

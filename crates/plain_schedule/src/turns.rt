@@ -22,7 +22,8 @@ fn could_meet(
     ground.have_common((me, own), (player, known.track.at), walks)
 }
 
-/// Whether the owner's next frame has to wait for the player; behind the last one, whether a turn of the player isn't resolved.
+/// Whether the owner's next frame has to wait for the player; behind the last one, whether a turn
+/// of the player isn't resolved.
 pub fn waits_for(ground: &Ground, me: PlayerId, log: &[Entry], player: PlayerId) -> bool {
     if player == me {
         return false;

@@ -1,4 +1,5 @@
-//! Small matches: a session, who is hostile, which moves are tried, and which frames the hostile players have.
+//! Small matches: a session, who is hostile, which moves are tried, and which frames the hostile
+//! players have.
 
 use crate::grounds::Ground;
 use definitions::{Cell, Move, Nonce, PlayerId, Slot, Track, Turn, What};
@@ -52,7 +53,8 @@ pub enum Pace {
     On,
 }
 
-/// A move that players try, in one turn or in each: where to, and whether they strike at the cell in front of it.
+/// A move that players try, in one turn or in each: where to, and whether they strike at the cell
+/// in front of it.
 #[derive(Clone, Copy)]
 pub struct Wish {
     pub turn: Option<Turn>,
@@ -68,7 +70,8 @@ pub fn is_of_turn(wish: &Wish, turn: Turn) -> bool {
     }
 }
 
-/// A move that a hostile player has for an honest one: its commitment and its reveal are offered, each at any time.
+/// A move that a hostile player has for an honest one: its commitment and its reveal are offered,
+/// each at any time.
 #[derive(Clone, Copy)]
 pub struct Tale {
     pub from: PlayerId,
@@ -89,7 +92,8 @@ pub struct Scene {
     pub tales: &'static [Tale],
 }
 
-/// A scene that is set up: its session, the same as plain numbers, and the steps that bring the hostile players' frames.
+/// A scene that is set up: its session, the same as plain numbers, and the steps that bring the
+/// hostile players' frames.
 #[derive(Drop)]
 pub struct World {
     pub session: Session,
@@ -133,9 +137,8 @@ pub fn move_for(player: PlayerId, track: &Track, wish: &Wish) -> Move {
 
 /// The nonce of a player's turn.
 pub fn nonce_of(player: PlayerId, turn: Turn) -> Nonce {
-    Nonce {
-        bytes: [player.wrapping_mul(16).wrapping_add((turn % 16) as u8); 32],
-    }
+    let byte = player.wrapping_mul(16).wrapping_add((turn % 16) as u8);
+    Nonce { bytes: [byte; 32] }
 }
 
 /// The step that brings a frame of a tale.
@@ -149,10 +152,11 @@ fn offer_of(ground: &Ground, tale: &Tale, what: What) -> Step {
         y: 0,
     };
     let nonce = nonce_of(tale.of, tale.turn);
+    let frame = ground.frame_of(tale.of, &slot, Move { to, strike: None }, nonce);
     Step::Hostile {
         from: tale.from,
         to: tale.to,
-        frame: ground.frame_of(tale.of, &slot, Move { to, strike: None }, nonce),
+        frame,
     }
 }
 
@@ -160,8 +164,10 @@ fn offer_of(ground: &Ground, tale: &Tale, what: What) -> Step {
 fn offers_of(alloc: Global, ground: &Ground, tales: &[Tale]) -> Result<Vec<Step>, Trouble> {
     let mut offers = Vec::new(alloc);
     for tale in tales {
-        offers.push(offer_of(ground, tale, What::Commit))?;
-        offers.push(offer_of(ground, tale, What::Reveal))?;
+        let commit = offer_of(ground, tale, What::Commit);
+        offers.push(commit)?;
+        let reveal = offer_of(ground, tale, What::Reveal);
+        offers.push(reveal)?;
     }
     Ok(offers)
 }

@@ -4,7 +4,7 @@ use file_shelf::FileShelf;
 use peer_runs::run;
 use rand_chacha::ChaCha20Rng;
 use rand_core::SeedableRng;
-use station::{MemorySink, MemorySource};
+use station::{MemorySink, MemorySource, Sink, Source};
 use station_mio::MioStation;
 use std::io;
 use std::random::RandomSource;
@@ -35,33 +35,43 @@ pub(crate) fn chance_of(rt: &HostRuntime) -> io::Result<ChaCha20Rng> {
     Ok(ChaCha20Rng::from_seed(seed))
 }
 
-/// Runs the words of a line.
-pub(crate) fn run_line(rt: &HostRuntime, line: &str) -> io::Result<Ran> {
-    let words = split(rt, line)?;
-    run_words(rt, words.as_slice())
-}
-
-/// Runs the words over this machine's files and sockets, with no input.
-pub(crate) fn run_words(rt: &HostRuntime, words: &[Vec<u8>]) -> io::Result<Ran> {
+/// Runs the words over this machine's files and sockets, with this input and this output, and
+/// gives the status.
+pub(crate) fn run_over<I: Source, O: Sink>(
+    rt: &HostRuntime,
+    words: &[Vec<u8>],
+    input: &mut I,
+    out: &mut O,
+) -> io::Result<u8> {
     let alloc = rt.alloc();
-    let mut input = MemorySource::new(Vec::new(alloc), Vec::new(alloc));
-    let mut out = MemorySink::new(alloc, MOST, Vec::new(alloc))?;
     let mut shelf = FileShelf::new(alloc, rt);
-    let mut station = MioStation::new(rt, alloc)?;
     let mut chance = chance_of(rt)?;
+    let mut station = MioStation::new(rt, alloc)?;
     let status = run(
         alloc,
         words,
-        &mut input,
-        &mut out,
+        input,
+        out,
         &mut shelf,
         &mut station,
         &mut chance,
     );
     station.finish();
+    Ok(status.code())
+}
+
+/// Runs the words with no input.
+pub(crate) fn run_words(rt: &HostRuntime, words: &[Vec<u8>]) -> io::Result<Ran> {
+    let alloc = rt.alloc();
+    let mut input = MemorySource::new(Vec::new(alloc), Vec::new(alloc));
+    let mut out = MemorySink::new(alloc, MOST, Vec::new(alloc))?;
+    let status = run_over(rt, words, &mut input, &mut out)?;
     let text = String::from_utf8_lossy(alloc, out.bytes())?;
-    Ok(Ran {
-        status: status.code(),
-        text,
-    })
+    Ok(Ran { status, text })
+}
+
+/// Runs the words of a line.
+pub(crate) fn run_line(rt: &HostRuntime, line: &str) -> io::Result<Ran> {
+    let words = split(rt, line)?;
+    run_words(rt, words.as_slice())
 }

@@ -1,11 +1,13 @@
-//! The programs of a match, by their numbers: each plays for a player by its own roster and moves, and leaves its own log.
+//! The programs of a match, by their numbers: each plays for a player by its own roster and moves,
+//! and leaves its own log.
 
 use crate::runs::{Ran, run_line};
 use std::io;
 use std::thread::sleep;
 use std::time::Duration;
 
-/// More polls than a match takes, of a tenth of a second at most: whoever waits for a player that isn't there gives up behind a minute.
+/// More polls than a match takes, of a tenth of a second at most: whoever waits for a player that
+/// isn't there gives up behind a minute.
 pub(crate) const POLLS: u32 = 600;
 
 /// The name of a program's log.
@@ -13,7 +15,8 @@ pub(crate) fn log_of(rt: &HostRuntime, seat: usize) -> io::Result<String> {
     Ok(format!(in rt.alloc(); "{seat}.log")?)
 }
 
-/// Lets a program play for a player, for at most so many polls, with a log of the name LOG or of the words `LOG OLD`.
+/// Lets a program play for a player, for at most so many polls, with a log of the name LOG or of
+/// the words `LOG OLD`.
 pub(crate) fn play_seat(
     rt: &HostRuntime,
     seat: usize,

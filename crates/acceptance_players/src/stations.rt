@@ -1,4 +1,0 @@
-//! A station in memory by tables of steps, each with its exact answer.
-
-mod steps;
-mod tables;

@@ -1,7 +1,0 @@
-//! Streams of frames and session logs as bytes.
-
-mod cuts;
-mod fields;
-mod frame_streams;
-mod frames;
-mod logs;

@@ -1,5 +1,0 @@
-//! Sets of cells, dilated spheres and scores.
-
-mod scores;
-mod sets;
-mod spheres;

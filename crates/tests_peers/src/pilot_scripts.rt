@@ -1,0 +1,93 @@
+//! Moves texts: what is chosen by one, and the lines at which others are at fault.
+
+use crate::pilot_moves::asked;
+use crate::sessions::session_of;
+use definitions::{Cell, Move, Track};
+use grid_world::Session;
+use pilots::{ScriptPilot, TextFault, print_moves};
+use std::alloc::Global;
+use std::test::Fail;
+
+/// A session of three turns.
+const SHORT: &[u8] =
+    b"playout 1\ngrid 12 1\nrules 1 1 0\ncharge 1 2 1\nturns 3\nplayers 2\nplayer 0 0 0\nplayer 1 9 0\nend\n";
+
+/// A session of eight turns.
+const LONG: &[u8] =
+    b"playout 1\ngrid 12 1\nrules 1 1 0\ncharge 1 2 1\nturns 8\nplayers 2\nplayer 0 0 0\nplayer 1 9 0\nend\n";
+
+/// Where the script sends a player in this turn that stands at column 7.
+fn sent(pilot: &mut ScriptPilot, turn: u32) -> Move {
+    let track = Track {
+        at: Cell { x: 7, y: 0 },
+        charge: 1,
+    };
+    asked(pilot, &track, turn)
+}
+
+/// A move to this column, without a strike.
+fn step(x: u16) -> Move {
+    Move {
+        to: Cell { x, y: 0 },
+        strike: None,
+    }
+}
+
+#[test]
+fn a_script_is_followed_and_then_stays(rt: HostRuntime) -> Result<(), Fail> {
+    let session = session_of(rt.alloc(), LONG)?;
+    let text = b"0 0\n0 0\n0 0\n2 0\n0 0\n0 0 65535 1\n0 0\n1 0\n".as_slice();
+    let mut pilot = ScriptPilot::read(rt.alloc(), text, &session).map_err(|_| "refused")?;
+    assert_eq!(rt; sent(&mut pilot, 2), step(0));
+    assert_eq!(rt; sent(&mut pilot, 3), step(2));
+    assert_eq!(rt; sent(&mut pilot, 7), step(1));
+    assert_eq!(rt; sent(&mut pilot, 8), step(7));
+    assert_eq!(rt; sent(&mut pilot, u32::MAX), step(7));
+    let strike = Some(Cell { x: 65535, y: 1 });
+    assert_eq!(rt; sent(&mut pilot, 5).strike, strike);
+    let printed = print_moves(rt.alloc(), pilot.moves())?;
+    assert!(rt; printed.as_slice() == text);
+    Ok(())
+}
+
+/// The line at which a text of three turns is at fault, if it is.
+fn fault_of(alloc: Global, session: &Session, text: &[u8]) -> Option<TextFault> {
+    ScriptPilot::read(alloc, text, session).err()
+}
+
+#[test]
+fn faulty_lines_are_named(rt: HostRuntime) -> Result<(), Fail> {
+    let session = session_of(rt.alloc(), SHORT)?;
+    let rows = [
+        (b"".as_slice(), 1),
+        (b"0 0\n", 2),
+        (b"0 0\n0 0\n", 3),
+        (b"0 0\n0 0\n0 0", 3),
+        (b"0 0\n0 0\n0 0\n0 0\n", 4),
+        (b"0 0\n0 0\n0 0\n\n", 4),
+        (b"0 0\n0 0\n0 0\nx", 4),
+        (b"0 0\n\n0 0\n", 2),
+        (b"0\n0 0\n0 0\n", 1),
+        (b"0 0 0\n0 0\n0 0\n", 1),
+        (b"0 0\n0 0 0 0 0\n0 0\n", 2),
+        (b"0 0\n65536 0\n0 0\n", 2),
+        (b"0 0\n0 65536\n0 0\n", 2),
+        (b"0 0\n0 0 65536 0\n0 0\n", 2),
+        (b"0 0\n0 0 0 65536\n0 0\n", 2),
+        (b"0 0\n0 0\n00 0\n", 3),
+        (b"0 0\n0 0\n0 01\n", 3),
+        (b" 0 0\n0 0\n0 0\n", 1),
+        (b"0  0\n0 0\n0 0\n", 1),
+        (b"0 0 \n0 0\n0 0\n", 1),
+        (b"0 0\r\n0 0\n0 0\n", 1),
+        (b"0 0\n-1 0\n0 0\n", 2),
+    ];
+    for (text, line) in rows {
+        assert_eq!(rt;
+            fault_of(rt.alloc(), &session, text),
+            Some(TextFault::At(line)),
+            "line {line}"
+        );
+    }
+    Ok(())
+}
