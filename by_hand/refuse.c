@@ -1,5 +1,6 @@
-/* Counts the allocations of the program that it is loaded into, and refuses the one whose number REFUSE has, from 1. At the end it writes how
-   many there were, and how many sockets were asked for, into the file that REFUSE_TOLD names. For LD_PRELOAD, on Linux with glibc. */
+/* Counts the allocations of the program that it is loaded into, and refuses the one whose number
+   REFUSE has, from 1. At the end it writes how many there were, and how many sockets were asked
+   for, into the file that REFUSE_TOLD names. For LD_PRELOAD, on Linux with glibc. */
 #define _GNU_SOURCE
 #include <dlfcn.h>
 #include <errno.h>
