@@ -5,7 +5,7 @@ use Rattle.definitions.specs.World.{Game, players_of}
 use Rattle.definitions.specs.Logs.{got_of, move_shown}
 use Rattle.definitions.specs.Findings.{got_known}
 use Rattle.grid_world.specs.Sessions.{IsSession}
-use Rattle.streams.specs.declared.stream.Stream.{Stream}
+use Rattle.frame_index.specs.declared.streams.Stream.{Stream}
 use Rattle.frame_index.specs.declared.seen.Seen.{Seen}
 use Rattle.frame_index.specs.Heads.{Stands, front_of}
 use Rattle.frame_index.specs.Keeps.{Keeps}

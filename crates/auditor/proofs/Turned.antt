@@ -20,7 +20,7 @@ use Rattle.definition_laws.specs.Members.{Has}
 use Rattle.definition_laws.proofs.Listing.{take_more}
 use Rattle.definition_laws.proofs.Nexts.{some_at}
 use Rattle.definition_laws.proofs.Tracks.{track_from_append}
-use Rattle.streams.specs.Frames.{opening_at}
+use Rattle.frame_index.specs.Openings.{opening_at}
 use Rattle.frame_index.specs.declared.seen.Seen.{Seen}
 use Rattle.frame_index.specs.InLog.{takes, taken}
 use Rattle.frame_index.specs.Judged.{is_good, judged}

@@ -26,7 +26,7 @@ use Rattle.move_rules.specs.Verdicts.{verdict}
 use Rattle.playout.specs.Playing.{AreLegalNow, IsLockstep, Played, after_turn, no_standing, seated, standing_of}
 use Rattle.playout.proofs.Standings.{after_item}
 use Rattle.playout.proofs.Items.{item_other}
-use Rattle.streams.proofs.Opened.{refused_illegal}
+use Rattle.frame_index.proofs.Opened.{refused_illegal}
 use Rattle.evidence.proofs.Showing.{item_there}
 use Rattle.auditor.specs.declared.world.WorldLine.{WorldLine}
 use Rattle.auditor.specs.Agreed.{agreed_moves, all_agreed_moves, are_whole, line_of, world_by}

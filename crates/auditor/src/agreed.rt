@@ -22,11 +22,10 @@ use crate::common::OwnMoves;
 use crate::reading::{Reading, read_on, start};
 use crate::turns::resolved_in;
 use definitions::{Move, PlayerId, Turn, TurnFrame};
-use frame_index::{MOST_LOGS, Seen};
+use frame_index::{MOST_LOGS, Seen, Stream};
 use grid_world::Session;
 use move_rules::Walker;
 use std::alloc::{AllocError, Global};
-use streams::Stream;
 
 /// Of some moves the first one, and whether all others are the same.
 #[derive(Clone, Copy)]

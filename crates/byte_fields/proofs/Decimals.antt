@@ -1,14 +1,14 @@
 -- A number that is read is spelled so, and what is spelled so is read.
-use Rattle.std.proofs.Common.{◌≡◌, ℕ, ◌+◌, ◌-◌, ◌*◌, ◌^◌, ◌<◌, ◌≤◌, Bool, true, false, cond, eqb, leb, List, [], ◌∷◌, length, get_or, Some, None, refl, sym, ap, ◌∙◌, arith, inl, inr}
+use Rattle.std.proofs.Common.{◌≡◌, ℕ, ◌+◌, ◌-◌, ◌*◌, ◌^◌, ◌<◌, ◌≤◌, ◌&&◌, Bool, true, false, cond, eqb, leb, List, [], ◌∷◌, length, get_or, Some, None, refl, sym, ap, ◌∙◌, arith, inl, inr}
 use Rattle.std.specs.Char.{is_ascii_digit}
 use Rattle.std.specs.Str.{all_ascii_digits}
 use Rattle.std.specs.Fmt.{decimal}
 use Rattle.std.proofs.lemmas.Bool.{cases_eq, eqb-true, eqb-false, ne_eqb, leb-true, le-leb, and_parts, and_from}
 use Rattle.std.proofs.lemmas.List.{nil_from_length}
 use Rattle.std.proofs.lemmas.Fmt.{decimal_digit, first_decimal, digits_decimal, digits_value-decimal, decimal-digits_value}
-use Rattle.plain_lemmas.proofs.Digits.{read_on, numeral_model, read_on-ge}
+use Rattle.byte_fields.proofs.Digits.{read_on, numeral_model, read_on-ge}
 use Rattle.byte_fields.specs.Numbers.{value_within, number_within, number_of}
-use Rattle.plain_lemmas.proofs.Options.{when_some, some_when}
+use Rattle.std.proofs.lemmas.Option.{cond_some}
 
 -- what the digits spell, and that it is at most the greatest that is allowed
 record Spells (most n : ℕ) (ds : List ℕ) (v : ℕ) : Type 0 where
@@ -20,10 +20,16 @@ value_within-some : (most : ℕ) (ds : List ℕ) (n v : ℕ) → n ≤ most → 
 value_within-some most [] n v small e = let is : n ≡ v = cc in record { digits = refl; value = is; within = omega (arith, small, is) }
 value_within-some most (d ∷ ds) n v small e =
     let next : ℕ = n * 10 + (d - 48) in
-    let kept = when_some _ (value_within most next ds) v e in
-    let both = and_parts (is_ascii_digit d) (leb next most) kept.0 in
-    let rest = value_within-some most ds next v (leb-true next most both.1) kept.1 in
-    record { digits = and_from (is_ascii_digit d) (all_ascii_digits ds) both.0 rest.digits; value = rest.value; within = rest.within }
+    go (λ small kept. value_within-some most ds next v small kept) (is_ascii_digit d && leb next most) refl e
+  where
+    go : (n * 10 + (d - 48) ≤ most → value_within most (n * 10 + (d - 48)) ds ≡ Some v → Spells most (n * 10 + (d - 48)) ds v) →
+        (b : Bool) → (is_ascii_digit d && leb (n * 10 + (d - 48)) most) ≡ b → cond b (value_within most (n * 10 + (d - 48)) ds) None ≡ Some v → Spells most n (d ∷ ds) v
+    go further true t h =
+        let next : ℕ = n * 10 + (d - 48) in
+        let both = and_parts (is_ascii_digit d) (leb next most) t in
+        let rest = further (leb-true next most both.1) h in
+        record { digits = and_from (is_ascii_digit d) (all_ascii_digits ds) both.0 rest.digits; value = rest.value; within = rest.within }
+    go further false t h = absurd cc
 
 value_within-all : (most : ℕ) (ds : List ℕ) (n : ℕ) → all_ascii_digits ds ≡ true → read_on n ds ≤ most → value_within most n ds ≡ Some (read_on n ds)
 value_within-all most [] n digits small = refl
@@ -39,7 +45,7 @@ number_within-some most (d ∷ ds) n fits e = go (eqb d 48) refl e
   where
     go : (b : Bool) → eqb d 48 ≡ b → cond b (cond (eqb (length ds) 0) (Some 0) None) (value_within most 0 (d ∷ ds)) ≡ Some n → (d ∷ ds ≡ decimal n) × (n ≤ most)
     go true t h =
-        let kept = some_when (eqb (length ds) 0) 0 n h in
+        let kept = cond_some (eqb (length ds) 0) 0 n h in
         let digit : d ≡ 48 = eqb-true d 48 t in
         let alone : ds ≡ [] = nil_from_length ds (eqb-true (length ds) 0 kept.0) in
         (ap (λ (ds : List ℕ). d ∷ ds) alone ∙ ap (λ (d : ℕ). d ∷ []) digit ∙ sym (decimal_digit 0 (omega arith)) ∙ ap decimal kept.1, omega (arith, kept.1))

@@ -1,3 +1,4 @@
+pub mod Digits
 pub mod Decimals
 pub mod Placed
 pub mod Reading

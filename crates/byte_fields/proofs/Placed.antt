@@ -11,7 +11,6 @@ use Rattle.byte_fields.specs.Numbers.{digits_len, number_of}
 use Rattle.byte_fields.specs.Standing.{StandsAt, number_at}
 use Rattle.byte_fields.proofs.Decimals.{number_of-some, number_of-decimal, decimal_digits}
 use Rattle.std.proofs.lemmas.Option.{none-some}
-use Rattle.plain_lemmas.proofs.Options.{map_some}
 
 digits_len-within : (text : List ℕ) → digits_len text ≤ length text
 digits_len-within [] = omega arith
@@ -33,18 +32,29 @@ digits_len-digits (d ∷ ds) rest digits other =
     let both = and_parts (is_ascii_digit d) (all_ascii_digits ds) digits in
     rw both.0 (ap suc (digits_len-digits ds rest both.1 other))
 
-stands_read : (text : List ℕ) (at : ℕ) (n : Number) → number_at text at ≡ Some n → StandsAt text at n
-stands_read text at n e =
+-- the number of the digits stands there
+stands_made : (text : List ℕ) (at v : ℕ) → number_of (take (digits_len (drop at text)) (drop at text)) ≡ Some v →
+    StandsAt text at (record { value = v; end = at + digits_len (drop at text) })
+stands_made text at v e =
     let rest : List ℕ = drop at text in
     let k : ℕ = digits_len rest in
-    let make : ℕ → Number = λ v. record { value = v; end = at + k } in
-    let read = map_some make (number_of (take k rest)) n e in
-    let number = number_of-some (take k rest) read.0 read.1 in
+    let number = number_of-some (take k rest) v e in
     let behind : drop k rest ≡ drop (at + k) text = drop-drop k at text in
-    let whole : rest ≡ decimal read.0 ++ drop (at + k) text = sym (take-append-drop k rest) ∙ ap (λ (front : List ℕ). front ++ drop k rest) number.0 ∙ ap (λ (back : List ℕ). decimal read.0 ++ back) behind in
-    let long : k ≡ length (decimal read.0) = sym (length-take-le k rest (digits_len-within rest)) ∙ ap length number.0 in
-    subst (λ (m : Number). StandsAt text at m) read.2
-    (record { digits = whole; length_is = ap (λ (j : ℕ). at + j) long; alone = ap digits_len (sym behind) ∙ digits_len-behind rest; small = number.1 })
+    let whole : rest ≡ decimal v ++ drop (at + k) text = sym (take-append-drop k rest) ∙ ap (λ (front : List ℕ). front ++ drop k rest) number.0 ∙ ap (λ (back : List ℕ). decimal v ++ back) behind in
+    let long : k ≡ length (decimal v) = sym (length-take-le k rest (digits_len-within rest)) ∙ ap length number.0 in
+    record { digits = whole; length_is = ap (λ (j : ℕ). at + j) long; alone = ap digits_len (sym behind) ∙ digits_len-behind rest; small = number.1 }
+
+stands_read : (text : List ℕ) (at : ℕ) (n : Number) → number_at text at ≡ Some n → StandsAt text at n
+stands_read text at n e = go (number_of (take (digits_len (drop at text)) (drop at text))) refl e
+  where
+    made : ℕ → Number
+    made v = record { value = v; end = at + digits_len (drop at text) }
+
+    go : (o : Option ℕ) → number_of (take (digits_len (drop at text)) (drop at text)) ≡ o → option_map made o ≡ Some n → StandsAt text at n
+    go None t h = absurd cc
+    go (Some v) t h =
+        let is : made v ≡ n = cc in
+        subst (λ (m : Number). StandsAt text at m) is (stands_made text at v t)
 
 read_stands : (text : List ℕ) (at : ℕ) (n : Number) → StandsAt text at n → number_at text at ≡ Some n
 read_stands text at n h =

@@ -20,7 +20,7 @@ use Rattle.command_line.specs.Found.{line_in, line_of, subcommand_for}
 use Rattle.command_line.specs.Lines.{Line, split_of}
 use Rattle.command_line.specs.Names.{least_of, most_of, named, text_of}
 use Rattle.command_line.specs.Names.{takes as takes_count}
-use Rattle.program_words.specs.Words.{are_plain}
+use Rattle.station.specs.Words.{are_plain}
 use Rattle.command_line.proofs.Sets.{line_subcommand, line_taken}
 
 -- the command of a name is named so

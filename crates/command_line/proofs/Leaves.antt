@@ -6,7 +6,7 @@ use Rattle.clap.specs.ValueTests.{accepts}
 use Rattle.clap.specs.Walk.{Text, finished, nothing_held, rows_after}
 use Rattle.clap.specs.declared.builder.value_parser.ValueParser.TheVariants as vp
 use Rattle.command_line.specs.Found.{words_row}
-use Rattle.program_words.specs.Words.{are_plain}
+use Rattle.station.specs.Words.{are_plain}
 use Rattle.command_line.proofs.Walks.{held_words, leaf_walk, ready_leaf, ready_rule}
 
 -- each text is a value

@@ -11,7 +11,7 @@ use Rattle.command_line.specs.declared.names.Name.TheVariants.{Audit}
 use Rattle.command_line.specs.Commands.{all_names, command_set}
 use Rattle.command_line.specs.Found.{words_row}
 use Rattle.command_line.specs.Names.{least_of, most_of, text_of}
-use Rattle.program_words.specs.Words.{are_plain}
+use Rattle.station.specs.Words.{are_plain}
 use Rattle.command_line.proofs.Leaves.{leaf_passes, leaf_rows}
 use Rattle.command_line.proofs.Walks.{ready_leaf}
 

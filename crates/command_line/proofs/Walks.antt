@@ -12,7 +12,7 @@ use Rattle.clap.specs.declared.builder.action.ArgAction.TheVariants.{Set}
 use Rattle.clap.specs.declared.builder.value_parser.ValueParser.TheVariants as vp
 use Rattle.clap.proofs.SimpleLemmas.{is_false}
 use Rattle.clap.proofs.WalkLemmas.{both}
-use Rattle.program_words.specs.Words.{are_plain, is_plain}
+use Rattle.station.specs.Words.{are_plain, is_plain}
 
 -- the argument `words` of a command that is built, which takes from `least` to `most` values
 abbrev pub ready_rule : (least most : ℕ) → Rule

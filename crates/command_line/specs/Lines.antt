@@ -5,7 +5,7 @@ use Rattle.command_line.specs.declared.names.Name.{Name}
 use Rattle.command_line.specs.declared.words.OwnLine.{OwnLine}
 use Rattle.std.specs.Prelude.{option_and_then}
 use Rattle.command_line.specs.Names.{named, takes}
-use Rattle.program_words.specs.Words.{texts_of}
+use Rattle.station.specs.Words.{texts_of}
 
 -- a command, and the words behind its name
 pub record Line : Type 0 where

@@ -1,6 +1,6 @@
 -- Names: the names of the commands, and how many words stand behind each.
 use Rattle.std.specs.Prelude.{ℕ, ◌+◌, Bool, nat_le, ◌&&◌, List, Option, Some, None, bytes_eq, codes, if◌then◌else◌}
-use Rattle.program_words.specs.declared.limits.TheConstants.{MOST_AUDITED}
+use Rattle.definitions.specs.declared.limits.TheConstants.{MOST_AUDITED}
 use Rattle.command_line.specs.declared.names.Name.{Name}
 use Rattle.command_line.specs.declared.names.Name.TheVariants.{Audit, Drive, Judge, Make, Peer, Schedule, Upgrade}
 

@@ -4,7 +4,7 @@ ghost use Rattle.std.specs.Prelude.{◌≡◌, IfErr, IfOk, Some, is_some, map, 
 ghost use Rattle.clap.specs.Words.{kind_of, subcommand_rows_of};
 ghost use Rattle.command_line.specs.Found as F;
 ghost use Rattle.command_line.specs.Lines as L;
-ghost use Rattle.program_words.specs.Words as W;
+ghost use Rattle.station.specs.Words as W;
 
 use crate::commands::command_set;
 use crate::names::Name;

@@ -3,7 +3,7 @@
 ghost use Rattle.std.specs.Prelude.{◌≡◌};
 ghost use Rattle.command_line.specs.Names as N;
 
-use program_words::MOST_AUDITED;
+use definitions::limits::MOST_AUDITED;
 
 /// The commands of the program.
 #[derive(Clone, Copy, Debug, PartialEq, Eq)]

@@ -5,7 +5,7 @@ ghost use Rattle.command_line.specs.Lines as L;
 
 use crate::lines::split;
 use crate::names::Name;
-use program_words::read_texts;
+use station::read_texts;
 use std::alloc::{AllocError, Global};
 
 /// A command line with words of its own: the command, and the words behind its name as bytes.

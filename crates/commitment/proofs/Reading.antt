@@ -16,7 +16,8 @@ use Rattle.definitions.specs.Openings.{cell_bytes, move_bytes, FitsCell, FitsStr
 use Rattle.commitment.specs.Spelling.{frame_bytes, has_head, reveal_length, short_at, cell_at, turn_at, turn_frame_of, FitsFrame}
 use Rattle.std.proofs.lemmas.Option.{same_Some, none-some}
 use Rattle.plain_lemmas.proofs.Tests.{chosen}
-use Rattle.plain_lemmas.proofs.Lists.{AreBytes, two_bytes, four_bytes, front_same}
+use Rattle.definitions.proofs.Fronts.{front_same}
+use Rattle.plain_lemmas.proofs.Lists.{AreBytes, two_bytes, four_bytes}
 
 -- the list without its first 4, 5 or 9 items, which its length says it has
 pub head_is : (kind payload : ℕ) (bytes : List ℕ) → length bytes ≡ payload + 3 → slice_index bytes 0 ≡ kind → slice_index bytes 1 ≡ 0 → slice_index bytes 2 ≡ payload →

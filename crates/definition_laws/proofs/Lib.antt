@@ -44,3 +44,4 @@ pub mod Alone
 pub mod FirstFinding
 pub mod Room
 pub mod Replied
+pub mod Fair

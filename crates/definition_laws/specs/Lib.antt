@@ -8,7 +8,7 @@ pub mod Growth
 pub mod Own
 pub mod Advancing
 pub mod Waiting
-pub mod FairPlay
+pub mod Receipts
 pub mod Answering
 pub mod Stepping
 pub mod Accusing
@@ -19,3 +19,4 @@ pub mod Fits
 pub mod Replies
 pub mod Strikes
 pub mod Illegals
+pub mod FairPlay

@@ -7,7 +7,7 @@ use Rattle.definitions.specs.declared.world.Cell.{Cell}
 use Rattle.definitions.specs.declared.world.Move.{Move}
 use Rattle.definitions.specs.declared.openings.Opening.{Opening}
 use Rattle.definitions.specs.Openings.{cell_bytes, strike_bytes, move_bytes, opening, FitsCell, FitsStrike, FitsOpening}
-use Rattle.plain_lemmas.proofs.Lists.{front_same}
+use Rattle.definitions.proofs.Fronts.{front_same}
 
 to_be_bytes_2-same : (m n : ℕ) → m < 2 ^ 16 → n < 2 ^ 16 → to_be_bytes w16 m ≡ to_be_bytes w16 n → m ≡ n
 to_be_bytes_2-same m n h k e = sym (from_be_bytes-to_be_bytes_2 m h) ∙ ap (from_be_bytes w16) e ∙ from_be_bytes-to_be_bytes_2 n k

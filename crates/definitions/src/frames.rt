@@ -25,6 +25,8 @@ pub enum TurnFrame {
 
 impl TurnFrame {
     ghost use Rattle.definitions.specs.Logs as L;
+    ghost use Rattle.definitions.specs.Held as H;
+    ghost use Rattle.definitions.specs.Findings as F;
 
     /// The player whose frame it is.
     pub fn player(&self) -> PlayerId
@@ -43,6 +45,30 @@ impl TurnFrame {
         match *self {
             TurnFrame::Commit { turn, .. } => turn,
             TurnFrame::Reveal { turn, .. } => turn,
+        }
+    }
+
+    /// Whether it is a commitment.
+    pub fn is_commit(&self) -> bool
+        ensures { result ≡ F.is_commit self.now }
+    {
+        match *self {
+            TurnFrame::Commit { .. } => true,
+            TurnFrame::Reveal { .. } => false,
+        }
+    }
+
+    /// The digest to which it commits the turn; None where it is a reveal, or commits another turn.
+    pub fn commit_of(&self, turn: Turn) -> Option<Digest>
+        ensures { result ≡ H.commit_of turn self.now }
+    {
+        match *self {
+            TurnFrame::Commit {
+                turn: of,
+                digest,
+                ..
+            } => { if of == turn { Some(digest) } else { None } }
+            TurnFrame::Reveal { .. } => None,
         }
     }
 }

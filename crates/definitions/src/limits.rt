@@ -48,6 +48,9 @@ pub const MOST_CHARGE: u8 = 255;
 /// The most entries of an honest log that has no finding, in the session of which it is the longest.
 pub const MOST_ENTRIES: u32 = 794_624;
 
+/// The most logs that the command `audit` takes, after its session.
+pub const MOST_AUDITED: usize = 16;
+
 /// The most bytes of a log.
 pub const LONGEST_LOG: usize = 67_108_864;
 

@@ -5,7 +5,8 @@ use Rattle.definitions.specs.Honest.{IsHonest}
 use Rattle.line_io.specs.Inputs.{AtEnd, Input, ending_of, lines_in}
 use Rattle.run_frame.specs.declared.statuses.Status.{Status}
 use Rattle.run_frame.specs.declared.statuses.Status.TheVariants.{Done}
-use Rattle.drive_command.specs.Begin.{Beginning, TellsPlay, begun_answer, log_behind}
+use Rattle.old_log.specs.Beginnings.{Beginning}
+use Rattle.drive_command.specs.Begin.{TellsPlay, begun_answer, log_behind}
 use Rattle.drive_command.specs.Causes.{DriveCause, IsPlayed}
 use Rattle.drive_command.specs.Drive.{bad_line, drive, status_for}
 use Rattle.drive_command.proofs.Ends.{drive_status}

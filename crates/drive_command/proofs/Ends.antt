@@ -9,7 +9,7 @@ use Rattle.run_frame.specs.Frame.{Answer, answer_by}
 use Rattle.line_io.specs.Inputs.{AtEnd, AtFault, End, Ending, Fault, Input, Line, ending_of, lines_in}
 use Rattle.run_frame.specs.declared.statuses.Status.{Status}
 use Rattle.run_frame.specs.declared.statuses.Status.TheVariants.{Caught}
-use Rattle.script_grammar.specs.Grammar.{is_bad}
+use Rattle.drive_command.specs.Grammar.{is_bad}
 use Rattle.drive_command.specs.Driven.{Driven, State, fresh_state}
 use Rattle.drive_command.specs.Coming.{log_on}
 use Rattle.drive_command.specs.Drive.{bad_line, drive, drive_from, drive_log, going_on, log_by, log_from, said_behind, state_behind, status_for, text_behind}

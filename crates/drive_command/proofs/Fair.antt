@@ -12,15 +12,15 @@ use Rattle.definition_laws.proofs.Stepping.{choice_honest, got_honest}
 use Rattle.wire_frames.specs.declared.frames.Frame.{Frame}
 use Rattle.wire_frames.specs.declared.frames.Frame.TheVariants.{Hello, Turn, Want}
 use Rattle.wire_frames.specs.Streams.{given_of}
-use Rattle.script_grammar.specs.declared.grammar.DriveLine.{DriveLine}
-use Rattle.script_grammar.specs.declared.grammar.DriveLine.TheVariants.{Bad, Bytes, Choose, Log, Nothing, Score}
-use Rattle.script_grammar.specs.declared.grammar.DriveLine.TheVariants as D
-use Rattle.script_grammar.specs.Grammar.{is_bad}
+use Rattle.drive_command.specs.declared.grammar.DriveLine.{DriveLine}
+use Rattle.drive_command.specs.declared.grammar.DriveLine.TheVariants.{Bad, Bytes, Choose, Log, Nothing, Score}
+use Rattle.drive_command.specs.declared.grammar.DriveLine.TheVariants as D
+use Rattle.drive_command.specs.Grammar.{is_bad}
 use Rattle.drive_command.specs.Driven.{State, fresh_state, reader_of}
 use Rattle.drive_command.specs.Coming.{bytes_state, log_behind_frame, log_on, log_through}
 use Rattle.drive_command.specs.Drive.{drive_log, log_by, log_from, said_behind, state_behind}
-use Rattle.fair_play.specs.FairPlay.{IsFairPlay}
-use Rattle.fair_play.proofs.Fair.{honest_fair}
+use Rattle.definition_laws.specs.FairPlay.{IsFairPlay}
+use Rattle.definition_laws.proofs.Fair.{honest_fair}
 
 on_honest : (game : Game) (me : ℕ) (now last : List Entry) → IsHonest game me now → IsHonest game me last → IsHonest game me (log_on game now last)
 on_honest game me now last i j = go (is_clean game now)

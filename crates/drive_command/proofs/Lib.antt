@@ -9,3 +9,4 @@ pub mod Digits
 pub mod Streams
 pub mod Runs
 pub mod Commanded
+pub mod Lines

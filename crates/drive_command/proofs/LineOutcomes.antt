@@ -20,9 +20,9 @@ use Rattle.run_frame.specs.declared.statuses.Status.{Status}
 use Rattle.run_frame.specs.declared.statuses.Status.TheVariants.{BadLine, Caught, InputFault}
 use Rattle.run_frame.specs.declared.statuses.TextName.TheVariants.{Script}
 use Rattle.line_io.proofs.Writing.{bytes_none}
-use Rattle.script_grammar.specs.declared.grammar.DriveLine.{DriveLine}
-use Rattle.script_grammar.specs.declared.grammar.DriveLine.TheVariants.{Bad, Nothing, Choose, Got, Bytes, Log, Score}
-use Rattle.script_grammar.specs.Grammar.{is_bad, line_of}
+use Rattle.drive_command.specs.declared.grammar.DriveLine.{DriveLine}
+use Rattle.drive_command.specs.declared.grammar.DriveLine.TheVariants.{Bad, Nothing, Choose, Got, Bytes, Log, Score}
+use Rattle.drive_command.specs.Grammar.{is_bad, line_of}
 use Rattle.definitions.specs.declared.limits.TheConstants.{LONGEST_LINE}
 use Rattle.definitions.specs.declared.limits.TheConstants.{MOST_LINES}
 use Rattle.drive_command.specs.Driven.{State, last_reader, state_with_log}
@@ -30,7 +30,7 @@ use Rattle.drive_command.specs.Coming.{received_text, bytes_text, bytes_state}
 use Rattle.drive_command.specs.Drive.{drive_from, going_on, said_behind, state_behind, text_behind}
 use Rattle.report_lines.specs.Lines.{added_text, choice_text, got_text}
 use Rattle.drive_command.specs.Report.{end_text, log_text}
-use Rattle.peer_report.specs.Report.{own_score_text}
+use Rattle.report_lines.specs.Report.{own_score_text}
 
 -- the answer from a log on that has no finding, and from one that has
 pub goes_on : (game : Game) (me : ℕ) (h : List Entry) (rest : Answer) → is_clean game h ≡ true → going_on game me h rest ≡ rest

@@ -13,9 +13,9 @@ use Rattle.line_io.specs.Inputs.{Input, lines_in}
 use Rattle.wire_frames.specs.declared.frames.Frame.{Frame}
 use Rattle.wire_frames.specs.declared.frames.Frame.TheVariants.{Hello, Turn, Want}
 use Rattle.wire_frames.specs.Streams.{given_of}
-use Rattle.script_grammar.specs.declared.grammar.DriveLine.{DriveLine}
-use Rattle.script_grammar.specs.declared.grammar.DriveLine.TheVariants.{Bad, Bytes, Choose, Got, Log, Nothing, Score}
-use Rattle.script_grammar.specs.Grammar.{is_bad}
+use Rattle.drive_command.specs.declared.grammar.DriveLine.{DriveLine}
+use Rattle.drive_command.specs.declared.grammar.DriveLine.TheVariants.{Bad, Bytes, Choose, Got, Log, Nothing, Score}
+use Rattle.drive_command.specs.Grammar.{is_bad}
 use Rattle.drive_command.specs.Driven.{State, fresh_state, reader_of}
 use Rattle.drive_command.specs.Coming.{bytes_state, log_on, log_through}
 use Rattle.drive_command.specs.Drive.{drive_log, log_from, said_behind, state_behind}

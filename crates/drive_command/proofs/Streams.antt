@@ -10,8 +10,8 @@ use Rattle.wire_frames.specs.declared.frames.Frame.{Frame}
 use Rattle.wire_frames.specs.Reading.{Reading, at_start}
 use Rattle.wire_frames.specs.Streams.{Given, Stream, end_of, given_of, given_over, seen_by, stream_of}
 use Rattle.wire_frames.proofs.Pieces.{pieces_same}
-use Rattle.script_grammar.specs.declared.grammar.DriveLine.{DriveLine}
-use Rattle.script_grammar.specs.declared.grammar.DriveLine.TheVariants.{Nothing, Choose, Got, Bytes, Log, Score, Bad}
+use Rattle.drive_command.specs.declared.grammar.DriveLine.{DriveLine}
+use Rattle.drive_command.specs.declared.grammar.DriveLine.TheVariants.{Nothing, Choose, Got, Bytes, Log, Score, Bad}
 use Rattle.drive_command.specs.declared.readers.TheConstants.{READERS}
 use Rattle.drive_command.specs.Driven.{State, fresh_state, reader_of, with_reader}
 use Rattle.drive_command.specs.Coming.{bytes_state}

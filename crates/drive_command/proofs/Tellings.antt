@@ -26,9 +26,9 @@ use Rattle.wire_frames.specs.declared.frames.Frame.{Frame}
 use Rattle.wire_frames.specs.declared.frames.Frame.TheVariants.{Hello, Turn, Want}
 use Rattle.wire_frames.specs.Reading.{Reading}
 use Rattle.wire_frames.specs.Streams.{given_of}
-use Rattle.script_grammar.specs.declared.grammar.DriveLine.{DriveLine}
-use Rattle.script_grammar.specs.declared.grammar.DriveLine.TheVariants as D
-use Rattle.script_grammar.specs.Grammar.{is_bad}
+use Rattle.drive_command.specs.declared.grammar.DriveLine.{DriveLine}
+use Rattle.drive_command.specs.declared.grammar.DriveLine.TheVariants as D
+use Rattle.drive_command.specs.Grammar.{is_bad}
 use Rattle.drive_command.specs.Driven.{State, fresh_state, reader_of}
 use Rattle.drive_command.specs.Coming.{bad_byte_text, bytes_state, bytes_text, coming_text, log_behind_frame, log_on, log_through, received_text, text_on, text_through}
 use Rattle.drive_command.specs.Drive.{drive, drive_from, drive_log, going_on, log_by, log_from, said_behind, start_text, state_behind, text_behind}

@@ -8,15 +8,10 @@ use Rattle.line_io.specs.Inputs.{Input}
 use Rattle.run_frame.specs.Frame.{Answer, after_text, bare_answer}
 use Rattle.run_frame.specs.declared.statuses.Status.{Status}
 use Rattle.report_lines.specs.Lines.{dropped_text}
+use Rattle.old_log.specs.Beginnings.{Beginning}
 use Rattle.drive_command.specs.Drive.{drive, drive_log}
-use Rattle.fair_play.specs.FairPlay.{IsFairPlay}
+use Rattle.definition_laws.specs.FairPlay.{IsFairPlay}
 use Rattle.drive_command.specs.Telling.{TellsLog}
-
--- what a run begins with: a session, the log of its player, and the byte from which on the log's file is dropped, if it is
-pub record Beginning : Type 0 where
-  pub game : Game
-  pub first : List Entry
-  pub dropped : Option ℕ
 
 -- the log that the player's peer keeps, which begins so, behind this script
 abbrev pub log_behind : (player : ℕ) → Beginning → Input → List Entry

@@ -5,7 +5,8 @@ use Rattle.line_io.specs.Inputs.{Input, lines_in}
 use Rattle.run_frame.specs.declared.statuses.Status.{Status}
 use Rattle.run_frame.specs.declared.statuses.Status.TheVariants.{Done, NoMemory, InputFault, OutputFault, Caught, BadLine}
 use Rattle.run_frame.specs.declared.statuses.TextName.TheVariants.{Script}
-use Rattle.drive_command.specs.Begin.{Beginning, log_behind}
+use Rattle.old_log.specs.Beginnings.{Beginning}
+use Rattle.drive_command.specs.Begin.{log_behind}
 use Rattle.drive_command.specs.Drive.{bad_line}
 
 -- The script is played to its end without a finding, and this is the number of its first bad line, if there is one.

@@ -12,16 +12,16 @@ use Rattle.run_frame.specs.declared.statuses.Status.TheVariants.{Done, InputFaul
 use Rattle.run_frame.specs.declared.statuses.TextName.TheVariants.{Script}
 use Rattle.run_frame.specs.Frame.{Answer, after_text, answer_by, bare_answer}
 use Rattle.line_io.specs.Inputs.{Input, Line, End, Fault, Ending, AtEnd, AtFault, lines_in}
-use Rattle.script_grammar.specs.declared.grammar.DriveLine.{DriveLine}
-use Rattle.script_grammar.specs.declared.grammar.DriveLine.TheVariants.{Nothing, Choose, Got, Bytes, Log, Score, Bad}
-use Rattle.script_grammar.specs.Grammar.{line_of, is_bad}
+use Rattle.drive_command.specs.declared.grammar.DriveLine.{DriveLine}
+use Rattle.drive_command.specs.declared.grammar.DriveLine.TheVariants.{Nothing, Choose, Got, Bytes, Log, Score, Bad}
+use Rattle.drive_command.specs.Grammar.{line_of, is_bad}
 use Rattle.definitions.specs.declared.limits.TheConstants.{LONGEST_LINE}
 use Rattle.definitions.specs.declared.limits.TheConstants.{MOST_LINES}
 use Rattle.drive_command.specs.Driven.{State, fresh_state, last_reader, state_with_log}
 use Rattle.drive_command.specs.Coming.{received_text, bytes_text, bytes_state, log_on}
 use Rattle.report_lines.specs.Lines.{choice_text, found_text, added_text}
 use Rattle.drive_command.specs.Report.{log_text, end_text}
-use Rattle.peer_report.specs.Report.{own_score_text}
+use Rattle.report_lines.specs.Report.{own_score_text}
 
 -- what the line says that comes behind n lines: a line longer than a line may be, and one behind the most lines that a
 -- script has, is in no grammar

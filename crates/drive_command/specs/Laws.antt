@@ -10,13 +10,13 @@ use Rattle.definitions.specs.Steps.{LogStep, Chooses, Comes, log_run}
 use Rattle.wire_frames.specs.declared.frames.Frame.{Frame}
 use Rattle.wire_frames.specs.declared.frames.Frame.TheVariants.{Hello, Turn, Want}
 use Rattle.wire_frames.specs.Streams.{end_of, given_of, stream_of}
-use Rattle.script_grammar.specs.declared.grammar.DriveLine.{DriveLine}
-use Rattle.script_grammar.specs.declared.grammar.DriveLine.TheVariants.{Nothing, Choose, Got, Bytes, Log, Score, Bad}
-use Rattle.script_grammar.specs.Grammar.{is_bad}
+use Rattle.drive_command.specs.declared.grammar.DriveLine.{DriveLine}
+use Rattle.drive_command.specs.declared.grammar.DriveLine.TheVariants.{Nothing, Choose, Got, Bytes, Log, Score, Bad}
+use Rattle.drive_command.specs.Grammar.{is_bad}
 use Rattle.drive_command.specs.declared.readers.TheConstants.{READERS}
 use Rattle.drive_command.specs.Driven.{State, fresh_state, reader_of}
 use Rattle.drive_command.specs.Drive.{drive, drive_log, bad_line, said_behind, state_behind, status_for}
-use Rattle.fair_play.specs.FairPlay.{IsFairPlay}
+use Rattle.definition_laws.specs.FairPlay.{IsFairPlay}
 use Rattle.drive_command.specs.Telling.{TellsLog}
 
 -- a run ends by a finding of its last log, or else by the first bad line of its script, or else as reading the script ends

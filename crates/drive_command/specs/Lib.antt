@@ -9,3 +9,6 @@ pub mod Laws
 pub mod Words
 pub mod Begin
 pub mod Causes
+pub mod Grammar
+pub mod Spelling
+pub mod LineLaws

@@ -22,7 +22,7 @@ use Rattle.drive_command.specs.Coming.{bytes_text, bytes_state}
 use Rattle.drive_command.specs.Drive.{drive_from, going_on}
 use Rattle.report_lines.specs.Lines.{choice_text, got_text, hello_text, want_text, bad_text, added_text}
 use Rattle.drive_command.specs.Report.{log_text}
-use Rattle.peer_report.specs.Report.{own_score_text}
+use Rattle.report_lines.specs.Report.{own_score_text}
 
 -- what is written about a frame that came from q, by the peer's answer, where the log is now this one
 abbrev pub reply_text : ℕ → Reply → List Entry → List ℕ

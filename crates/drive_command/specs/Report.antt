@@ -5,7 +5,7 @@ use Rattle.definitions.specs.declared.logs.Entry.{Entry}
 use Rattle.definitions.specs.World.{Game, players_of}
 use Rattle.session_log.specs.Spelling.{log_bytes}
 use Rattle.report_lines.specs.Lines.{end_line_text}
-use Rattle.peer_report.specs.Report.{players_text, stand_text}
+use Rattle.report_lines.specs.Report.{players_text, stand_text}
 
 -- the bytes of a log as a field of a line, and nothing where there is none
 abbrev pub log_field : List ℕ → List ℕ

@@ -17,7 +17,7 @@ use Rattle.definitions.specs.Advance.{next_made}
 use Rattle.peer_core.specs.Answers.{is_logged}
 use Rattle.report_lines.specs.Lines.{choice_text, got_text, hello_text, want_text, bad_text, caught_text, made_text}
 use Rattle.drive_command.specs.Report.{end_text, log_text}
-use Rattle.peer_report.specs.Report.{own_score_text}
+use Rattle.report_lines.specs.Report.{own_score_text}
 
 -- what a part of a text is about
 pub data Telling : Type 0 where

@@ -1,6 +1,6 @@
 -- Words: what the words of the command say.
 use Rattle.std.specs.Prelude.{ℕ, List, [], ◌∷◌, Option, Some, None, option_map}
-use Rattle.script_grammar.specs.Numbers.{number_of}
+use Rattle.text_fields.specs.Numbers.{number_of}
 use Rattle.drive_command.specs.declared.words.TheConstants.{LAST_PLAYER}
 use Rattle.drive_command.specs.declared.words.DriveWords.{DriveWords}
 

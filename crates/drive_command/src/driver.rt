@@ -7,7 +7,7 @@ ghost use Rattle.definitions.specs.Needs.{choice_fault};
 ghost use Rattle.definitions.specs.Findings.{is_clean};
 ghost use Rattle.definitions.specs.Answers.{got_answer, place_of};
 ghost use Rattle.definitions.specs.Steps.{after_choice, after_got};
-ghost use Rattle.script_grammar.specs.Grammar.{IsFew, is_bad};
+ghost use Rattle.drive_command.specs.Grammar.{IsFew, is_bad};
 ghost use Rattle.drive_command.specs.Driven.{fresh_state, last_reader, reader_of, state_with_log};
 ghost use Rattle.drive_command.specs.Coming.{coming_text, log_behind_frame};
 ghost use Rattle.drive_command.specs.Drive.{said_behind};
@@ -17,10 +17,10 @@ ghost use Rattle.line_io.specs.Inputs.{Input, Line};
 
 use crate::outcomes::{Answered, Arrival, Outcome, Part, Reply};
 use crate::readers::{READERS, Readers, last_reader};
+use crate::{DriveLine, read_line};
 use definitions::limits::{LONGEST_LINE, LONGEST_PIECE, MOST_LINES};
 use definitions::{GotAnswer, Move, Nonce, OwnFault, PlayerId, TurnFrame};
 use peer_core::{Peer, is_logged};
-use script_grammar::{DriveLine, read_line};
 use std::marker::Model;
 use wire_frames::{FedWhat, Frame};
 

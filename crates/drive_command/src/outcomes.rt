@@ -4,7 +4,7 @@ ghost use Rattle.std.specs.Prelude.{◌≡◌};
 ghost use Rattle.drive_command.specs.Outcomes.{is_last};
 
 use definitions::{GotAnswer, OwnFault, PlayerId, Turn};
-use script_grammar::Piece;
+use text_fields::Piece;
 use wire_frames::Place;
 
 /// The peer's answer to a frame of this place. The log had so many entries before.

@@ -12,9 +12,9 @@ use crate::outcomes::{Answered, Arrival, Reply};
 use definitions::{OwnFault, PlayerId, Turn};
 use line_io::{Written, put};
 use peer_core::Peer;
-use peer_report::{put_players, put_score, put_stand};
 use report_lines::{
-    bad_byte_line, choice_line, end_line, got_line, hello_line, put_added, put_found, want_line,
+    bad_byte_line, choice_line, end_line, got_line, hello_line, put_added, put_found, put_players,
+    put_score, put_stand, want_line,
 };
 use station::Sink;
 

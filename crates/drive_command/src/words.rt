@@ -5,7 +5,7 @@ ghost use Rattle.drive_command.specs.Words.{driving_in, driving_named, driving_s
 
 use definitions::PlayerId;
 use definitions::limits::MOST_PLAYERS;
-use script_grammar::read_number;
+use text_fields::read_number;
 
 /// The number of the last player that a session of any version may have.
 const LAST_PLAYER: u32 = MOST_PLAYERS as u32 - 1;

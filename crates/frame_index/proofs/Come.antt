@@ -13,9 +13,9 @@ use Rattle.definition_laws.proofs.Grows.{IsBeginning, IsBeginning_refl, IsBeginn
 use Rattle.definition_laws.proofs.Knowing.{known_to_stuck}
 use Rattle.definition_laws.proofs.Listing.{take_front}
 use Rattle.grid_world.specs.Sessions.{IsSession}
-use Rattle.streams.specs.declared.stream.Stream.{Stream}
-use Rattle.streams.specs.Streams.{places_of}
-use Rattle.streams.proofs.Shown.{shown_short}
+use Rattle.frame_index.specs.declared.streams.Stream.{Stream}
+use Rattle.frame_index.specs.Streams.{places_of}
+use Rattle.frame_index.proofs.StreamsShown.{shown_short}
 use Rattle.frame_index.specs.declared.heads.Front.{Front}
 use Rattle.frame_index.specs.Heads.{Ends, IsAt, Stands}
 

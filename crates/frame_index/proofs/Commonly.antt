@@ -25,10 +25,10 @@ use Rattle.definition_laws.proofs.Listing.{slice_get_last}
 use Rattle.definition_laws.proofs.Members.{Has_flat_map, Has_slice_get, flat_map_Has, slice_get_Has}
 use Rattle.definition_laws.proofs.Nexts.{some_at}
 use Rattle.grid_world.specs.Sessions.{IsSession}
-use Rattle.streams.specs.declared.stream.Stream.{Stream}
-use Rattle.streams.specs.Frames.{opening_at}
-use Rattle.streams.specs.Streams.{places_of}
-use Rattle.streams.proofs.Shown.{held_there, read_from, still_commit, still_due, stream_none, there_commit, there_due}
+use Rattle.frame_index.specs.declared.streams.Stream.{Stream}
+use Rattle.frame_index.specs.Openings.{opening_at}
+use Rattle.frame_index.specs.Streams.{places_of}
+use Rattle.frame_index.proofs.StreamsShown.{held_there, read_from, still_commit, still_due, stream_none, there_commit, there_due}
 use Rattle.frame_index.specs.declared.common.Common.{Common}
 use Rattle.frame_index.specs.declared.frames.FrameIndex.{FrameIndex}
 use Rattle.frame_index.specs.declared.heads.Front.{Front}

@@ -4,7 +4,7 @@ use Rattle.std.specs.Prelude.{if◌then◌else◌, min}
 use Rattle.std.proofs.lemmas.Bool.{lt-ltb, le-ltb}
 use Rattle.definitions.specs.declared.logs.Entry.{Entry}
 use Rattle.definitions.specs.World.{Game}
-use Rattle.streams.specs.declared.stream.Stream.{Stream}
+use Rattle.frame_index.specs.declared.streams.Stream.{Stream}
 use Rattle.frame_index.specs.declared.heads.Front.{Front}
 use Rattle.frame_index.specs.Heads.{Stand, after_by, front_after, front_of, turn_next}
 

@@ -9,9 +9,9 @@ use Rattle.definitions.specs.World.{Game, is_open, players_of}
 use Rattle.definitions.specs.Logs.{got_of}
 use Rattle.definitions.specs.Held.{first_commit, known_to}
 use Rattle.grid_world.specs.Sessions.{IsSession}
-use Rattle.streams.specs.declared.stream.Stream.{Stream}
-use Rattle.streams.specs.Streams.{IsCommitNext, IsReadFrom, places_of, stream_of}
-use Rattle.streams.proofs.Shown.{held_there, read_from, stream_facts}
+use Rattle.frame_index.specs.declared.streams.Stream.{Stream}
+use Rattle.frame_index.specs.Streams.{IsCommitNext, IsReadFrom, places_of, stream_of}
+use Rattle.frame_index.proofs.StreamsShown.{held_there, read_from, stream_facts}
 use Rattle.frame_index.specs.declared.heads.Front.{Front}
 use Rattle.frame_index.specs.Heads.{AreOpen, Stand, Stands, front_after}
 

@@ -23,9 +23,9 @@ use Rattle.definition_laws.proofs.LegalMoves.{illegal_after_track}
 use Rattle.definition_laws.proofs.Listing.{slice_get_front, take_front}
 use Rattle.grid_world.specs.Sessions.{IsSession}
 use Rattle.move_rules.specs.Verdicts.{verdict}
-use Rattle.streams.specs.declared.stream.Stream.{Stream}
-use Rattle.streams.proofs.Opened.{refused_illegal}
-use Rattle.streams.proofs.Shown.{held_there}
+use Rattle.frame_index.specs.declared.streams.Stream.{Stream}
+use Rattle.frame_index.proofs.Opened.{refused_illegal}
+use Rattle.frame_index.proofs.StreamsShown.{held_there}
 use Rattle.frame_index.specs.declared.seen.Seen.{Seen}
 use Rattle.frame_index.specs.Heads.{Ends, IsAt, Stands, front_of}
 use Rattle.frame_index.specs.InLog.{NoneBelow, ShowsIn, is_bad, takes}

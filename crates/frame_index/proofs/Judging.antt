@@ -20,7 +20,7 @@ use Rattle.definition_laws.specs.Members.{Has}
 use Rattle.definition_laws.proofs.Tracks.{legal_in_reach}
 use Rattle.definitions.proofs.Walks.{walked_open}
 use Rattle.move_rules.specs.Verdicts.{judged as verdict_by, verdict}
-use Rattle.streams.specs.Frames.{opening_at}
+use Rattle.frame_index.specs.Openings.{opening_at}
 use Rattle.frame_index.specs.declared.seen.Seen.{Seen}
 use Rattle.frame_index.specs.InLog.{takes, taken}
 use Rattle.frame_index.specs.Judged.{is_good, judged, judged_by}

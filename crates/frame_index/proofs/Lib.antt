@@ -1,3 +1,5 @@
+pub mod Opened
+pub mod StreamsShown
 pub mod Lowest
 pub mod Lifted
 pub mod Shown

@@ -6,8 +6,8 @@ use Rattle.definitions.specs.World.{Game, is_open}
 use Rattle.definitions.specs.Logs.{got_of}
 use Rattle.definitions.specs.Places.{commits_next}
 use Rattle.definitions.specs.Held.{known_to, next_known}
-use Rattle.streams.specs.declared.stream.Stream.{Stream}
-use Rattle.streams.specs.Streams.{IsReadFrom, places_of}
+use Rattle.frame_index.specs.declared.streams.Stream.{Stream}
+use Rattle.frame_index.specs.Streams.{IsReadFrom, places_of}
 use Rattle.frame_index.specs.declared.heads.Front.{Front}
 
 -- the place is that of a commitment

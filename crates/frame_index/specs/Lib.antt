@@ -1,3 +1,5 @@
+pub mod Streams
+pub mod Openings
 pub mod Appended
 pub mod Clashes
 pub mod Frames

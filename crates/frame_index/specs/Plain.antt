@@ -13,8 +13,8 @@ use Rattle.definitions.specs.Logs.{got_of, move_shown}
 use Rattle.definitions.specs.Moves.{is_legal, next_track, track_after}
 use Rattle.definitions.specs.World.{Game, is_open}
 use Rattle.definition_laws.specs.Members.{Has}
-use Rattle.streams.specs.declared.stream.Stream.{Stream}
-use Rattle.streams.specs.Streams.{IsReadFrom}
+use Rattle.frame_index.specs.declared.streams.Stream.{Stream}
+use Rattle.frame_index.specs.Streams.{IsReadFrom}
 use Rattle.frame_index.specs.declared.heads.Front.{Front}
 use Rattle.frame_index.specs.declared.kept.KeptFrame.{KeptFrame}
 use Rattle.frame_index.specs.declared.common.Common.{Common}

@@ -9,7 +9,6 @@ use crate::seen::Seen;
 use definitions::TurnFrame;
 use std::alloc::{AllocError, Global};
 use std::collections::BTreeMap;
-use streams::is_commit;
 
 /// Whether another reveal stands in the table under the digest of this one; if not, this one does.
 fn clashes(table: &mut BTreeMap<[u8; 32], TurnFrame>, one: &Seen) -> Result<bool, AllocError>
@@ -17,7 +16,7 @@ fn clashes(table: &mut BTreeMap<[u8; 32], TurnFrame>, one: &Seen) -> Result<bool
     ensures clash { IfOk result (λ found. found ≡ true → C.IsClash (C.look table.old) one.now) }
     ensures stays { OnOk result ((seen : List Seen) → Has seen one.now → C.IsFrom seen (C.look table.old) → C.IsFrom seen (C.look table.new)) }
 {
-    if is_commit(&one.frame) {
+    if one.frame.is_commit() {
         return Ok(false);
     }
     if let Some(frame) = table.get(&one.digest.bytes) {

@@ -16,7 +16,6 @@ use definitions::{Move, PlayerId, Track, Turn};
 use grid_world::Session;
 use move_rules::{Walker, start_track};
 use std::alloc::AllocError;
-use streams::is_commit;
 
 /// By the log's number, whether it is looked at.
 pub type Chosen = [bool; MOST_LOGS as usize];
@@ -28,7 +27,7 @@ fn commit_spots(kept: &[KeptFrame]) -> &[ShortSpot]
     match kept {
         [] => &[],
         [one, rest @ ..] => {
-            if is_commit(&one.frame) {
+            if one.frame.is_commit() {
                 one.spots.all()
             } else {
                 commit_spots(rest)
@@ -44,7 +43,7 @@ fn reveal_spots(kept: &[KeptFrame]) -> &[ShortSpot]
     match kept {
         [] => &[],
         [one, rest @ ..] => {
-            if is_commit(&one.frame) {
+            if one.frame.is_commit() {
                 reveal_spots(rest)
             } else {
                 one.spots.all()

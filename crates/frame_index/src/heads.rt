@@ -5,7 +5,7 @@ ghost use Rattle.definitions.specs.declared.logs.Entry.{Entry};
 ghost use Rattle.definitions.specs.Logs.{got_of};
 ghost use Rattle.definitions.specs.World.{players_of, is_open};
 ghost use Rattle.definitions.specs.declared.limits.TheConstants.{MOST_TURNS};
-ghost use Rattle.streams.specs.Streams.{IsCommitNext, IsNext, IsReadFrom};
+ghost use Rattle.frame_index.specs.Streams.{IsCommitNext, IsNext, IsReadFrom};
 ghost use Rattle.frame_index.specs.Frames as F;
 ghost use Rattle.frame_index.specs.Heads as H;
 ghost use Rattle.frame_index.specs.Keeps.{Keeps};
@@ -15,11 +15,11 @@ use crate::in_log::first_commit_in;
 use crate::judged::first_opening;
 use crate::limits::MOST_LOGS;
 use crate::seen::Seen;
+use crate::streams::{Stream, start_stream};
 use definitions::{PlayerId, Turn};
 use grid_world::Session;
 use move_rules::Walker;
 use std::alloc::AllocError;
-use streams::{Stream, start_stream};
 
 /// By the log's number: a player's stream as far as the log shows it, up to a place that all logs have come to.
 pub type Heads = [Stream; MOST_LOGS as usize];

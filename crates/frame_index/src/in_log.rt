@@ -12,13 +12,12 @@ ghost use Rattle.frame_index.specs.Wants as W;
 use crate::least::lower;
 use crate::seen::Seen;
 use definitions::{Digest, Turn};
-use streams::commit_of;
 
 /// Whether it stands in the log and commits the turn.
 fn commits_in(one: &Seen, log: u32, turn: Turn) -> bool
     ensures { result ≡ N.takes (H.commit_of turn) log one.now }
 {
-    one.spot.log == log && commit_of(&one.frame, turn).is_some()
+    one.spot.log == log && one.frame.commit_of(turn).is_some()
 }
 
 /// The first that commits the turn in the log.
@@ -39,6 +38,6 @@ pub(crate) fn first_commit_in(seen: &[Seen], log: u32, turn: Turn) -> Option<Dig
 {
     match first_in(seen, log, turn) {
         None => None,
-        Some(first) => commit_of(&first.frame, turn),
+        Some(first) => first.frame.commit_of(turn),
     }
 }

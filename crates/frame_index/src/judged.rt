@@ -6,7 +6,7 @@ ghost use Rattle.definitions.specs.Lists.{first_of};
 ghost use Rattle.definitions.specs.Logs.{got_of};
 ghost use Rattle.definitions.specs.Moves.{next_track};
 ghost use Rattle.definitions.specs.World.{players_of, is_open};
-ghost use Rattle.streams.specs.Frames.{opening_at};
+ghost use Rattle.frame_index.specs.Openings.{opening_at};
 ghost use Rattle.frame_index.specs.Judged as J;
 ghost use Rattle.frame_index.specs.Keeps.{Keeps};
 ghost use Rattle.frame_index.specs.Wants as W;

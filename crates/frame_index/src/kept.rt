@@ -12,7 +12,6 @@ use reveal_check::frame_digest;
 use std::alloc::{AllocError, Global};
 use std::collections::BTreeMap;
 use std::marker::Model;
-use streams::is_commit;
 
 /// A frame that logs got, its first spot in each log that got it, and its digest.
 ///
@@ -82,7 +81,7 @@ fn note_at(kept: &mut Vec<KeptFrame>, at: usize, spot: Spot) -> Result<(), Alloc
 fn key_of(frame: &TurnFrame, digest: &Digest) -> FrameKey
     ensures { result ≡ K.key_bytes frame.now digest.now }
 {
-    let kind = if is_commit(frame) { 1 } else { 0 };
+    let kind = if frame.is_commit() { 1 } else { 0 };
     let mut key = [kind; 33];
     key[..32].copy_from_slice(&digest.bytes);
     key

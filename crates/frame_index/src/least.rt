@@ -6,7 +6,6 @@ ghost use Rattle.frame_index.specs.Wants as W;
 
 use crate::seen::{Seen, Wanted};
 use definitions::Spot;
-use streams::is_commit;
 
 /// Whether the frame is looked for.
 fn is_wanted(wanted: &Wanted, one: &Seen) -> bool
@@ -14,13 +13,13 @@ fn is_wanted(wanted: &Wanted, one: &Seen) -> bool
 {
     match *wanted {
         Wanted::Any => true,
-        Wanted::Commit => is_commit(&one.frame),
-        Wanted::Reveal => !is_commit(&one.frame),
+        Wanted::Commit => one.frame.is_commit(),
+        Wanted::Reveal => !one.frame.is_commit(),
         Wanted::Unlike(digest) => one.digest != digest,
-        Wanted::CommitUnlike(digest) => is_commit(&one.frame) && one.digest != digest,
-        Wanted::RevealUnlike(digest) => !is_commit(&one.frame) && one.digest != digest,
+        Wanted::CommitUnlike(digest) => one.frame.is_commit() && one.digest != digest,
+        Wanted::RevealUnlike(digest) => !one.frame.is_commit() && one.digest != digest,
         Wanted::Rival(digest, frame) => {
-            !is_commit(&one.frame) && one.digest == digest && one.frame != frame
+            !one.frame.is_commit() && one.digest == digest && one.frame != frame
         }
     }
 }
@@ -78,7 +77,7 @@ pub(crate) fn least(seen: &[Seen], wanted: &Wanted) -> Option<Seen>
 fn has_rival(seen: &[Seen], one: &Seen) -> bool
     ensures { result ≡ W.has_rival seen.now one.now }
 {
-    !is_commit(&one.frame) && least(seen, &Wanted::Rival(one.digest, one.frame)).is_some()
+    !one.frame.is_commit() && least(seen, &Wanted::Rival(one.digest, one.frame)).is_some()
 }
 
 /// The one with the least spot of those of which another reveal has the same digest.

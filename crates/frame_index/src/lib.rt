@@ -35,6 +35,7 @@ mod seen;
 mod short_spot;
 mod spot_list;
 mod spots;
+mod streams;
 
 pub use common::{Chosen, common_moves};
 pub use definitions::{Digest, Finding, Kind, Spot, TurnFrame};
@@ -43,3 +44,4 @@ pub use heads::{Heads, read_first, read_turn, start_heads};
 pub use limits::MOST_LOGS;
 pub use listing::findings;
 pub use seen::Seen;
+pub use streams::Stream;

@@ -13,7 +13,6 @@ use crate::least::{in_order, least, least_rivalled};
 use crate::seen::{Seen, Wanted};
 use definitions::Spot;
 use std::alloc::{AllocError, Global};
-use streams::is_commit;
 
 /// The least pair of commitments with different digests.
 #[tactic(auto, unfolding(crate::specs::Pairs::two_commits))]
@@ -31,7 +30,7 @@ fn bad_opening_pair(seen: &[Seen]) -> Option<(Spot, Spot)>
     ensures { result ≡ P.bad_opening seen.now }
 {
     let first = least(seen, &Wanted::Any)?;
-    let partner = if is_commit(&first.frame) {
+    let partner = if first.frame.is_commit() {
         Wanted::RevealUnlike(first.digest)
     } else {
         Wanted::Unlike(first.digest)

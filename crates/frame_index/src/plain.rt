@@ -9,7 +9,6 @@ use crate::kept::KeptFrame;
 use definitions::{Move, PlayerId, Track, TurnFrame};
 use grid_world::Session;
 use move_rules::{Walker, start_track};
-use streams::is_commit;
 
 /// Whether at most one commitment and one reveal are kept of a turn, and they have one digest.
 pub(crate) fn is_plain(kept: &[KeptFrame]) -> bool
@@ -19,7 +18,7 @@ pub(crate) fn is_plain(kept: &[KeptFrame]) -> bool
         [] => true,
         [_] => true,
         [one, other] => {
-            is_commit(&one.frame) != is_commit(&other.frame) && one.digest == other.digest
+            one.frame.is_commit() != other.frame.is_commit() && one.digest == other.digest
         }
         _ => false,
     }

@@ -17,10 +17,10 @@ use Rattle.grid_world.specs.Sessions.{IsSession}
 use Rattle.peer_core.proofs.OwnTracks.{chosen_open}
 use Rattle.pilots.specs.Choices.{choice_of, strike_of, target_of}
 use Rattle.pilots.specs.Draws.{draw, generator_of}
-use Rattle.pilots.specs.Making.{made_session, plain_game, seat_at, starts_of, walls_of}
-use Rattle.pilots.specs.declared.sizes.TheConstants.{CELLS, PLAYERS}
+use Rattle.make_command.specs.Making.{made_session, plain_game, seat_at, starts_of, walls_of}
+use Rattle.make_command.specs.declared.sizes.TheConstants.{CELLS, PLAYERS}
 use Rattle.pilots.proofs.Legal.{bot_is_legal, draw_below}
-use Rattle.pilots.proofs.Made.{drawn_all}
+use Rattle.make_command.proofs.Made.{drawn_all}
 use Rattle.schedule.specs.declared.stands.Stand.{Stand}
 use Rattle.schedule.specs.declared.stands.Stand.TheVariants.{Behind, Caught, Finished, Held, Moving}
 use Rattle.schedule.specs.Stands.{stand}

@@ -1,3 +1,5 @@
+pub mod Drawn
+pub mod Made
 pub mod Decimals
 pub mod Totals
 pub mod InOrder

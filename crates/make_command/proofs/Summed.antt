@@ -4,7 +4,7 @@ use Rattle.definitions.specs.World.{Game}
 use Rattle.auditor.specs.declared.world.WorldLine.{WorldLine}
 use Rattle.auditor.specs.declared.report.Report.{Report}
 use Rattle.auditor.specs.Reports.{found_in}
-use Rattle.pilots.specs.Making.{made_session}
+use Rattle.make_command.specs.Making.{made_session}
 use Rattle.make_command.specs.declared.summary.Summary.{Summary}
 use Rattle.make_command.specs.Audits.{IsReportOn, world_lines}
 use Rattle.make_command.specs.Bounds.{AreWithin}

@@ -1,3 +1,4 @@
+pub mod Making
 pub mod Words
 pub mod Matches
 pub mod Bounds

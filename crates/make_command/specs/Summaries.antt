@@ -1,7 +1,7 @@
 -- Summaries: what is told of the match of a number.
 use Rattle.std.specs.Prelude.{◌≡◌, ℕ, ◌≤◌, length}
 use Rattle.definitions.specs.Findings.{findings}
-use Rattle.pilots.specs.Making.{made_session}
+use Rattle.make_command.specs.Making.{made_session}
 use Rattle.schedule.specs.declared.stands.Stand.TheVariants.{Finished}
 use Rattle.schedule.specs.Stands.{stand}
 use Rattle.make_command.specs.declared.summary.Summary.{Summary}

@@ -7,8 +7,8 @@ ghost use Rattle.make_command.specs.Summaries.{made_match, summary_of};
 
 use crate::auditing::audit;
 use crate::playing::Playing;
+use crate::sessions::make_session;
 use auditor::{Report, WorldLine};
-use pilots::make_session;
 use schedule::Table;
 use std::alloc::{AllocError, Global};
 use std::marker::Model;

@@ -1,2 +1,3 @@
 pub mod Old
+pub mod Beginnings
 pub mod Resumed

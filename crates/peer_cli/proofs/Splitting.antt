@@ -8,15 +8,15 @@ use Rattle.command_line.specs.declared.names.Name.{Name}
 use Rattle.command_line.specs.declared.names.Name.TheVariants as N
 use Rattle.command_line.specs.Names.{named, takes, text_of}
 use Rattle.command_line.specs.Lines.{Line, line_of_words, line_with, split_of}
-use Rattle.program_words.specs.Words.{is_word}
+use Rattle.station.specs.Words.{is_word}
 use Rattle.command_line.proofs.Finding.{named-Some}
 use Rattle.drive_command.specs.Words.{driving_in}
-use Rattle.upgrade_command.specs.Words.{upgrading_in}
-use Rattle.judge_command.specs.Words.{judging_in}
+use Rattle.file_commands.specs.UpgradeWords.{upgrading_in}
+use Rattle.file_commands.specs.JudgeWords.{judging_in}
 use Rattle.schedule_command.specs.Words.{scheduling_in}
 use Rattle.make_command.specs.Words.{making_in}
-use Rattle.program_words.specs.declared.limits.TheConstants.{MOST_AUDITED}
-use Rattle.audit_command.specs.Words.{Auditing, are_few, auditing_in}
+use Rattle.definitions.specs.declared.limits.TheConstants.{MOST_AUDITED}
+use Rattle.file_commands.specs.AuditWords.{Auditing, are_few, auditing_in}
 use Rattle.peer_command.specs.Words.{peering_in}
 use Rattle.peer_runs.specs.Peers.{peering_behind, peering_named, peering_of}
 use Rattle.peer_runs.specs.Words.{Audit, Drive, Judge, Make, Schedule, Upgrade, command_in, command_named, command_of}

@@ -2,3 +2,13 @@ pub mod Unsents
 pub mod Failures
 pub mod Steps
 pub mod Played
+mod Moves
+mod Synced
+mod Given
+mod Over
+mod Fronts
+mod Reading
+mod Left
+mod Honest
+mod Handed
+mod Survived

@@ -15,7 +15,7 @@ use Rattle.loop_rules.specs.Laws.{FailedPollsAreLicensed, FaultsAreLast, GivenIs
 use Rattle.loop_rules.specs.Runs.{LogsAreRuns}
 use Rattle.loop_rules.specs.Told.{IsTold}
 use Rattle.loop_rules.proofs.Kept.{keeps_sorted}
-use Rattle.fair_play.proofs.Fair.{honest_fair}
+use Rattle.definition_laws.proofs.Fair.{honest_fair}
 use Rattle.run_frame.specs.Frame.{Ends}
 use Rattle.run_frame.specs.declared.statuses.Status.{Status}
 use Rattle.ready_loop.specs.declared.beginning.Begun.TheVariants as B

@@ -11,7 +11,7 @@ use Rattle.ready_loop.specs.declared.polling.Ended.TheVariants as E
 use Rattle.ready_loop.specs.States.{LoopState}
 use Rattle.ready_loop.specs.Counts.{given_by}
 use Rattle.report_lines.specs.Lines.{caught_text, dropped_text, end_line_text, fault_name, need_text}
-use Rattle.peer_report.specs.Report.{own_score_text, players_text, stand_text}
+use Rattle.report_lines.specs.Report.{own_score_text, players_text, stand_text}
 use Rattle.run_frame.specs.Frame.{Answer}
 use Rattle.run_frame.specs.declared.statuses.Status.{Status}
 use Rattle.run_frame.specs.declared.statuses.Status.TheVariants.{Done, Caught, GaveUp, KeepFault, PollFault, OwnMove}

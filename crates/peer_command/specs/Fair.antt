@@ -12,7 +12,7 @@ use Rattle.loop_rules.specs.Views.{safe_frames}
 use Rattle.loop_rules.specs.After.{view_of}
 use Rattle.loop_rules.specs.Histories.{IsHistory}
 use Rattle.loop_rules.specs.Laws.{GoesOn, IsFair}
-use Rattle.fair_play.specs.FairPlay.{IsFairPlay}
+use Rattle.definition_laws.specs.FairPlay.{IsFairPlay}
 use Rattle.ready_loop.specs.Beginning.{given_by}
 
 -- What the station of a match told, from its first item on, shows fair play.

@@ -4,3 +4,4 @@ pub mod Fair
 pub mod Faults
 pub mod Steps
 pub mod Plays
+pub mod Crashes

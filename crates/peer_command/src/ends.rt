@@ -11,9 +11,10 @@ ghost use Rattle.peer_command.specs.Ends as E;
 use crate::lines::{gave_up_line, own_move_line, unsent_line};
 use definitions::PlayerId;
 use line_io::{Written, put};
-use peer_report::{put_players, put_score, put_stand};
 use ready_loop::{Ended, Loop};
-use report_lines::{caught_line, end_line, put_dropped, put_each_need};
+use report_lines::{
+    caught_line, end_line, put_dropped, put_each_need, put_players, put_score, put_stand,
+};
 use run_frame::Status;
 use station::Sink;
 

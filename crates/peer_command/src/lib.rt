@@ -5,12 +5,20 @@
 //! has its words (`specs/Words.antt`), its text and its status by how the loop ended (`Ends`), one function (`play_peer`), and what that makes of the
 //! station and the generator (`Plays`). It touches the station, the pilot, the generator and the sink that it is handed, and takes all memory
 //! before the first call of the station.
+//!
+//! Its laws are of crashes: a peer that is stopped at any moment, within a call too, goes on from whatever a crash leaves
+//! of its log, and has each own frame of which a byte was given, with the nonce that it drew. What a crash may leave is a
+//! definition of `loop_rules` (`specs/Images.antt`): the bytes kept up to the last sync, and then any bytes. Of these a
+//! lucky tail alone is taken to be impossible: bytes that were never handed to `keep` and that carry the digest of an
+//! entry all the same.
 #![tactic(auto)]
 
+mod crashes;
 mod ends;
 mod lines;
 mod playing;
 mod words;
 
+pub use crashes::{crashes_are_survived, nothing_is_given_unsynced};
 pub use playing::play_peer;
 pub use words::{MOST_POLLS, PeerWords, read_peer_words};

@@ -16,9 +16,9 @@ use Rattle.evidence.specs.Laws.{IsLogOf}
 use Rattle.auditor.specs.Agreed.{AreOwned}
 use Rattle.log_files.specs.Logs.{entries_in}
 use Rattle.log_files.specs.Several.{behind_first, first_bytes, logs_in, owners_in}
-use Rattle.audit_command.specs.Laws.{AllFitText, GotFitsText, TellsTwoFaces}
-use Rattle.audit_command.proofs.Told.{different_told}
-use Rattle.peer_runs.specs.Audits.{AreFiles}
+use Rattle.file_commands.specs.AuditLaws.{AllFitText, GotFitsText, TellsTwoFaces}
+use Rattle.file_commands.proofs.Told.{different_told}
+use Rattle.run_files.specs.Audits.{AreFiles}
 
 -- each log is its owner's
 pub logs_owned : (game : Game) (files : Contents) (many : ℕ) → AreOwned game (owners_in game files many) (logs_in game files many)

@@ -7,9 +7,10 @@ use Rattle.line_io.specs.Inputs.{Input}
 use Rattle.run_frame.specs.declared.statuses.Status.{Status}
 use Rattle.run_frame.specs.declared.statuses.Status.TheVariants.{InputFault, NoMemory, OutputFault, Usage, BadSession, BadLog}
 use Rattle.line_io.proofs.Writing.{bytes_none}
-use Rattle.drive_command.specs.Begin.{Beginning, begun_answer, drive_answer}
+use Rattle.old_log.specs.Beginnings.{Beginning}
+use Rattle.drive_command.specs.Begin.{begun_answer, drive_answer}
 use Rattle.old_log.specs.declared.resuming.Resumed.{Resumed}
-use Rattle.session_files.specs.Games.{IsPeerFor, IsStartFor}
+use Rattle.run_files.specs.Games.{IsPeerFor, IsStartFor}
 
 -- it took all its memory before
 pub memory_taken : (P : Type 0) (before now : SinkState) (due : Answer) (s : Status) → Ends before now due s → OnNoMemory s P

@@ -10,8 +10,8 @@ use Rattle.run_frame.specs.declared.statuses.Status.{Status}
 use Rattle.peer_core.specs.Resuming.{first_not_replayed}
 use Rattle.old_log.specs.Old.{Fault, breach, is_anothers, old_entries, old_fault, old_owner}
 use Rattle.definitions.specs.declared.limits.TheConstants.{LONGEST_LOG}
-use Rattle.drive_command.specs.Begin.{Beginning}
-use Rattle.session_files.specs.Games.{begun, empty_beginning, log_front_of, old_beginning}
+use Rattle.old_log.specs.Beginnings.{Beginning}
+use Rattle.run_files.specs.Games.{begun, empty_beginning, log_front_of, old_beginning}
 
 -- entries of which none is the first that may not follow are honest
 all_allowed : (game : Game) (me : ℕ) (g es : List Entry) → first_not_replayed game me g es ≡ None → honest_from game me g es ≡ true

@@ -18,18 +18,19 @@ use Rattle.text_lines.specs.Reading.{◌>>=◌, fault_of}
 use Rattle.grid_world.specs.Reading.{game_at, said_by, session_fault}
 use Rattle.grid_world.proofs.Found.{game_found}
 use Rattle.old_log.specs.Old.{Fault, dropped_at, old_entries, old_fault}
-use Rattle.drive_command.specs.Begin.{Beginning, TellsPlay, begun_answer, drive_answer}
+use Rattle.old_log.specs.Beginnings.{Beginning}
+use Rattle.drive_command.specs.Begin.{TellsPlay, begun_answer, drive_answer}
 use Rattle.drive_command.specs.Causes.{DriveCause}
 use Rattle.drive_command.specs.Words.{Driving}
 use Rattle.drive_command.proofs.Commanded.{drive_caused, drive_done, drive_tells_play}
-use Rattle.upgrade_command.specs.Upgrade.{TellsUpgrade, upgrade_answer}
-use Rattle.upgrade_command.proofs.Tells.{upgrade_tells}
+use Rattle.file_commands.specs.Upgrade.{TellsUpgrade, upgrade_answer}
+use Rattle.file_commands.proofs.Tells.{upgrade_tells}
 use Rattle.text_fields.specs.declared.fault.TextFault.{TextFault}
 use Rattle.text_fields.specs.declared.fault.TextFault.TheVariants as text
 use Rattle.evidence.specs.declared.exhibit.Exhibit.{Exhibit}
 use Rattle.evidence.specs.Reading.{exhibit_at}
-use Rattle.judge_command.specs.Judge.{JudgeCause, is_shown, judge_answer, verdict_answer}
-use Rattle.judge_command.specs.Words.{Judging}
+use Rattle.file_commands.specs.Judge.{JudgeCause, is_shown, judge_answer, verdict_answer}
+use Rattle.file_commands.specs.JudgeWords.{Judging}
 use Rattle.schedule_command.specs.Causes.{ScheduleCause, TellsMatch, answer_in}
 use Rattle.schedule_command.specs.Schedule.{schedule_answer}
 use Rattle.schedule_command.proofs.Commanded.{schedule_caused, schedule_done, schedule_tells}
@@ -37,15 +38,15 @@ use Rattle.make_command.proofs.Ending.{ends_fairly}
 use Rattle.definitions.specs.declared.findings.Finding.{Finding}
 use Rattle.definitions.specs.Findings.{findings}
 use Rattle.definitions.specs.Lists.{is_empty}
-use Rattle.audit_command.specs.Audit.{audit_answer, status_by}
-use Rattle.audit_command.specs.Words.{Auditing}
+use Rattle.file_commands.specs.Audit.{audit_answer, status_by}
+use Rattle.file_commands.specs.AuditWords.{Auditing}
 use Rattle.log_files.specs.Several.{LogFault, behind_first, first_fault, logs_in, owners_in}
-use Rattle.peer_runs.specs.Audits.{audit_by, audit_for}
-use Rattle.peer_runs.specs.Exhibits.{case_for, evidence_front_of, exhibit_by, exhibit_in, with_exhibit}
+use Rattle.peer_runs.specs.AuditAnswers.{audit_by, audit_for}
+use Rattle.run_files.specs.Exhibits.{case_for, evidence_front_of, exhibit_by, exhibit_in, with_exhibit}
 use Rattle.peer_runs.specs.Causes.{AreAudited, HasCause, IsCase, IsGood, IsMeant, IsSeated, IsSet}
 use Rattle.peer_runs.specs.Commands.{answer_of, begins_with}
 use Rattle.line_io.specs.Files.{Contents, content}
-use Rattle.session_files.specs.Games.{begun, empty_beginning, ended_by, front_of, log_front_of, old_beginning, session_in, with_old, with_player}
+use Rattle.run_files.specs.Games.{begun, empty_beginning, ended_by, front_of, log_front_of, old_beginning, session_in, with_old, with_player}
 use Rattle.peer_runs.specs.Outside.{CountsFaults, OneFailed, Outside}
 use Rattle.peer_runs.specs.Words.{Audit, Command, Drive, Judge, Make, Schedule, Upgrade}
 use Rattle.peer_runs.proofs.AuditMeant.{two_faces}

@@ -12,8 +12,8 @@ use Rattle.run_frame.specs.Statuses.{refusal_of}
 use Rattle.line_io.specs.Texts.{CutShort}
 use Rattle.run_frame.specs.declared.statuses.Status.{Status}
 use Rattle.run_frame.specs.declared.statuses.Status.TheVariants.{Done, NoMemory, Usage, BadSession, InputFault, OutputFault, BadLog}
-use Rattle.drive_command.specs.Begin.{Beginning}
-use Rattle.session_files.specs.Games.{IsStartFor}
+use Rattle.old_log.specs.Beginnings.{Beginning}
+use Rattle.run_files.specs.Games.{IsStartFor}
 use Rattle.peer_runs.specs.Outside.{CountsFaults, NeitherFailed, OneFailed, Outside}
 
 -- a run over its input ended, and no file failed

@@ -8,10 +8,9 @@ pub mod Alone
 pub mod Upgrades
 pub mod Scheduled
 pub mod Judged
-pub mod AuditOpened
 pub mod Rooms
 pub mod Unremembered
-pub mod Opening
 pub mod Seated
 pub mod Completing
 pub mod OverSockets
+pub mod AuditRun

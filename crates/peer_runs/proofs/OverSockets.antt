@@ -27,7 +27,7 @@ use Rattle.ready_loop.specs.Choices.{Chooser}
 use Rattle.peer_command.specs.Plays as P
 use Rattle.peer_command.specs.Words.{Peering}
 use Rattle.peer_runs.specs.declared.seats.Seat.{Seat}
-use Rattle.peer_runs.specs.Opening.{IsRefusedBy, Reads}
+use Rattle.run_files.specs.Opening.{IsRefusedBy, Reads}
 use Rattle.peer_runs.specs.Outside.{CountsFaults}
 use Rattle.peer_runs.specs.Peers.{IsPlayed, IsUnplayed, NotPlayed, PeerRun, RunsPeer, WorksPeer, chooser_of, unplayed_answer}
 use Rattle.peer_runs.specs.Seats.{IsSeated, MayReadRoster, OpensSeat, Start, seat_names, start_for}

@@ -5,15 +5,15 @@ use Rattle.std.specs.List.{list_all}
 use Rattle.std.proofs.lemmas.Bool.{and_parts, leb-true}
 use Rattle.definitions.specs.Lists.{is_empty}
 use Rattle.drive_command.specs.Words.{Driving, driving_in}
-use Rattle.upgrade_command.specs.Words.{upgrading_in}
-use Rattle.judge_command.specs.Words.{Judging, judging_in}
+use Rattle.file_commands.specs.UpgradeWords.{upgrading_in}
+use Rattle.file_commands.specs.JudgeWords.{Judging, judging_in}
 use Rattle.schedule_command.specs.Words.{scheduling_in}
 use Rattle.make_command.specs.Words.{making_in}
-use Rattle.program_words.specs.declared.limits.TheConstants.{MOST_AUDITED}
-use Rattle.audit_command.specs.Words.{Auditing, are_few, auditing_in}
+use Rattle.definitions.specs.declared.limits.TheConstants.{MOST_AUDITED}
+use Rattle.file_commands.specs.AuditWords.{Auditing, are_few, auditing_in}
 use Rattle.frame_index.specs.declared.limits.TheConstants.{MOST_LOGS}
 use Rattle.peer_runs.specs.Words.{Audit, Command, Drive, HasRoom, Judge, Make, Schedule, Upgrade, command_in, command_named, command_of}
-use Rattle.program_words.specs.Words.{is_word}
+use Rattle.station.specs.Words.{is_word}
 
 -- a command of each of these words has
 abbrev RoomIf : Option Command → Type 0

@@ -21,13 +21,14 @@ use Rattle.run_frame.specs.Turns.{Plays}
 use Rattle.run_frame.specs.declared.statuses.Status.{Status}
 use Rattle.run_frame.specs.declared.statuses.Status.TheVariants.{Done, InputFault, NoMemory, OutputFault, Usage}
 use Rattle.run_frame.proofs.Finish.{finished}
-use Rattle.drive_command.specs.Begin.{Beginning, NeedsNoInput, begun_answer}
+use Rattle.old_log.specs.Beginnings.{Beginning}
+use Rattle.drive_command.specs.Begin.{NeedsNoInput, begun_answer}
 use Rattle.drive_command.specs.Words.{Driving}
 use Rattle.peer_runs.specs.Causes.{HasCause}
 use Rattle.peer_runs.specs.Commands.{ReadsFor, ReadsThrough, answer_of, begins_with, names_of, takes_first, takes_late}
 use Rattle.line_io.specs.Files.{AreContents, AreReadings, Calls, Contents, content}
-use Rattle.session_files.specs.Files.{OpensPeer, log_names}
-use Rattle.session_files.specs.Games.{IsStartFor}
+use Rattle.run_files.specs.Files.{OpensPeer, log_names}
+use Rattle.run_files.specs.Games.{IsStartFor}
 use Rattle.peer_runs.specs.Outside.{CountsFaults, Outside}
 use Rattle.peer_runs.specs.Runs.{MayBe, Run, Runs, Works, Writes, read_by}
 use Rattle.peer_runs.specs.Words.{Audit, Command, Drive, Judge, Make, Schedule, Upgrade}

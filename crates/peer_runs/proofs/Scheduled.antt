@@ -17,8 +17,8 @@ use Rattle.schedule_command.specs.Causes.{NeedsNoInput, answer_in}
 use Rattle.schedule_command.specs.Played.{OnEnd, PlaysOrLacks}
 use Rattle.schedule_command.specs.Schedule.{schedule_answer}
 use Rattle.peer_runs.specs.Commands.{takes_first}
-use Rattle.session_files.specs.Files.{OpensSession}
-use Rattle.session_files.specs.Games.{IsDue, session_in}
+use Rattle.run_files.specs.Files.{OpensSession}
+use Rattle.run_files.specs.Games.{IsDue, session_in}
 use Rattle.peer_runs.specs.Outside.{CountsFaults}
 use Rattle.peer_runs.specs.Runs.{ReadsOn, Works}
 use Rattle.peer_runs.specs.Words.{Schedule}

@@ -5,7 +5,7 @@ use Rattle.definitions.specs.declared.world.Move.{Move}
 use Rattle.definitions.specs.World.{Game, players_of}
 use Rattle.rosters.specs.declared.limits.TheConstants.{ROSTER_FRONT}
 use Rattle.rosters.specs.Rosters.{LinksOthers, Neighbours}
-use Rattle.pilots.specs.declared.sizes.TheConstants.{MOVES_FRONT}
+use Rattle.pilots.specs.declared.limits.TheConstants.{MOVES_FRONT}
 use Rattle.station.specs.Pieces.{AllGive}
 use Rattle.station.specs.Shelves.{ShelfState}
 use Rattle.station.specs.Since.{since, since_is}
@@ -17,14 +17,14 @@ use Rattle.run_frame.specs.declared.statuses.Status.{Status}
 use Rattle.run_frame.specs.declared.statuses.Status.TheVariants.{NoMemory, Usage, BadSession, InputFault, OutputFault, BadLog}
 use Rattle.old_log.specs.declared.resuming.Resumed.{Resumed}
 use Rattle.old_log.specs.Old.{Fault, old_fault}
-use Rattle.drive_command.specs.Begin.{Beginning}
+use Rattle.old_log.specs.Beginnings.{Beginning}
 use Rattle.peer_command.specs.Words.{Peering}
 use Rattle.peer_runs.specs.declared.seats.Seat.{Seat}
-use Rattle.session_files.specs.Files.{BeginsPeer, OpensSession, log_names}
-use Rattle.session_files.specs.Games.{IsDue, IsStartFor, begun, is_shelf_fault, log_front_of, old_beginning, session_in, with_old, with_player}
-use Rattle.peer_runs.specs.Opening.{IsDueFor, IsRefusedBy, Opens, Reads}
+use Rattle.run_files.specs.Files.{BeginsPeer, OpensSession, log_names}
+use Rattle.run_files.specs.Games.{IsDue, IsStartFor, begun, is_shelf_fault, log_front_of, old_beginning, session_in, with_old, with_player}
+use Rattle.run_files.specs.Opening.{IsDueFor, IsRefusedBy, Opens, Reads}
 use Rattle.peer_runs.specs.Seats.{IsSeatDue, IsSeated, MayReadLog, MayReadMoves, MayReadRoster, OpensSeat, ReadsBehindRoster, ReadsBehindSession, Start, behind_roster, behind_session, moves_front_of, moves_in, roster_front_of, roster_in, start_by_moves, start_by_player, start_by_roster, start_by_session, start_for, start_of}
-use Rattle.peer_runs.proofs.Opening.{reads_first, reads_none, reads_then}
+use Rattle.run_files.proofs.Opening.{reads_first, reads_none, reads_then}
 
 -- the bytes that are read of a file, by its front
 pub roster_front_read : (content : Option (List ℕ)) (text : List ℕ) → IsFrontOf ROSTER_FRONT content text → roster_front_of content ≡ text

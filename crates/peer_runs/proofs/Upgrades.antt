@@ -7,11 +7,11 @@ use Rattle.station.specs.Since.{since}
 use Rattle.definitions.specs.World.{Game}
 use Rattle.run_frame.specs.declared.statuses.Status.{Status}
 use Rattle.run_frame.specs.declared.statuses.Status.TheVariants.{BadSession, InputFault, NoMemory}
-use Rattle.upgrade_command.specs.Upgrade.{upgrade_answer}
+use Rattle.file_commands.specs.Upgrade.{upgrade_answer}
 use Rattle.peer_runs.specs.Commands.{ReadsFor}
 use Rattle.line_io.specs.Files.{Calls, ReadsFiles}
-use Rattle.session_files.specs.Files.{OpensSession}
-use Rattle.session_files.specs.Games.{IsDue}
+use Rattle.run_files.specs.Files.{OpensSession}
+use Rattle.run_files.specs.Games.{IsDue}
 use Rattle.peer_runs.specs.Words.{Upgrade}
 use Rattle.peer_runs.proofs.Alone.{IsRefused}
 

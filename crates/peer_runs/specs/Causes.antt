@@ -13,23 +13,24 @@ use Rattle.evidence.specs.declared.exhibit.Exhibit.{Exhibit}
 use Rattle.evidence.specs.Reading.{exhibit_at, exhibit_fault}
 use Rattle.grid_world.specs.Reading.{game_at, session_fault}
 use Rattle.old_log.specs.Old.{old_fault}
-use Rattle.drive_command.specs.Begin.{Beginning, TellsPlay}
+use Rattle.old_log.specs.Beginnings.{Beginning}
+use Rattle.drive_command.specs.Begin.{TellsPlay}
 use Rattle.drive_command.specs.Causes.{DriveCause, IsPlayed}
 use Rattle.drive_command.specs.Words.{Driving}
-use Rattle.upgrade_command.specs.Upgrade.{TellsUpgrade}
-use Rattle.judge_command.specs.Judge.{JudgeCause, is_shown}
+use Rattle.file_commands.specs.Upgrade.{TellsUpgrade}
+use Rattle.file_commands.specs.Judge.{JudgeCause, is_shown}
 use Rattle.definitions.specs.Findings.{findings}
-use Rattle.audit_command.specs.Audit.{AuditCause}
-use Rattle.audit_command.specs.Laws.{TellsAudit}
+use Rattle.file_commands.specs.Audit.{AuditCause}
+use Rattle.file_commands.specs.AuditLaws.{TellsAudit}
 use Rattle.schedule_command.specs.Causes.{AreClean, IsPlayedOut, ScheduleCause, TellsMatch}
 use Rattle.make_command.specs.Summaries.{EndsFairly}
 use Rattle.log_files.specs.Several.{behind_first, first_fault, logs_in, owners_in}
-use Rattle.peer_runs.specs.Audits.{AreFiles}
+use Rattle.run_files.specs.Audits.{AreFiles}
 use Rattle.peer_runs.specs.Commands.{answer_of}
-use Rattle.peer_runs.specs.Exhibits.{evidence_front_of}
+use Rattle.run_files.specs.Exhibits.{evidence_front_of}
 use Rattle.line_io.specs.Files.{Contents, content}
-use Rattle.peer_runs.specs.Files.{HasGame}
-use Rattle.session_files.specs.Games.{begun, front_of, log_front_of}
+use Rattle.run_files.specs.CaseFiles.{HasGame}
+use Rattle.run_files.specs.Games.{begun, front_of, log_front_of}
 use Rattle.peer_runs.specs.Words.{Audit, Command, Drive, Judge, Make, Schedule, Upgrade}
 
 -- The session's file has this session, and the player is one of it.

@@ -6,21 +6,23 @@ use Rattle.line_io.specs.Inputs.{Input}
 use Rattle.run_frame.specs.Frame.{Answer, OnDone, bare_answer}
 use Rattle.run_frame.specs.declared.statuses.Status.{Status}
 use Rattle.run_frame.specs.declared.statuses.Status.TheVariants.{Usage}
-use Rattle.drive_command.specs.Begin.{Beginning, NeedsNoInput, drive_answer}
+use Rattle.old_log.specs.Beginnings.{Beginning}
+use Rattle.drive_command.specs.Begin.{NeedsNoInput, drive_answer}
 use Rattle.drive_command.specs.Words.{Driving}
-use Rattle.upgrade_command.specs.Upgrade.{upgrade_answer}
+use Rattle.file_commands.specs.Upgrade.{upgrade_answer}
 use Rattle.line_io.specs.Files.{Calls, Contents, ReadsFiles, content}
-use Rattle.session_files.specs.Files.{IsLogDue, log_names}
-use Rattle.peer_runs.specs.Files.{IsSecondDue}
-use Rattle.judge_command.specs.Judge.{judge_answer}
+use Rattle.run_files.specs.Files.{IsLogDue, log_names}
+use Rattle.run_files.specs.CaseFiles.{IsSecondDue}
+use Rattle.file_commands.specs.Judge.{judge_answer}
 use Rattle.log_files.specs.Several.{behind_first}
 use Rattle.schedule_command.specs.Causes.{answer_in}
 use Rattle.schedule_command.specs.Causes as schedules
 use Rattle.schedule_command.specs.Played.{OnEnd}
 use Rattle.make_command.specs.Make.{make_answer}
-use Rattle.peer_runs.specs.Audits.{AreLogsDue, audit_for}
-use Rattle.peer_runs.specs.Exhibits.{case_for}
-use Rattle.session_files.specs.Games.{beginning_for, session_in}
+use Rattle.run_files.specs.Audits.{AreLogsDue}
+use Rattle.peer_runs.specs.AuditAnswers.{audit_for}
+use Rattle.run_files.specs.Exhibits.{case_for}
+use Rattle.run_files.specs.Games.{beginning_for, session_in}
 use Rattle.peer_runs.specs.Words.{Audit, Command, Drive, Judge, Make, Schedule, Upgrade}
 
 -- the files that a command names, in the order of its words

@@ -1,12 +1,8 @@
 pub mod Words
-pub mod Exhibits
-pub mod Cases
-pub mod Files
-pub mod Audits
+pub mod AuditAnswers
 pub mod Commands
 pub mod Causes
 pub mod Outside
 pub mod Runs
-pub mod Opening
 pub mod Seats
 pub mod Peers

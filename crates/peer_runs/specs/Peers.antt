@@ -21,13 +21,13 @@ use Rattle.peer_command.specs.Words.{Peering, peering_in}
 use Rattle.loop_rules.specs.After.{view_of}
 use Rattle.ready_loop.specs.Beginning.{given_by}
 use Rattle.ready_loop.specs.Choices.{Chooser}
-use Rattle.drive_command.specs.Begin.{Beginning}
+use Rattle.old_log.specs.Beginnings.{Beginning}
 use Rattle.peer_command.specs.Faults.{FailsNeither}
 use Rattle.peer_command.specs.Plays as P
-use Rattle.peer_runs.specs.Opening.{Reads}
+use Rattle.run_files.specs.Opening.{Reads}
 use Rattle.peer_runs.specs.Outside.{CountsFaults, Outside}
 use Rattle.peer_runs.specs.Seats.{MayReadRoster, Start, seat_names, start_for}
-use Rattle.program_words.specs.Words.{is_word}
+use Rattle.station.specs.Words.{is_word}
 
 -- what a run over sockets is to do, by its words: `peer`, and then the words of that command
 abbrev pub peering_named : (name : List ℕ) → (words : List (List ℕ)) → Option Peering

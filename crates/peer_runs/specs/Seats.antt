@@ -9,20 +9,20 @@ use Rattle.text_fields.specs.declared.fault.TextFault.TheVariants.{At, Memory}
 use Rattle.rosters.specs.declared.limits.TheConstants.{ROSTER_FRONT}
 use Rattle.rosters.specs.Rosters.{LinksOthers, Neighbours}
 use Rattle.rosters.specs.Reading.{roster_at}
-use Rattle.pilots.specs.declared.sizes.TheConstants.{MOVES_FRONT}
+use Rattle.pilots.specs.declared.limits.TheConstants.{MOVES_FRONT}
 use Rattle.pilots.specs.Scripts.{script_at}
 use Rattle.station.specs.Shelves.{ShelfState}
 use Rattle.line_io.specs.Files.{Contents, content}
 use Rattle.log_files.specs.Several.{behind_first}
-use Rattle.drive_command.specs.Begin.{Beginning}
+use Rattle.old_log.specs.Beginnings.{Beginning}
 use Rattle.run_frame.specs.declared.statuses.Status.{Status}
 use Rattle.run_frame.specs.declared.statuses.Status.TheVariants.{NoMemory, BadLine}
 use Rattle.run_frame.specs.declared.statuses.TextName.TheVariants.{Roster, Moves}
 use Rattle.peer_command.specs.Words.{Peering}
 use Rattle.peer_runs.specs.declared.seats.Seat.{Seat}
-use Rattle.session_files.specs.Files.{log_names}
-use Rattle.session_files.specs.Games.{begun, is_shelf_fault, session_in, with_player}
-use Rattle.peer_runs.specs.Opening.{Found, IsRefusedBy, Reads}
+use Rattle.run_files.specs.Files.{log_names}
+use Rattle.run_files.specs.Games.{begun, is_shelf_fault, session_in, with_player}
+use Rattle.run_files.specs.Opening.{Found, IsRefusedBy, Reads}
 
 -- the bytes of a roster's file that are read
 unfoldable pub roster_front_of : Option (List ℕ) → List ℕ

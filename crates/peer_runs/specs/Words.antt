@@ -1,12 +1,12 @@
 -- Words: the commands that the program's words say.
 use Rattle.std.specs.Prelude.{ℕ, ◌≤◌, length, List, [], ◌∷◌, Option, None, bytes_eq, codes, option_map, if◌then◌else◌}
 use Rattle.std.specs.List.{list_all}
-use Rattle.program_words.specs.Words.{is_word}
+use Rattle.station.specs.Words.{is_word}
 use Rattle.drive_command.specs.Words.{Driving, driving_in, driving_said}
-use Rattle.upgrade_command.specs.Words.{upgrading_in}
-use Rattle.judge_command.specs.Words.{Judging, judging_in, judging_said}
+use Rattle.file_commands.specs.UpgradeWords.{upgrading_in}
+use Rattle.file_commands.specs.JudgeWords.{Judging, judging_in, judging_said}
 use Rattle.frame_index.specs.declared.limits.TheConstants.{MOST_LOGS}
-use Rattle.audit_command.specs.Words.{Auditing, auditing_in, auditing_said}
+use Rattle.file_commands.specs.AuditWords.{Auditing, auditing_in, auditing_said}
 use Rattle.schedule_command.specs.Words.{scheduling_in}
 use Rattle.make_command.specs.Words.{making_in}
 use Rattle.peer_runs.specs.declared.words.Command.{Command as CommandWords}

@@ -1,12 +1,12 @@
 //! The command to audit: what the logs of a session show, over the files that its words name.
 
 ghost use Rattle.std.specs.Prelude.{◌≡◌, Some};
-ghost use Rattle.audit_command.specs.Words.{auditing_said};
+ghost use Rattle.file_commands.specs.AuditWords.{auditing_said};
 ghost use Rattle.peer_runs.specs.Runs.{Works};
 ghost use Rattle.peer_runs.specs.Words.{Audit, HasRoom};
 
-use crate::audits::open_audit;
-use audit_command::{AuditWords, put_audit};
+use file_commands::{AuditWords, put_audit};
+use run_files::open_audit;
 use run_frame::Status;
 use station::{Shelf, Sink, Source};
 use std::alloc::Global;

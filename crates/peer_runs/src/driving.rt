@@ -6,8 +6,8 @@ ghost use Rattle.peer_runs.specs.Runs.{Works};
 ghost use Rattle.peer_runs.specs.Words.{Drive};
 
 use drive_command::{DriveWords, drive};
+use run_files::open_peer;
 use run_frame::Status;
-use session_files::open_peer;
 use station::{Shelf, Sink, Source};
 use std::alloc::Global;
 

@@ -1,12 +1,12 @@
 //! The command to judge: an exhibit over the files that its words name.
 
 ghost use Rattle.std.specs.Prelude.{◌≡◌, Some};
-ghost use Rattle.judge_command.specs.Words.{judging_said};
+ghost use Rattle.file_commands.specs.JudgeWords.{judging_said};
 ghost use Rattle.peer_runs.specs.Runs.{Works};
 ghost use Rattle.peer_runs.specs.Words.{Judge};
 
-use crate::exhibits::open_case;
-use judge_command::{JudgeWords, judge_exhibit};
+use file_commands::{JudgeWords, judge_exhibit};
+use run_files::open_case;
 use run_frame::Status;
 use station::{Shelf, Sink, Source};
 use std::alloc::Global;

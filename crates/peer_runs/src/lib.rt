@@ -11,9 +11,7 @@
 #![tactic(auto)]
 
 mod auditing;
-mod audits;
 mod driving;
-mod exhibits;
 mod judging;
 mod matches;
 mod peering;

@@ -4,9 +4,9 @@ ghost use Rattle.std.specs.Prelude.{◌≡◌, Some};
 ghost use Rattle.peer_runs.specs.Runs.{Works};
 ghost use Rattle.peer_runs.specs.Words.{Schedule};
 
+use run_files::open_session;
 use run_frame::Status;
 use schedule_command::play_schedule;
-use session_files::open_session;
 use station::{Shelf, Sink, Source};
 use std::alloc::Global;
 

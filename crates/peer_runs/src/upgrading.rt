@@ -4,11 +4,11 @@ ghost use Rattle.std.specs.Prelude.{◌≡◌, Some};
 ghost use Rattle.peer_runs.specs.Runs.{Works};
 ghost use Rattle.peer_runs.specs.Words.{Upgrade};
 
+use file_commands::upgrade;
+use run_files::open_session;
 use run_frame::Status;
-use session_files::open_session;
 use station::{Shelf, Sink, Source};
 use std::alloc::Global;
-use upgrade_command::upgrade;
 
 /// Prints the session of a file in version 2. The input is left alone.
 pub(crate) fn upgrade_for<I: Source, O: Sink, H: Shelf>(

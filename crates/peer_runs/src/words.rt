@@ -5,14 +5,14 @@ ghost use Rattle.peer_command.specs.Words.{peering_said};
 ghost use Rattle.peer_runs.specs.Peers as P;
 ghost use Rattle.peer_runs.specs.Words as W;
 
-use audit_command::{AuditWords, read_audit_words};
 use drive_command::{DriveWords, read_drive_words};
-use judge_command::{JudgeWords, read_judge_words};
+use file_commands::{
+    AuditWords, JudgeWords, read_audit_words, read_judge_words, read_upgrade_words,
+};
 use make_command::read_make_words;
 use peer_command::{PeerWords, read_peer_words};
-use program_words::are_words;
 use schedule_command::read_schedule_words;
-use upgrade_command::read_upgrade_words;
+use station::are_words;
 
 /// A command, with its words.
 #[derive(Clone, Copy)]

@@ -12,7 +12,7 @@ use Rattle.definitions.specs.Openings.{FitsStrike}
 use Rattle.text_lines.specs.Lines.{ended_lines_of, fields_of, line_len, line_of}
 use Rattle.text_lines.proofs.FirstLine.{ended_lines_of-cons}
 use Rattle.text_fields.specs.declared.fault.TextFault.TheVariants.{At}
-use Rattle.pilots.specs.declared.sizes.TheConstants.{MOVES_FRONT}
+use Rattle.pilots.specs.declared.limits.TheConstants.{MOVES_FRONT}
 use Rattle.pilots.specs.Scripts.{FitsMove, move_line, move_said, moves_at, script_at, strike_numbers}
 use Rattle.pilots.proofs.MoveLines.{move_taken}
 

@@ -1,7 +1,5 @@
 pub mod Least
 pub mod Legal
-pub mod Drawn
-pub mod Made
 pub mod MoveLines
 pub mod Scripts
 pub mod Decided

@@ -5,7 +5,7 @@ use Rattle.definitions.specs.declared.world.Move.{Move}
 use Rattle.definitions.specs.Lists.{EachIs}
 use Rattle.text_lines.specs.Lines.{ended_lines_of}
 use Rattle.text_fields.specs.declared.fault.TextFault.TheVariants.{At}
-use Rattle.pilots.specs.declared.sizes.TheConstants.{MOVES_FRONT}
+use Rattle.pilots.specs.declared.limits.TheConstants.{MOVES_FRONT}
 use Rattle.pilots.specs.Scripts.{FitsMove, move_said, moves_text, script_at, script_fault}
 
 -- the front of a text decides what it says, or which of its lines is at fault

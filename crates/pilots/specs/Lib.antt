@@ -1,6 +1,5 @@
 pub mod Draws
 pub mod Choices
 pub mod Plans
-pub mod Making
 pub mod Scripts
 pub mod Laws

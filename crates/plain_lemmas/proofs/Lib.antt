@@ -4,4 +4,3 @@ pub mod Lists
 pub mod Each
 pub mod Pairs
 pub mod Bits
-pub mod Digits

@@ -9,17 +9,6 @@ use Rattle.std.proofs.lemmas.List.{take-append-drop, take_at, take_all, length-t
 use Rattle.std.proofs.lemmas.Slice.Eq.{bytes_eq-Decides}
 use Rattle.plain_lemmas.proofs.Options.{some_when}
 
--- two joined lists whose first parts are as long have the same parts
-pub front_same : {A : Type 0} (xs ys xs' ys' : List A) → length xs ≡ length xs' → xs ++ ys ≡ xs' ++ ys' → (xs ≡ xs') × (ys ≡ ys')
-front_same [] ys [] ys' l e = (refl, e)
-front_same [] ys (x ∷ xs') ys' l e = absurd (omega arith)
-front_same (x ∷ xs) ys [] ys' l e = absurd (omega arith)
-front_same (x ∷ xs) ys (y ∷ xs') ys' l e =
-    let tails : xs ++ ys ≡ xs' ++ ys' = cc in
-    let heads : x ≡ y = cc in
-    let rest = front_same xs ys xs' ys' (omega arith) tails in
-    (let a = rest.0 in cc, rest.1)
-
 -- what stands behind a front: the front stands there, and the text behind it
 pub front_stands : (front text rest : List ℕ) → (if bytes_eq (take (length front) text) front then Some (drop (length front) text) else None) ≡ Some rest → text ≡ front ++ rest
 front_stands front text rest h =

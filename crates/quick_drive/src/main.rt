@@ -1,14 +1,14 @@
 //! The program `quick_drive`: what `./play NAME PLAYER` runs where nothing is proved and built yet. It drives a peer as `drive` of the program
 //! `lethwyrn` does, and has nothing else in it, since each further command would have to be compiled before the first line is shown.
 //!
-//! Its words are those behind `drive`: `SESSION PLAYER`, or `SESSION PLAYER OLD`. Nothing is promised of it beyond what `session_files`
+//! Its words are those behind `drive`: `SESSION PLAYER`, or `SESSION PLAYER OLD`. Nothing is promised of it beyond what `run_files`
 //! promises of what is read for a peer, and `drive_command` of what the peer then answers.
 #![tactic(auto)]
 
 use drive_command::{DriveWords, drive, read_drive_words};
 use file_shelf::FileShelf;
+use run_files::open_peer;
 use run_frame::{Status, refuse};
-use session_files::open_peer;
 use station::{StdSink, StdSource, words_of};
 use std::io;
 use std::process::ExitCode;

@@ -21,9 +21,10 @@ use Rattle.loop_rules.specs.Rules.{wants_read}
 use Rattle.loop_rules.specs.Told.{IsTold}
 use Rattle.loop_rules.specs.Handling.{IsOfOther}
 use Rattle.socket_table.specs.Finding.{IsAt}
-use Rattle.socket_table.specs.Hearers.{hearer_by, ArePlayers}
-use Rattle.table_laws.proofs.Waiting.{took_of_others}
-use Rattle.table_laws.proofs.Reading.{wants_parts}
+use Rattle.socket_table.specs.Hearers.{ArePlayers}
+use Rattle.ready_loop.specs.Hearers.{hearer_by}
+use Rattle.socket_table.proofs.Waiting.{took_of_others}
+use Rattle.socket_table.proofs.ReadingRooms.{wants_parts}
 use Rattle.ready_loop.specs.States.{LoopState, IsFit, IsOthers, view_of}
 use Rattle.ready_loop.specs.Steps.{with_table, read_on}
 use Rattle.ready_loop.specs.Going.{IsIdle}
@@ -50,7 +51,7 @@ read_some t k s room most buf at wants is few all =
 pub read_open : (items : List Item) (l : LoopState) (k s : ℕ) → IsAt l.table k s → IsReadyToRead items l → WantsAt l.table k → standing_in items s ≡ Open
 read_open items l k s at w wants = stands_open items l k s at.0 w.told w.steady.idle at.1 at.2 (wants_room l.table at.0 (wants at.0 at.1)).1
 
-pub are_players : (game : Game) (me : ℕ) (cs : List Seat) → EachIs (IsOthers game me) cs → ArePlayers game cs
+pub are_players : (game : Game) (me : ℕ) (cs : List Seat) → EachIs (IsOthers game me) cs → ArePlayers (players_of game) cs
 are_players game me [] e = tt
 are_players game me (c ∷ cs) e = (e.0.player, are_players game me cs e.1)
 

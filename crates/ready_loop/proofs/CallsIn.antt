@@ -27,7 +27,7 @@ use Rattle.socket_lines.specs.declared.line.Line.{Line}
 use Rattle.definitions.specs.Logs.{player_of}
 use Rattle.loop_rules.specs.Rules.{wants_read}
 use Rattle.loop_rules.specs.Tables.{Table, at_seat}
-use Rattle.table_laws.proofs.Seats.{asked_seats}
+use Rattle.socket_table.proofs.Seats.{asked_seats}
 use Rattle.loop_rules.specs.declared.arrivals.Arrival.{Arrival}
 use Rattle.loop_rules.specs.declared.phases.Phase.{Phase}
 use Rattle.loop_rules.specs.declared.phases.Phase.TheVariants.{Running, KeepFault}

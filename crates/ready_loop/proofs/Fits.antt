@@ -14,8 +14,8 @@ use Rattle.loop_rules.specs.declared.phases.Phase.TheVariants.{KeepFault}
 use Rattle.loop_rules.specs.Tables.{Table}
 use Rattle.loop_rules.specs.Told.{HasNone, DiffersBy}
 use Rattle.loop_rules.specs.Handling.{IsOfOther}
-use Rattle.table_laws.specs.Staying.{SeatsSame}
-use Rattle.table_laws.proofs.Seats.{same_each}
+use Rattle.socket_table.specs.Staying.{SeatsSame}
+use Rattle.socket_table.proofs.Seats.{same_each}
 use Rattle.ready_loop.specs.States.{LoopState, IsFit, IsOthers, kept_of}
 use Rattle.ready_loop.specs.Steps.{in_phase, with_table}
 use Rattle.ready_loop.proofs.Kept.{take_next}

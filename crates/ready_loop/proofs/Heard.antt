@@ -33,8 +33,8 @@ use Rattle.loop_rules.specs.declared.arrivals.Arrival.{Arrival}
 use Rattle.loop_rules.specs.Tables.{Table, at_seat, in_seats, room_by_seat}
 use Rattle.loop_rules.specs.Views.{View}
 use Rattle.loop_rules.specs.Handling.{next_of, sorted, IsOfOther}
-use Rattle.table_laws.specs.Staying.{SameSeat}
-use Rattle.table_laws.proofs.Seats.{asked_seats, same_each, same_undialled}
+use Rattle.socket_table.specs.Staying.{SameSeat}
+use Rattle.socket_table.proofs.Seats.{asked_seats, same_each, same_undialled}
 use Rattle.ready_loop.specs.States.{LoopState, IsOthers, setting_of, kept_of, base_of, rest_of, view_of}
 use Rattle.ready_loop.specs.Going.{undialled}
 use Rattle.ready_loop.specs.Handling.{asked, passed_as, KeepsLines, IsHearing, Hears}

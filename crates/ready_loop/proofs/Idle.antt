@@ -11,7 +11,7 @@ use Rattle.loop_rules.specs.Hearing.{Hearer}
 use Rattle.loop_rules.specs.Handling.{hearer_of, sorted}
 use Rattle.loop_rules.specs.Licence.{is_running}
 use Rattle.loop_rules.specs.Rules.{is_serving}
-use Rattle.socket_table.specs.Hearers.{hearer_by}
+use Rattle.ready_loop.specs.Hearers.{hearer_by}
 use Rattle.ready_loop.specs.States.{LoopState, kept_of, base_of, view_of}
 use Rattle.ready_loop.specs.Going.{IsIdle}
 

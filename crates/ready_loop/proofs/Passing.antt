@@ -22,8 +22,8 @@ use Rattle.socket_station.specs.Items.{Item}
 use Rattle.loop_rules.specs.declared.phases.Phase.TheVariants.{KeepFault}
 use Rattle.loop_rules.specs.Licence.{all_is_given, all_is_shut, is_licensed}
 use Rattle.loop_rules.specs.Rules.{wants_read}
-use Rattle.table_laws.specs.Staying.{Milder}
-use Rattle.table_laws.proofs.Milder.{milder_then, milder_reads, milder_shut, read_where_shut}
+use Rattle.socket_table.specs.Staying.{Milder}
+use Rattle.socket_table.proofs.Milder.{milder_then, milder_reads, milder_shut, read_where_shut}
 use Rattle.ready_loop.specs.declared.settling.Settled.{Settled}
 use Rattle.ready_loop.specs.declared.settling.Settled.TheVariants as S
 use Rattle.ready_loop.specs.declared.playing.Played.TheVariants as P

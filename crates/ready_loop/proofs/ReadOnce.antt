@@ -22,13 +22,13 @@ use Rattle.loop_rules.specs.After as A
 use Rattle.loop_rules.specs.Told.{Differ, IsTold}
 use Rattle.loop_rules.proofs.Told.{told_goes_on}
 use Rattle.loop_rules.proofs.Alike.{Alike, alike_took, alike_at, quieted_same, closed_same, Same}
-use Rattle.socket_table.specs.Hearers.{hearer_by}
-use Rattle.table_laws.specs.Staying.{left_on, SeatsSame, more_unnamed}
-use Rattle.table_laws.proofs.Seats.{took_seats, seats_same, same_undialled}
-use Rattle.table_laws.proofs.Reading.{took_calm}
-use Rattle.table_laws.proofs.Rooms.{took_left}
-use Rattle.table_laws.proofs.Pairs.{map_at}
-use Rattle.table_laws.proofs.Keys.{found_at}
+use Rattle.ready_loop.specs.Hearers.{hearer_by}
+use Rattle.socket_table.specs.Staying.{left_on, SeatsSame, more_unnamed}
+use Rattle.socket_table.proofs.Seats.{took_seats, seats_same, same_undialled}
+use Rattle.socket_table.proofs.ReadingRooms.{took_calm}
+use Rattle.socket_table.proofs.Rooms.{took_left}
+use Rattle.socket_table.proofs.TablePairs.{map_at}
+use Rattle.socket_table.proofs.Keys.{found_at}
 use Rattle.ready_loop.proofs.Places.{sockets_same}
 use Rattle.ready_loop.specs.States.{LoopState, base_of, view_of}
 use Rattle.ready_loop.specs.Steps.{with_table, read_on}

@@ -15,10 +15,10 @@ use Rattle.loop_rules.specs.After as A
 use Rattle.loop_rules.specs.Told.{Differ, LineStands, IsTold}
 use Rattle.loop_rules.proofs.Told.{told_goes_on}
 use Rattle.socket_table.specs.Finding.{IsAt}
-use Rattle.table_laws.specs.Staying.{Milder}
-use Rattle.table_laws.proofs.Keys.{found_at}
-use Rattle.table_laws.proofs.Pairs.{map_at}
-use Rattle.table_laws.proofs.Milder.{milder, milder_then, closed_milder}
+use Rattle.socket_table.specs.Staying.{Milder}
+use Rattle.socket_table.proofs.Keys.{found_at}
+use Rattle.socket_table.proofs.TablePairs.{map_at}
+use Rattle.socket_table.proofs.Milder.{milder, milder_then, closed_milder}
 use Rattle.ready_loop.specs.States.{LoopState, base_of, view_of}
 use Rattle.ready_loop.specs.Steps.{with_table}
 use Rattle.ready_loop.specs.Going.{Goes, IsIdle, poll_count}

@@ -10,8 +10,8 @@ use Rattle.loop_rules.specs.Tables.{Table}
 use Rattle.loop_rules.specs.Licence.{all_is_shut, is_served_out}
 use Rattle.loop_rules.specs.Told.{Differ}
 use Rattle.socket_table.specs.Finding.{IsAt}
-use Rattle.table_laws.specs.Staying.{MilderLine, Milder}
-use Rattle.table_laws.proofs.Milder.{milder_shut}
+use Rattle.socket_table.specs.Staying.{MilderLine, Milder}
+use Rattle.socket_table.proofs.Milder.{milder_shut}
 use Rattle.ready_loop.specs.States.{LoopState}
 use Rattle.ready_loop.specs.Serving.{IsServing, Serves, wants_write, ServedAt, ServedBeside, Writes, WritesOut, WritesAll}
 use Rattle.ready_loop.specs.Handling.{SameSockets}

@@ -30,12 +30,12 @@ use Rattle.loop_rules.specs.Rules.{is_allowed, may_write_line, are_due, is_front
 use Rattle.loop_rules.specs.Views.{safe_frames}
 use Rattle.loop_rules.specs.After as A
 use Rattle.loop_rules.specs.Told.{Differ, DiffersBy}
-use Rattle.table_laws.specs.Staying.{Milder, SeatsSame, work_on}
-use Rattle.table_laws.proofs.Pairs.{map_at}
-use Rattle.table_laws.proofs.Seats.{gave_seats, seats_same, same_undialled}
-use Rattle.table_laws.proofs.Milder.{gave_milder, closed_milder, blocked_milder}
-use Rattle.table_laws.proofs.Work.{due_few, gave_less, gave_desk}
-use Rattle.table_laws.proofs.Others.{gave_others, closed_others, blocked_others}
+use Rattle.socket_table.specs.Staying.{Milder, SeatsSame, work_on}
+use Rattle.socket_table.proofs.TablePairs.{map_at}
+use Rattle.socket_table.proofs.Seats.{gave_seats, seats_same, same_undialled}
+use Rattle.socket_table.proofs.Milder.{gave_milder, closed_milder, blocked_milder}
+use Rattle.socket_table.proofs.Work.{due_few, gave_less, gave_desk}
+use Rattle.socket_table.proofs.Others.{gave_others, closed_others, blocked_others}
 use Rattle.ready_loop.specs.States.{LoopState, base_of}
 use Rattle.ready_loop.specs.Steps.{with_table, wrote_on}
 use Rattle.ready_loop.specs.Going.{poll_count}

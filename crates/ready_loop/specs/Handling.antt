@@ -20,8 +20,8 @@ use Rattle.loop_rules.specs.Tables.{Table, at_seat, seat_of, room_by_seat, room_
 use Rattle.loop_rules.specs.Rules.{wants_read}
 use Rattle.loop_rules.specs.Told.{IsTold}
 use Rattle.loop_rules.specs.Handling.{IsOfOther}
-use Rattle.table_laws.specs.Staying.{left_on}
-use Rattle.socket_table.specs.Hearers.{hearer_by}
+use Rattle.socket_table.specs.Staying.{left_on}
+use Rattle.ready_loop.specs.Hearers.{hearer_by}
 use Rattle.definitions.specs.Lists.{EachIs}
 use Rattle.ready_loop.specs.States.{LoopState, kept_of, view_of}
 use Rattle.ready_loop.specs.Steps.{with_table, read_on}

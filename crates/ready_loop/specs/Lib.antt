@@ -1,3 +1,4 @@
+pub mod Hearers
 pub mod States
 pub mod Steps
 pub mod Going

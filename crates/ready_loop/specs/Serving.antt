@@ -14,7 +14,7 @@ use Rattle.loop_rules.specs.Tables.{Table, at_line, desk_of}
 use Rattle.loop_rules.specs.Licence.{all_is_shut, all_is_given, all_are_reached, is_served_out}
 use Rattle.loop_rules.specs.Rules.{wants_dial, due_at}
 use Rattle.loop_rules.specs.Told.{IsTold}
-use Rattle.table_laws.specs.Staying.{Milder, work_on}
+use Rattle.socket_table.specs.Staying.{Milder, work_on}
 use Rattle.definitions.specs.Honest.{made_count}
 use Rattle.ready_loop.specs.States.{LoopState, view_of}
 use Rattle.ready_loop.specs.Steps.{with_table, wrote_on}

@@ -13,6 +13,7 @@ mod counts;
 mod dialling;
 mod fitting;
 mod handling;
+mod hears;
 mod keeping;
 pub mod laws;
 mod lines;

@@ -7,10 +7,13 @@ ghost use Rattle.loop_rules.specs.Rules.{wants_read};
 ghost use Rattle.socket_station.specs.Withins.{TakesWithin};
 ghost use Rattle.socket_table.specs.declared.table.TheConstants.{MOST_TAKEN};
 ghost use Rattle.socket_table.specs.Finding.{IsAt};
-ghost use Rattle.socket_table.specs.Hearers.{hearer_by, ArePlayers};
+ghost use Rattle.definitions.specs.World.{players_of};
+ghost use Rattle.socket_table.specs.Hearers.{ArePlayers};
+ghost use Rattle.ready_loop.specs.Hearers.{hearer_by};
 ghost use Rattle.ready_loop.specs.Steps.{read_on};
 ghost use Rattle.ready_loop.specs.Handling.{ReadsOnce, Reads, ReadsOut, ReadsAll, IsReadyToRead, WantsAt};
 
+use crate::hears::PeerHears;
 use crate::ready::Loop;
 use peer_core::Peer;
 use socket_station::{SocketId, SocketRead, Station};
@@ -31,11 +34,12 @@ fn put_read(
     requires few { length bytes.now ≤ MOST_TAKEN }
     requires room { (l : Line) → slice_get table.old.lines place ≡ Some l → length bytes.now ≤ room_on table.old l }
     requires none { table.old.waiting ≡ [] }
-    requires players { ArePlayers peer.now.game table.old.seats }
+    requires players { ArePlayers (players_of peer.now.game) table.old.seats }
     ensures { table.new ≡ read_on (hearer_by peer.now) socket read bytes.now table.old }
 {
+    let hears = PeerHears { peer };
     match read {
-        SocketRead::Took(count) => table.take(place, socket, &bytes[..count], frames, peer),
+        SocketRead::Took(count) => table.take(place, socket, &bytes[..count], frames, &hears),
         SocketRead::NotYet => table.quiet(place, socket),
         SocketRead::Ended => table.close(place, socket),
         SocketRead::Failed => table.close(place, socket),

@@ -1,12 +1,10 @@
 -- Grammar: what a line of a schedule says, behind the one that names the hostile players.
 use Rattle.std.specs.Prelude.{ℕ, ◌-◌, ◌^◌, ◌<◌, Bool, true, false, List, [], ◌∷◌, Option, Some, None, ◌==◌, codes, if◌then◌else◌}
-use Rattle.definitions.specs.declared.world.Move.{Move}
-use Rattle.definitions.specs.declared.openings.Nonce.{Nonce}
 use Rattle.definitions.specs.World.{Game, players_of}
 use Rattle.byte_fields.specs.Fronts.{◌>>=◌, behind}
 use Rattle.text_fields.specs.Numbers.{number_of, number_then}
-use Rattle.text_fields.specs.Cells.{cell_then}
-use Rattle.text_fields.specs.Hexes.{nonce_of, frame_of}
+use Rattle.text_fields.specs.Choices.{move_then_nonce}
+use Rattle.text_fields.specs.Hexes.{frame_of}
 use Rattle.schedule.specs.declared.steps.Step.{Step}
 use Rattle.schedule.specs.declared.steps.Step.TheVariants.{Choose, Deliver, Hostile, Stop}
 use Rattle.schedule.specs.Steps.{HasPlayers}
@@ -17,35 +15,11 @@ use Rattle.schedule_command.specs.declared.grammar.ScheduleLine.TheVariants as s
 abbrev pub last_player : Game → ℕ
 last_player game = players_of game - 1
 
--- `X Y NONCE`
-unfoldable pub stepping_of : List ℕ → Option (Move × Nonce)
-stepping_of text = do
-  to ← cell_then text
-  nonce ← nonce_of to.1
-  Some (record { to = to.0; strike = None }, nonce)
-
--- `X Y SX SY NONCE`
-unfoldable pub striking_of : List ℕ → Option (Move × Nonce)
-striking_of text = do
-  to ← cell_then text
-  at ← cell_then to.1
-  nonce ← nonce_of at.1
-  Some (record { to = to.0; strike = Some at.0 }, nonce)
-
--- the first of two readings that there is
-abbrev pub or_else : {A : Type 0} → Option A → Option A → Option A
-or_else None second = second
-or_else (Some first) second = Some first
-
--- a move and its nonce
-unfoldable pub move_of : List ℕ → Option (Move × Nonce)
-move_of text = or_else (stepping_of text) (striking_of text)
-
 -- `P X Y NONCE` or `P X Y SX SY NONCE`, with players up to the last one
 unfoldable pub choice_of : (last : ℕ) → List ℕ → Option Step
 choice_of last text = do
   player ← number_then last text
-  choice ← move_of player.1
+  choice ← move_then_nonce player.1
   Some (Choose player.0 choice.0 choice.1)
 
 -- `P Q K`

@@ -5,11 +5,11 @@ ghost use Rattle.definitions.specs.World.{players_of};
 ghost use Rattle.schedule.specs.Steps.{HasPlayers};
 ghost use Rattle.schedule_command.specs.Grammar as G;
 
+use definitions::PlayerId;
 use definitions::limits::LONGEST_LINE;
-use definitions::{Move, Nonce, PlayerId};
 use grid_world::Session;
 use schedule::Step;
-use text_fields::{cell_then, number_then, read_frame, read_nonce, read_number};
+use text_fields::{move_then_nonce, number_then, read_frame, read_number};
 
 /// What a line says.
 #[derive(Drop)]
@@ -34,39 +34,6 @@ fn last_player(session: &Session) -> u32
     u32::from(session.players()) - 1
 }
 
-/// A move that does not strike, and its nonce.
-#[tactic(auto, unfolding(crate::specs::Grammar::stepping_of))]
-fn read_stepping(text: &[u8]) -> Option<(Move, Nonce)>
-    ensures { result ≡ G.stepping_of text.now }
-{
-    let (to, rest) = cell_then(text)?;
-    let nonce = read_nonce(rest)?;
-    Some((Move { to, strike: None }, nonce))
-}
-
-/// A move that strikes, and its nonce.
-#[tactic(auto, unfolding(crate::specs::Grammar::striking_of))]
-fn read_striking(text: &[u8]) -> Option<(Move, Nonce)>
-    ensures { result ≡ G.striking_of text.now }
-{
-    let (to, rest) = cell_then(text)?;
-    let (at, rest) = cell_then(rest)?;
-    let nonce = read_nonce(rest)?;
-    let strike = Some(at);
-    Some((Move { to, strike }, nonce))
-}
-
-/// A move and its nonce.
-#[tactic(auto, unfolding(crate::specs::Grammar::move_of))]
-fn read_move(text: &[u8]) -> Option<(Move, Nonce)>
-    ensures { result ≡ G.move_of text.now }
-{
-    match read_stepping(text) {
-        Some(stepping) => Some(stepping),
-        None => read_striking(text),
-    }
-}
-
 /// A player's choice.
 #[tactic(auto, unfolding(crate::specs::Grammar::choice_of))]
 fn read_choice(session: &Session, text: &[u8]) -> Option<Step>
@@ -74,7 +41,7 @@ fn read_choice(session: &Session, text: &[u8]) -> Option<Step>
     ensures players { IfSome result (HasPlayers session.now) }
 {
     let (player, rest) = number_then(last_player(session), text)?;
-    let (mv, nonce) = read_move(rest)?;
+    let (mv, nonce) = move_then_nonce(rest)?;
     Some(Step::Choose {
         player: player as u8,
         mv,

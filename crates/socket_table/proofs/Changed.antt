@@ -21,8 +21,8 @@ use Rattle.loop_rules.specs.Tables.{Table, at_line, at_seat}
 use Rattle.loop_rules.specs.Told.{HasNone, DiffersBy}
 use Rattle.loop_rules.proofs.Alike.{Same, same, Alike, alike, alike_map, differ_alike, ousted_same}
 use Rattle.socket_table.specs.Sound.{IsFitLine, IsFitSeat, HasLineRoom, IsSound, is_fine, is_dialled_for, spent_by, spent_of}
-use Rattle.table_laws.proofs.Keys.{put_at}
-use Rattle.table_laws.proofs.Pairs.{count_cons}
+use Rattle.socket_table.proofs.Keys.{put_at}
+use Rattle.socket_table.proofs.TablePairs.{count_cons}
 use Rattle.socket_table.proofs.Counting.{count_alike, fine_before, dialled_before, length_alike}
 
 pub alike_set : (ls : List Line) (k : ℕ) (l m : Line) → slice_get ls k ≡ Some l → Same l m → Alike ls (slice_set ls k m)

@@ -6,7 +6,7 @@ use Rattle.std.proofs.lemmas.Bool.{and_parts, false≢true}
 use Rattle.socket_lines.specs.declared.line.Line.{Line}
 use Rattle.socket_lines.specs.Lines.{is_player}
 use Rattle.loop_rules.proofs.Alike.{Same, Alike}
-use Rattle.table_laws.proofs.Pairs.{count_cons}
+use Rattle.socket_table.proofs.TablePairs.{count_cons}
 use Rattle.socket_table.specs.Sound.{is_fine, is_dialled_for}
 
 -- where what is counted behind the change was counted before

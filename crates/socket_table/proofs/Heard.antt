@@ -5,7 +5,6 @@ use Rattle.std.specs.List.{fold}
 use Rattle.std.proofs.lemmas.Bool.{eq-eqb}
 use Rattle.std.proofs.lemmas.Option.{get_or_from_slice_get}
 use Rattle.std.proofs.lemmas.List.{drop_more}
-use Rattle.definitions.specs.World.{Game, players_of}
 use Rattle.definitions.specs.Logs as G
 use Rattle.rosters.specs.declared.roster.Link.{Link}
 use Rattle.wire_frames.specs.declared.frames.Frame.{Frame}
@@ -23,7 +22,7 @@ use Rattle.socket_table.specs.Finding.{IsAt, IsSeatAt, IsNaming}
 use Rattle.socket_table.specs.Hearers.{ArePlayers}
 use Rattle.socket_table.specs.Sound.{IsSound}
 use Rattle.socket_table.proofs.Counting.{length_more}
-use Rattle.table_laws.proofs.Keys.{found_at, none_changed}
+use Rattle.socket_table.proofs.Keys.{found_at, none_changed}
 use Rattle.socket_table.proofs.Changed.{each_at}
 
 -- ---- the line at its place
@@ -60,8 +59,8 @@ naming_at t b q k n = (n.1, n.2, n.3)
 pub naming_unspent : (t : Table) (b : Bool) (q k : ℕ) (c : Seat) → IsNaming t b q (Some k) → slice_get t.seats k ≡ Some c → S.is_spent c ≡ false
 naming_unspent t b q k c n g = subst (λ (d : Seat). S.is_spent d ≡ false) (let e : Some n.1 ≡ Some c = sym n.2 ∙ g in let q : n.1 ≡ c = cc in q) n.4
 
-pub naming_player : (game : Game) (t : Table) (b : Bool) (q k : ℕ) → ArePlayers game t.seats → IsNaming t b q (Some k) → q < players_of game
-naming_player game t b q k all n = subst (λ (p : ℕ). p < players_of game) n.3 (each_at (λ c. c.link.player < players_of game) t.seats k n.1 all n.2)
+pub naming_player : (players : ℕ) (t : Table) (b : Bool) (q k : ℕ) → ArePlayers players t.seats → IsNaming t b q (Some k) → q < players
+naming_player players t b q k all n = subst (λ (p : ℕ). p < players) n.3 (each_at (λ c. c.link.player < players) t.seats k n.1 all n.2)
 
 -- what is done of a HELLO, by whether it names another player
 pub hello_heard : (h : Hearer) (v u : Table) (s : ℕ) (l : Line) (id : List ℕ) (q : ℕ) (pass : List ℕ) (from : ℕ) (b : Bool) → names h v l id q pass ≡ b →
@@ -138,14 +137,14 @@ linked_on h t s f (Some l) = linked_table t.seats l.is_wrong t (heard_by h t s l
 pub linked_heard : (h : Hearer) (s : ℕ) (t : Table) (f : Frame) → Linked t.seats (heard h s t f).seats
 linked_heard h s t f = linked_on h t s f (line_of t s)
 
-pub players_linked : (game : Game) (cs ds : List Seat) → Linked cs ds → ArePlayers game cs → ArePlayers game ds
-players_linked game [] [] e p = tt
-players_linked game [] (d ∷ ds) e p = absurd (cc)
-players_linked game (c ∷ cs) [] e p = absurd (cc)
-players_linked game (c ∷ cs) (d ∷ ds) e p =
+pub players_linked : (players : ℕ) (cs ds : List Seat) → Linked cs ds → ArePlayers players cs → ArePlayers players ds
+players_linked players [] [] e p = tt
+players_linked players [] (d ∷ ds) e p = absurd (cc)
+players_linked players (c ∷ cs) [] e p = absurd (cc)
+players_linked players (c ∷ cs) (d ∷ ds) e p =
     let here : c.link ≡ d.link = cc in
     let more : map (λ x. x.link) ds ≡ map (λ x. x.link) cs = cc in
-    (subst (λ (l : Link). l.player < players_of game) here p.0, players_linked game cs ds more p.1)
+    (subst (λ (l : Link). l.player < players) here p.0, players_linked players cs ds more p.1)
 
 -- a seat at a place is there behind a change of seats
 pub seat_stays : (cs ds : List Seat) (q k : ℕ) → Linked cs ds → IsSeatAt cs q (Some k) → IsSeatAt ds q (Some k)
@@ -219,15 +218,15 @@ no_naming t b q o n e = subst (IsNaming t b q) e n
 
 -- ---- frame by frame
 
-pub record Hearing (h : Hearer) (s k : ℕ) (game : Game) (most : ℕ) (start t : Table) (all left : List Frame) : Type 0 where
+pub record Hearing (h : Hearer) (s k : ℕ) (players : ℕ) (most : ℕ) (start t : Table) (all left : List Frame) : Type 0 where
   pub at : IsAt t k s
   pub room : length t.waiting + length left ≤ most
-  pub players : ArePlayers game t.seats
+  pub seats : ArePlayers players t.seats
   pub heard_so : fold (heard h s) t left ≡ fold (heard h s) start all
 
-pub hears_one : (h : Hearer) (s k : ℕ) (game : Game) (most : ℕ) (start t u : Table) (all : List Frame) (i : ℕ) (x : Frame) → i < length all → Hearing h s k game most start t all (drop i all) →
-    u ≡ heard h s t (get_or all i x) → Hearing h s k game most start u all (drop (i + 1) all)
-hears_one h s k game most start t u all i x lt w e =
+pub hears_one : (h : Hearer) (s k : ℕ) (players : ℕ) (most : ℕ) (start t u : Table) (all : List Frame) (i : ℕ) (x : Frame) → i < length all → Hearing h s k players most start t all (drop i all) →
+    u ≡ heard h s t (get_or all i x) → Hearing h s k players most start u all (drop (i + 1) all)
+hears_one h s k players most start t u all i x lt w e =
     let f = get_or all i x in
     let split : drop i all ≡ f ∷ drop (i + 1) all = drop_more all i x lt in
     let long = ap (λ (fs : List Frame). length fs) split in
@@ -237,7 +236,7 @@ hears_one h s k game most start t u all i x lt w e =
     record {
       at = subst (λ (y : Table). IsAt y k s) (sym e) (heard_at h s t f k s w.at);
       room = omega (arith, long, one, same, room);
-      players = subst (λ (y : Table). ArePlayers game y.seats) (sym e) (players_linked game t.seats (heard h s t f).seats (linked_heard h s t f) w.players);
+      seats = subst (λ (y : Table). ArePlayers players y.seats) (sym e) (players_linked players t.seats (heard h s t f).seats (linked_heard h s t f) w.seats);
       heard_so = ap (λ (y : Table). fold (heard h s) y (drop (i + 1) all)) e ∙ sym (ap (λ (fs : List Frame). fold (heard h s) t fs) split) ∙ w.heard_so;
     }
 

@@ -8,3 +8,14 @@ pub mod Staying
 pub mod Asked
 pub mod Written
 pub mod New
+pub mod Keys
+pub mod TablePairs
+pub mod HearingKeeps
+pub mod Giving
+pub mod Seats
+pub mod Waiting
+pub mod Rooms
+pub mod ReadingRooms
+pub mod Milder
+pub mod Work
+pub mod Others

@@ -21,8 +21,8 @@ use Rattle.socket_table.specs.declared.table.TheConstants.{MOST_LINES}
 use Rattle.socket_table.specs.Finding.{IsSeatAt}
 use Rattle.socket_table.specs.Opening.{HasDialRoom}
 use Rattle.socket_table.specs.Sound.{IsFitLine, IsFitSeat, IsSound, is_fine, is_dialled_for, spent_by, spent_of}
-use Rattle.table_laws.proofs.Keys.{put_at}
-use Rattle.table_laws.proofs.Pairs.{count_cons}
+use Rattle.socket_table.proofs.Keys.{put_at}
+use Rattle.socket_table.proofs.TablePairs.{count_cons}
 use Rattle.socket_table.proofs.Counting.{length_more}
 use Rattle.socket_table.proofs.Changed.{whole_written, sound_map, each_at, each_rises, rises_set, differ_seats}
 

@@ -24,7 +24,7 @@ use Rattle.socket_table.specs.Opening.{AreNewTo}
 use Rattle.loop_rules.specs.Tables.{Table, room_on, asks_shut, at_line, in_lines}
 use Rattle.loop_rules.specs.Licence.{all_is_shut}
 use Rattle.socket_table.specs.Sound.{IsFitLine, IsByte, IsSound, is_fine, is_dialled_for}
-use Rattle.table_laws.proofs.Pairs.{count_cons}
+use Rattle.socket_table.proofs.TablePairs.{count_cons}
 use Rattle.socket_table.proofs.Counting.{length_alike, length_more}
 use Rattle.socket_table.proofs.Opened.{woken_same}
 

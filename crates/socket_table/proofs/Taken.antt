@@ -14,8 +14,8 @@ use Rattle.socket_table.specs.Sound.{IsFitLine, spent_by, spent_of}
 use Rattle.wire_frames.specs.declared.frames.Frame.{Frame}
 use Rattle.loop_rules.proofs.Alike.{alike_at, alike_frames, read_same}
 use Rattle.socket_table.proofs.Heard.{Linked, linked_seats, at_alike}
-use Rattle.table_laws.proofs.Hearing.{counted_lines}
-use Rattle.table_laws.proofs.Waiting.{counted_waits}
+use Rattle.socket_table.proofs.HearingKeeps.{counted_lines}
+use Rattle.socket_table.proofs.Waiting.{counted_waits}
 
 -- ---- whose bytes they are
 

@@ -18,8 +18,8 @@ use Rattle.loop_rules.proofs.Alike.{Same, keeps_gave}
 use Rattle.loop_rules.proofs.Given.{IsOwnDue, is_own_due}
 use Rattle.socket_table.specs.Finding.{IsDeskSeat}
 use Rattle.socket_table.specs.Sound.{IsFitLine, IsFitSeat, IsByte, IsSound, spent_of}
-use Rattle.table_laws.proofs.Keys.{put_at}
-use Rattle.table_laws.proofs.Giving.{keeps_giving}
+use Rattle.socket_table.proofs.Keys.{put_at}
+use Rattle.socket_table.proofs.Giving.{keeps_giving}
 use Rattle.socket_table.proofs.Changed.{SameSeat, sound_line, sound_seat, each_at, line_seen}
 use Rattle.socket_table.proofs.Asked.{desk_read}
 

@@ -2,3 +2,5 @@ pub mod Finding
 pub mod Hearers
 pub mod Opening
 pub mod Sound
+pub mod TablePairs
+pub mod Staying

@@ -8,13 +8,13 @@ ghost use Rattle.socket_lines.specs.Seats as S;
 ghost use Rattle.loop_rules.specs.Tables.{at_line, at_seat, seat_of};
 ghost use Rattle.loop_rules.specs.Hearing.{Hearer, named, heard_first, heard_named, obeyed, arrived, heard};
 ghost use Rattle.socket_table.specs.Finding.{IsAt, IsSeatAt};
-ghost use Rattle.socket_table.specs.Hearers.{hearer_by, ArePlayers};
+ghost use Rattle.socket_table.specs.Hearers.{ArePlayers};
 
 use crate::finding::seat_index;
+use crate::hears::Hears;
 use crate::table::Table;
 use definitions::{Place, PlayerId, TurnFrame};
 use loop_rules::Arrival;
-use peer_core::Peer;
 use socket_lines::{Line, Seat};
 use socket_station::SocketId;
 use wire_frames::Frame;
@@ -43,7 +43,7 @@ impl Table {
     }
 
     /// A HELLO is the first frame on the socket.
-    fn hear_hello(
+    fn hear_hello<H: Hears>(
         &mut self,
         place: usize,
         socket: SocketId,
@@ -51,25 +51,25 @@ impl Table {
         player: PlayerId,
         pass: &[u8; 16],
         from: Place,
-        peer: &Peer,
+        hears: &H,
     )
         requires at { IsAt self.old place socket }
         requires unnamed { (l : Line) → slice_get self.old.lines place ≡ Some l → l.name ≡ None }
-        requires players { ArePlayers peer.now.game self.old.seats }
-        ensures { (l : Line) → slice_get self.old.lines place ≡ Some l → self.new ≡ heard_first (hearer_by peer.now) self.old socket l (Frame.Hello id.now player pass.now from) }
+        requires players { ArePlayers (H.players hears.now) self.old.seats }
+        ensures { (l : Line) → slice_get self.old.lines place ≡ Some l → self.new ≡ heard_first (H.hearer hears.now) self.old socket l (Frame.Hello id.now player pass.now from) }
     {
-        match self.naming_seat(place, peer.session().id(), id, player, pass) {
+        match self.naming_seat(place, hears.id(), id, player, pass) {
             None => self.doom(place, socket),
-            Some(seat) => { self.name(place, socket, player, seat, from, peer.player(player).next) }
+            Some(seat) => { self.name(place, socket, player, seat, from, hears.next(player)) }
         }
     }
 
     /// The first frame on the socket: a HELLO that names it, or one for which it is to be shut.
-    fn hear_first(&mut self, place: usize, socket: SocketId, frame: &Frame, peer: &Peer)
+    fn hear_first<H: Hears>(&mut self, place: usize, socket: SocketId, frame: &Frame, hears: &H)
         requires at { IsAt self.old place socket }
         requires unnamed { (l : Line) → slice_get self.old.lines place ≡ Some l → l.name ≡ None }
-        requires players { ArePlayers peer.now.game self.old.seats }
-        ensures { (l : Line) → slice_get self.old.lines place ≡ Some l → self.new ≡ heard_first (hearer_by peer.now) self.old socket l frame.now }
+        requires players { ArePlayers (H.players hears.now) self.old.seats }
+        ensures { (l : Line) → slice_get self.old.lines place ≡ Some l → self.new ≡ heard_first (H.hearer hears.now) self.old socket l frame.now }
     {
         match frame {
             Frame::Hello {
@@ -77,7 +77,7 @@ impl Table {
                 player,
                 pass,
                 next,
-            } => self.hear_hello(place, socket, id, *player, pass, *next, peer),
+            } => self.hear_hello(place, socket, id, *player, pass, *next, hears),
             Frame::Turn(_) => self.doom(place, socket),
             Frame::Want { .. } => self.doom(place, socket),
         }
@@ -167,31 +167,37 @@ impl Table {
     }
 
     /// A frame on the socket. Behind one for which it is to be shut none counts.
-    fn hear(&mut self, place: usize, socket: SocketId, frame: &Frame, peer: &Peer)
+    fn hear<H: Hears>(&mut self, place: usize, socket: SocketId, frame: &Frame, hears: &H)
         requires at { IsAt self.old place socket }
         requires room { length self.old.waiting < MOST_TAKEN }
-        requires players { ArePlayers peer.now.game self.old.seats }
-        ensures { self.new ≡ heard (hearer_by peer.now) socket self.old frame.now }
+        requires players { ArePlayers (H.players hears.now) self.old.seats }
+        ensures { self.new ≡ heard (H.hearer hears.now) socket self.old frame.now }
     {
         let line = &self.lines[place];
         if line.is_wrong {
             return;
         }
         match line.name {
-            None => self.hear_first(place, socket, frame, peer),
+            None => self.hear_first(place, socket, frame, hears),
             Some(player) => self.hear_named(place, socket, player, frame),
         }
     }
 
     /// Some frames on the socket, one behind the other.
-    pub(crate) fn hear_all(&mut self, place: usize, socket: SocketId, frames: &[Frame], peer: &Peer)
+    pub(crate) fn hear_all<H: Hears>(
+        &mut self,
+        place: usize,
+        socket: SocketId,
+        frames: &[Frame],
+        hears: &H,
+    )
         requires at { IsAt self.old place socket }
         requires room { length self.old.waiting + length frames.now ≤ MOST_TAKEN }
-        requires players { ArePlayers peer.now.game self.old.seats }
-        ensures { self.new ≡ fold (heard (hearer_by peer.now) socket) self.old frames.now }
+        requires players { ArePlayers (H.players hears.now) self.old.seats }
+        ensures { self.new ≡ fold (heard (H.hearer hears.now) socket) self.old frames.now }
     {
         for frame in frames {
-            self.hear(place, socket, frame, peer);
+            self.hear(place, socket, frame, hears);
         }
     }
 }

@@ -8,14 +8,14 @@ ghost use Rattle.loop_rules.specs.Tables.{at_line, at_seat, room_on};
 ghost use Rattle.loop_rules.specs.Hearing.{read_on, counted, took_on};
 ghost use Rattle.socket_table.specs.declared.table.TheConstants.{MOST_TAKEN};
 ghost use Rattle.socket_table.specs.Finding.{IsAt, IsSeatAt, IsNamedSeat};
-ghost use Rattle.socket_table.specs.Hearers.{hearer_by, ArePlayers};
+ghost use Rattle.socket_table.specs.Hearers.{ArePlayers};
 ghost use Rattle.socket_table.specs.Sound.{spent_of};
 
 use crate::finding::seat_index;
 use crate::frame_list::FrameList;
+use crate::hears::Hears;
 use crate::table::Table;
 use definitions::PlayerId;
-use peer_core::Peer;
 use socket_lines::{Line, Seat};
 use socket_station::SocketId;
 use wire_frames::{FedWhat, FrameReader};
@@ -115,27 +115,27 @@ impl Table {
     }
 
     /// Bytes came on the socket, no more than have room: their frames are heard, and those of turns wait.
-    pub fn take(
+    pub fn take<H: Hears>(
         &mut self,
         place: usize,
         socket: SocketId,
         bytes: &[u8],
         frames: &mut FrameList,
-        peer: &Peer,
+        hears: &H,
     )
         requires at { IsAt self.old place socket }
         requires some { 0 < length bytes.now }
         requires few { length bytes.now ≤ MOST_TAKEN }
         requires room { (l : Line) → slice_get self.old.lines place ≡ Some l → length bytes.now ≤ room_on self.old l }
         requires none { self.old.waiting ≡ [] }
-        requires players { ArePlayers peer.now.game self.old.seats }
-        ensures { self.new ≡ took_on (hearer_by peer.now) socket bytes.now self.old }
+        requires players { ArePlayers (H.players hears.now) self.old.seats }
+        ensures { self.new ≡ took_on (H.hearer hears.now) socket bytes.now self.old }
     {
         let _ = &self.lines;
         frames.clear();
         self.count(place, socket, bytes.len() as u32);
         let bad = self.read(place, socket, bytes, frames);
-        self.hear_all(place, socket, frames.as_slice(), peer);
+        self.hear_all(place, socket, frames.as_slice(), hears);
         if bad {
             self.doom(place, socket);
         }

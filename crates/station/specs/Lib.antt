@@ -10,3 +10,4 @@ pub mod Adapters
 pub mod Files
 pub mod Plans
 pub mod Memory
+pub mod Words

@@ -5,12 +5,14 @@ use Rattle.hex.specs.Hex.{IsBytes, encode_lower}
 use Rattle.definitions.specs.declared.world.Cell.{Cell}
 use Rattle.definitions.specs.declared.openings.Nonce.{Nonce}
 use Rattle.definitions.specs.declared.frames.TurnFrame.{TurnFrame}
-use Rattle.definitions.specs.Openings.{FitsCell}
+use Rattle.definitions.specs.declared.world.Move.{Move}
+use Rattle.definitions.specs.Openings.{FitsCell, FitsStrike}
 use Rattle.commitment.specs.Spelling.{frame_bytes, FitsFrame}
 use Rattle.text_fields.specs.Numbers.{number_of, number_then}
 use Rattle.text_fields.specs.Cells.{cell_then}
 use Rattle.text_fields.specs.Hexes.{nonce_of, frame_of, bytes_of}
 use Rattle.text_fields.specs.Spelling.{number_text, cell_text, FitsNonce}
+use Rattle.text_fields.specs.Choices.{choice_text, move_then_nonce}
 
 -- a number before a space is read as it is, and so is what stands behind
 abbrev pub NumbersAreRead : Type 0
@@ -60,3 +62,12 @@ BytesAreRead = (bytes : List ℕ) → 0 < length bytes → IsBytes bytes → byt
 -- a text that is read as bytes is their digits
 abbrev pub BytesAreSpelled : Type 0
 BytesAreSpelled = (text bytes : List ℕ) → bytes_of text ≡ Some bytes → (0 < length bytes) × IsBytes bytes × (text ≡ encode_lower bytes)
+
+-- the text of a move and a nonce is read as them
+abbrev pub ChoicesAreRead : Type 0
+ChoicesAreRead = (mv : Move) (nonce : Nonce) → FitsCell mv.to → FitsStrike mv.strike → FitsNonce nonce → move_then_nonce (choice_text mv nonce) ≡ Some (mv, nonce)
+
+-- a text that is read as a move and a nonce is their text, and they are within their limits
+abbrev pub ChoicesAreSpelled : Type 0
+ChoicesAreSpelled = (text : List ℕ) (c : Move × Nonce) → move_then_nonce text ≡ Some c →
+    FitsCell c.0.to × FitsStrike c.0.strike × FitsNonce c.1 × (text ≡ choice_text c.0 c.1)

@@ -1,6 +1,6 @@
 //! Laws of fields: functions that do nothing, whose clauses are proved.
 
-ghost use Rattle.text_fields.specs.Laws.{NumbersAreRead, NumbersAreSpelled, LoneNumbersAreRead, LoneNumbersAreSpelled, CellsAreRead, CellsAreSpelled, NoncesAreRead, NoncesAreSpelled, FramesAreRead, FramesAreSpelled, BytesAreRead, BytesAreSpelled};
+ghost use Rattle.text_fields.specs.Laws.{NumbersAreRead, NumbersAreSpelled, LoneNumbersAreRead, LoneNumbersAreSpelled, CellsAreRead, CellsAreSpelled, NoncesAreRead, NoncesAreSpelled, FramesAreRead, FramesAreSpelled, BytesAreRead, BytesAreSpelled, ChoicesAreRead, ChoicesAreSpelled};
 
 /// A number before a space is read as that number, whatever stands behind it, and what is read stands there.
 pub fn numbers_are_told()
@@ -36,4 +36,10 @@ pub fn frames_are_told()
 pub fn bytes_are_told()
     ensures read { BytesAreRead }
     ensures spelled { BytesAreSpelled }
+{}
+
+/// The text of a move and a nonce is read as these, and a text that is read as a choice is its text.
+pub fn choices_are_told()
+    ensures read { ChoicesAreRead }
+    ensures spelled { ChoicesAreSpelled }
 {}

@@ -1,5 +1,5 @@
 use Rattle.std.proofs.Common.{arith}
-use Rattle.streams.proofs.Shown.{still_commit, there_commit}
+use Rattle.frame_index.proofs.StreamsShown.{still_commit, there_commit}
 use Rattle.frame_index.proofs.heads.next_commitment.Goals as goal
 
 pub returns-in-None-clause-next : goal.returns-in-None-clause-next

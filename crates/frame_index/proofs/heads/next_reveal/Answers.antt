@@ -1,5 +1,5 @@
 use Rattle.std.proofs.Common.{◌∙◌, arith}
-use Rattle.streams.proofs.Shown.{still_due, still_none, there_due}
+use Rattle.frame_index.proofs.StreamsShown.{still_due, still_none, there_due}
 use Rattle.frame_index.proofs.Headed.{held_before}
 use Rattle.frame_index.proofs.heads.next_reveal.Goals as goal
 

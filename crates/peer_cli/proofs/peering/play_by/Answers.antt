@@ -4,7 +4,7 @@ use Rattle.peer_command.specs.Words.{peering_said}
 use Rattle.run_frame.specs.declared.statuses.Status.TheVariants.{NoMemory}
 use Rattle.peer_cli.specs.Lines.{peering_on}
 use Rattle.peer_runs.specs.Seats.{MayReadRoster, seat_names}
-use Rattle.peer_runs.proofs.Opening.{reads_none}
+use Rattle.run_files.proofs.Opening.{reads_none}
 use Rattle.peer_runs.proofs.OverSockets.{no_seat, none_some, same_some}
 use Rattle.peer_cli.proofs.Splitting.{peering_by_line}
 use Rattle.peer_cli.proofs.peering.play_by.Goals as goal

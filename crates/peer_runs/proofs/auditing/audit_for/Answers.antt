@@ -1,8 +1,8 @@
 use Rattle.std.proofs.Common.{refl}
-use Rattle.audit_command.specs.Words.{auditing_said}
+use Rattle.file_commands.specs.AuditWords.{auditing_said}
 use Rattle.peer_runs.specs.Words.{Audit}
 use Rattle.peer_runs.proofs.Alone.{refused_works, told_works}
-use Rattle.peer_runs.proofs.AuditOpened.{audit_reads, audit_refused, audit_told}
+use Rattle.peer_runs.proofs.AuditRun.{audit_reads, audit_refused, audit_told}
 use Rattle.peer_runs.proofs.auditing.audit_for.Goals as goal
 
 pub returns-in-Ok : goal.returns-in-Ok

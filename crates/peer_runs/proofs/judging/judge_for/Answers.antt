@@ -1,7 +1,7 @@
 use Rattle.std.proofs.Common.{refl, ap}
 use Rattle.peer_runs.specs.Words.{Judge}
-use Rattle.judge_command.specs.Judge.{judge_answer}
-use Rattle.judge_command.specs.Words.{judging_said}
+use Rattle.file_commands.specs.Judge.{judge_answer}
+use Rattle.file_commands.specs.JudgeWords.{judging_said}
 use Rattle.peer_runs.proofs.Alone.{refused_works, told_so}
 use Rattle.peer_runs.proofs.Judged.{case_reads, case_refused}
 use Rattle.peer_runs.proofs.judging.judge_for.Goals as goal

@@ -1,7 +1,7 @@
 use Rattle.std.proofs.Common.{Bool, List, ℕ, sym, ◌∙◌, subst}
 use Rattle.pilots.specs.Scripts.{script_at}
 use Rattle.line_io.specs.Fronts.{Fetched}
-use Rattle.peer_runs.specs.Opening.{IsDueFor}
+use Rattle.run_files.specs.Opening.{IsDueFor}
 use Rattle.peer_runs.specs.Seats.{moves_by}
 use Rattle.peer_runs.proofs.Seated.{moves_front_read}
 use Rattle.peer_runs.proofs.seats.open_moves.Goals as goal

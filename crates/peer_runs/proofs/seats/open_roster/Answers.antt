@@ -2,7 +2,7 @@ use Rattle.std.proofs.Common.{Bool, List, ℕ, sym, ◌∙◌, subst}
 use Rattle.definitions.specs.World.{players_of}
 use Rattle.rosters.specs.Reading.{roster_at}
 use Rattle.line_io.specs.Fronts.{Fetched}
-use Rattle.peer_runs.specs.Opening.{IsDueFor}
+use Rattle.run_files.specs.Opening.{IsDueFor}
 use Rattle.peer_runs.specs.Seats.{roster_by}
 use Rattle.peer_runs.proofs.Seated.{roster_front_read}
 use Rattle.peer_runs.proofs.seats.open_roster.Goals as goal

@@ -1,7 +1,7 @@
 use Rattle.std.proofs.Common.{refl, ap}
 use Rattle.line_io.specs.Files.{content}
 use Rattle.peer_runs.specs.Words.{Upgrade}
-use Rattle.upgrade_command.specs.Upgrade.{upgrade_answer}
+use Rattle.file_commands.specs.Upgrade.{upgrade_answer}
 use Rattle.peer_runs.proofs.Alone.{refused_works, told_so}
 use Rattle.peer_runs.proofs.Upgrades.{session_reads, unread_refused}
 use Rattle.peer_runs.proofs.upgrading.upgrade_for.Goals as goal

@@ -1,4 +1,0 @@
-mod Players
-mod Reported
-mod Printed
-pub mod Told

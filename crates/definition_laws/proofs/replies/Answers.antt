@@ -1,5 +1,0 @@
-use Rattle.definition_laws.proofs.Replied as R
-use Rattle.definition_laws.proofs.replies.Goals as goal
-
-pub returns : goal.returns
-returns c = R.replies

@@ -1,5 +1,0 @@
-use Rattle.definition_laws.proofs.Strikes.{who_is_hit_meets}
-use Rattle.definition_laws.proofs.strikes_meet.Goals as goal
-
-pub returns : goal.returns
-returns c = who_is_hit_meets

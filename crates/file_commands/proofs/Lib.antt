@@ -1,0 +1,6 @@
+mod Players
+mod Reported
+mod Printed
+pub mod Told
+pub mod Alike
+pub mod Tells

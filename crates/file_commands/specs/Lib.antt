@@ -1,0 +1,10 @@
+pub mod AuditWords
+pub mod AuditLines
+pub mod Audit
+pub mod AuditPrinting
+pub mod AuditLaws
+pub mod JudgeWords
+pub mod Judge
+pub mod UpgradeWords
+pub mod UpgradeLaws
+pub mod Upgrade

@@ -1,0 +1,39 @@
+//! An exhibit is judged.
+
+ghost use Rattle.std.specs.Prelude.{◌≡◌, Ok, false};
+ghost use Rattle.run_frame.specs.Frame.{Ran};
+ghost use Rattle.file_commands.specs.Judge.{judge_answer, verdict_answer};
+
+use evidence::{Exhibit, judge};
+use grid_world::Session;
+use line_io::{Written, put};
+use move_rules::Walker;
+use run_frame::Status;
+use station::Sink;
+use std::alloc::Global;
+
+/// Tells whether the frames show what they are to show.
+fn tell<O: Sink>(shown: bool, out: &mut O) -> Status
+    ensures { Ran (O.state out.old) (O.state out.new) (verdict_answer shown) false ⊥ ⊥ result }
+{
+    let text: &[u8] = if shown { b"yes\n" } else { b"no\n" };
+    match put(out, text) {
+        Written::Failed => Status::OutputFault,
+        Written::All => { if shown { Status::Caught } else { Status::Done } }
+    }
+}
+
+/// Judges the exhibit in the session, and tells whether its frames show what they are to show. Nothing is written where memory is wanting.
+pub fn judge_exhibit<O: Sink>(
+    alloc: Global,
+    session: &Session,
+    exhibit: &Exhibit,
+    out: &mut O,
+) -> Status
+    ensures { Ran (O.state out.old) (O.state out.new) (judge_answer (Ok (session.now, exhibit.now))) false ⊥ ⊥ result }
+{
+    let Ok(mut walker) = Walker::new(alloc, session.grid()) else {
+        return Status::NoMemory;
+    };
+    tell(judge(session, &mut walker, exhibit), out)
+}

@@ -1,7 +1,0 @@
-use Rattle.std.proofs.Common.{◌≡◌, drop, map}
-use Rattle.std.specs.List.{list_all}
-use Rattle.program_words.specs.Words.{is_word}
-use Rattle.program_words.proofs.texts.are_words.Given as goal
-
-abbrev pub invariant-loop-word : goal.invariant-loop-word
-invariant-loop-word l = list_all is_word (map (λ w. w.items) (drop l.word-index l.words)) ≡ list_all is_word (map (λ w. w.items) l.words)

@@ -1,0 +1,4 @@
+pub mod Shelves
+pub mod Opening
+pub mod CaseOpened
+pub mod AuditOpened

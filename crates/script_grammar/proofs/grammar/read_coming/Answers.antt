@@ -1,4 +1,0 @@
-use Rattle.script_grammar.proofs.grammar.read_coming.Goals as goal
-
-pub returns-in-Some-clause-few : goal.returns-in-Some-clause-few
-returns-in-Some-clause-few c = c.in-Some.ensures.few c.args.last

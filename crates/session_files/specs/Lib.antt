@@ -1,2 +1,0 @@
-pub mod Games
-pub mod Files

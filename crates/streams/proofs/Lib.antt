@@ -1,3 +1,0 @@
-pub mod Scanned
-pub mod Opened
-pub mod Shown

@@ -1,7 +1,0 @@
--- Words: what the words of the command say.
-use Rattle.std.specs.Prelude.{ℕ, List, Option}
-use Rattle.program_words.specs.Words.{only_word}
-
--- the session's file, by the words behind the command's name: `SESSION`
-abbrev pub upgrading_in : List (List ℕ) → Option (List ℕ)
-upgrading_in words = only_word words

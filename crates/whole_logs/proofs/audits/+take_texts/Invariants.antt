@@ -1,5 +1,0 @@
-use Rattle.std.proofs.Common.{length}
-use Rattle.whole_logs.proofs.audits.+take_texts.Given as goal
-
-abbrev pub decreases-take_texts : goal.decreases-take_texts
-decreases-take_texts l = length l.logs.now
