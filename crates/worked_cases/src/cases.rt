@@ -31,6 +31,10 @@ pub struct Wants {
     pub keeps: Option<usize>,
     /// How many bytes are given on the first socket.
     pub gives: Option<usize>,
+    /// Which sockets are open at the end, by their numbers.
+    pub open: Vec<u32>,
+    /// Which sockets aren't open at the end.
+    pub shut: Vec<u32>,
 }
 
 /// What a socket brings that comes to the station, and in pieces of how many bytes.
@@ -49,6 +53,8 @@ pub struct Run {
     pub fails: Fails,
     /// How many items the station has room for.
     pub room: u32,
+    /// How many bytes the station has room for.
+    pub carries: u32,
     pub sockets: Vec<Socket>,
 }
 
@@ -95,7 +101,7 @@ impl Fails {
 
 impl Wants {
     /// Nothing is wanted.
-    fn nothing() -> Wants {
+    fn nothing(alloc: Global) -> Wants {
         Wants {
             writes: None,
             among: None,
@@ -105,6 +111,8 @@ impl Wants {
             polls: None,
             keeps: None,
             gives: None,
+            open: Vec::new(alloc),
+            shut: Vec::new(alloc),
         }
     }
 
@@ -113,12 +121,16 @@ impl Wants {
         let has_text = self.writes.is_some() || self.among.is_some() || self.ends.is_some();
         let has_end = self.lines.is_some() || self.status.is_some() || self.polls.is_some();
         let has_bytes = self.keeps.is_some() || self.gives.is_some();
-        !has_text && !has_end && !has_bytes
+        let has_sockets = !self.open.is_empty() || !self.shut.is_empty();
+        !has_text && !has_end && !has_bytes && !has_sockets
     }
 }
 
 /// How many items a station has room for, where a case doesn't say it.
 const USUAL_ROOM: u32 = 4000;
+
+/// How many bytes a station has room for, where a case doesn't say it.
+const USUALLY_CARRIED: u32 = 16_384;
 
 impl Run {
     /// A run of no words, without files and input.
@@ -129,6 +141,7 @@ impl Run {
             input: Vec::new(alloc),
             fails: Fails::none(alloc),
             room: USUAL_ROOM,
+            carries: USUALLY_CARRIED,
             sockets: Vec::new(alloc),
         }
     }
@@ -141,7 +154,7 @@ impl Case {
             line,
             sentence,
             run: Run::new(alloc),
-            wants: Wants::nothing(),
+            wants: Wants::nothing(alloc),
             part: Part::Nothing,
         }
     }

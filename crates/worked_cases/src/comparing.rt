@@ -144,6 +144,39 @@ fn counts_of(wants: &Wants, ran: &Ran) -> [(&'static str, Option<usize>, usize);
     ]
 }
 
+/// The first of these sockets that is open where it isn't wanted so, or the other way round.
+fn socket_differs(
+    alloc: Global,
+    sockets: &[u32],
+    open: &[u32],
+    is_wanted_open: bool,
+) -> Result<Option<String>, AllocError> {
+    for socket in sockets {
+        if open.contains(socket) != is_wanted_open {
+            let stands = if is_wanted_open {
+                "isn't open"
+            } else {
+                "is open"
+            };
+            let text = format!(in alloc; "  socket {socket} {stands}\n")?;
+            return Ok(Some(text));
+        }
+    }
+    Ok(None)
+}
+
+/// The first socket that stands otherwise than it is wanted, as a text, if there is one.
+fn sockets_otherwise(
+    alloc: Global,
+    wants: &Wants,
+    open: &[u32],
+) -> Result<Option<String>, AllocError> {
+    if let Some(said) = socket_differs(alloc, wants.open.as_slice(), open, true)? {
+        return Ok(Some(said));
+    }
+    socket_differs(alloc, wants.shut.as_slice(), open, false)
+}
+
 /// The first thing in which a run differs from what the case wants, as a text, if there is one.
 pub fn differs(alloc: Global, wants: &Wants, ran: &Ran) -> Result<Option<String>, AllocError> {
     if let Some(said) = writes_otherwise(alloc, wants, ran.text.as_slice())? {
@@ -154,5 +187,5 @@ pub fn differs(alloc: Global, wants: &Wants, ran: &Ran) -> Result<Option<String>
             return Ok(Some(said));
         }
     }
-    Ok(None)
+    sockets_otherwise(alloc, wants, ran.open.as_slice())
 }

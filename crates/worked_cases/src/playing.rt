@@ -16,11 +16,11 @@ use std::alloc::{AllocError, Global};
 /// How many bytes a run may write.
 const MOST_WRITTEN: usize = 2_097_152;
 
-/// How many bytes a station has room for.
-const MOST_CARRIED: u32 = 16_384;
+/// How many sockets are looked at behind a run: those that a station has at most.
+const MOST_SOCKETS: u32 = 512;
 
-/// How a run ended: its status, what it wrote, how many polls it made, how many bytes it kept, and
-/// how many it gave on its first socket.
+/// How a run ended: its status, what it wrote, how many polls it made, how many bytes it kept, how
+/// many it gave on its first socket, and which sockets are open.
 #[derive(Drop)]
 pub struct Ran {
     pub status: u8,
@@ -28,6 +28,7 @@ pub struct Ran {
     pub polls: u32,
     pub kept: usize,
     pub given: usize,
+    pub open: Vec<u32>,
 }
 
 /// Brings a new socket, and what it brings in pieces.
@@ -53,7 +54,7 @@ fn bring(alloc: Global, station: &mut MemoryStation, brought: &Socket) -> Result
 fn bare_station(alloc: Global, asked: &Run) -> Result<MemoryStation, AllocError>
     ensures { IfOk result (λ station. station.book.history ≡ []) }
 {
-    let mut station = MemoryStation::new(alloc, asked.room, MOST_CARRIED)?;
+    let mut station = MemoryStation::new(alloc, asked.room, asked.carries)?;
     match asked.fails.station {
         None => Ok(station),
         Some(number) => {
@@ -95,6 +96,17 @@ fn given_first(station: &MemoryStation) -> usize {
     station.given(0, 0, &mut out)
 }
 
+/// The numbers of the sockets that are open.
+fn open_in(alloc: Global, station: &MemoryStation) -> Result<Vec<u32>, Fault> {
+    let mut open = Vec::new(alloc);
+    for socket in 0..MOST_SOCKETS {
+        if station.is_open(socket) {
+            open.push(socket)?;
+        }
+    }
+    Ok(open)
+}
+
 /// What shows of a run that ended so.
 fn ran_of(
     alloc: Global,
@@ -107,12 +119,14 @@ fn ran_of(
     let polls = station.polls();
     let kept = station.kept().len();
     let given = given_first(station);
+    let open = open_in(alloc, station)?;
     Ok(Ran {
         status,
         text,
         polls,
         kept,
         given,
+        open,
     })
 }
 

@@ -40,6 +40,13 @@ fn want_count(wanted: &mut Option<usize>, text: &str) -> Result<Part, Fault> {
     Ok(Part::Nothing)
 }
 
+/// These numbers are wanted from now on.
+fn want_numbers(wanted: &mut Vec<u32>, book: &Book, text: &str) -> Result<Part, Fault> {
+    refuse_again(!wanted.is_empty())?;
+    *wanted = numbers_of(book, text)?;
+    Ok(Part::Nothing)
+}
+
 /// A text is wanted from now on, of which no line stands yet. Its lines are this part.
 fn want_text(alloc: Global, wanted: &mut Option<Vec<u8>>, part: Part) -> Result<Part, Fault> {
     refuse_again(wanted.is_some())?;
@@ -142,14 +149,30 @@ impl Run {
             "fail" => self.say_fails(book, line.rest)?,
             "room" => self.say_room(line.rest)?,
             "socket" => self.say_socket(book, line.rest)?,
+            "sockets" => self.say_sockets(book, line.rest)?,
             _ => return Ok(None),
         };
         Ok(Some(part))
     }
 
-    /// The station has room for so many items.
-    fn say_room(&mut self, items: &str) -> Result<Part, Fault> {
-        self.room = number(items)?;
+    /// So many sockets come that bring nothing.
+    fn say_sockets(&mut self, book: &Book, count: &str) -> Result<Part, Fault> {
+        let count = number::<u32>(count)?;
+        for _ in 0..count {
+            let bytes = Vec::new(book.alloc);
+            self.sockets.push(Socket { bytes, size: 1 })?;
+        }
+        Ok(Part::Nothing)
+    }
+
+    /// The station has room for so many items, and perhaps for so many bytes, by the words `ITEMS`
+    /// or `ITEMS BYTES`.
+    fn say_room(&mut self, words: &str) -> Result<Part, Fault> {
+        let line = line_of(words);
+        self.room = number(line.word)?;
+        if !line.rest.is_empty() {
+            self.carries = number(line.rest)?;
+        }
         Ok(Part::Nothing)
     }
 
@@ -183,6 +206,8 @@ impl Wants {
             "polls" => want_count(&mut self.polls, line.rest),
             "keeps" => want_count(&mut self.keeps, line.rest),
             "gives" => want_count(&mut self.gives, line.rest),
+            "open" => want_numbers(&mut self.open, book, line.rest),
+            "shut" => want_numbers(&mut self.shut, book, line.rest),
             _ => Err(Fault::Wanted("a word of the format")),
         }
     }

@@ -170,6 +170,42 @@ fn lines_spelled(book: &Book, words: &str) -> Result<Vec<u8>, Fault> {
     times(book, count, line.as_slice())
 }
 
+/// The text with this number for each `#`.
+fn counted(book: &Book, text: &str, number: u32) -> Result<String, Fault> {
+    let digits = format!(in book.alloc; "{number}")?;
+    let mut out = String::new(book.alloc);
+    let mut pieces = text.split('#');
+    if let Some(front) = pieces.next() {
+        out.push_str(front)?;
+    }
+    for piece in pieces {
+        out.push_str(digits.as_str())?;
+        out.push_str(piece)?;
+    }
+    Ok(out)
+}
+
+/// Puts the line of a text with this number for each `#`.
+fn put_counted(book: &Book, text: &str, number: u32, out: &mut Vec<u8>) -> Result<(), Fault> {
+    let text = counted(book, text, number)?;
+    let line = line_spelled(book, text.as_str())?;
+    out.extend_from_slice(line.as_slice())?;
+    Ok(())
+}
+
+/// The lines of the words `FROM TO TEXT`, one for each number.
+fn lines_counted(book: &Book, words: &str) -> Result<Vec<u8>, Fault> {
+    let from = line_of(words);
+    let to = line_of(from.rest);
+    let first = number::<u32>(from.word)?;
+    let last = number::<u32>(to.word)?;
+    let mut out = Vec::new(book.alloc);
+    for number in first..=last {
+        put_counted(book, to.rest, number, &mut out)?;
+    }
+    Ok(out)
+}
+
 /// The bytes of the words `COUNT DIGITS`, so many times.
 fn all_bytes_spelled(book: &Book, words: &str) -> Result<Vec<u8>, Fault> {
     let words = line_of(words);
@@ -179,12 +215,13 @@ fn all_bytes_spelled(book: &Book, words: &str) -> Result<Vec<u8>, Fault> {
 }
 
 /// The bytes that a line with a mark says: `| TEXT` a line with its LF, `/ TEXT` a text without
-/// one, `x DIGITS` bytes, and `|* COUNT TEXT` and `x* COUNT DIGITS` the same so many times. None
-/// where it has no mark.
+/// one, `x DIGITS` bytes, `|* COUNT TEXT` and `x* COUNT DIGITS` the same so many times, and
+/// `|# FROM TO TEXT` a line for each number, which stands for each `#`. None where it has no mark.
 pub fn marked(book: &Book, mark: &str, text: &str) -> Result<Option<Vec<u8>>, Fault> {
     let bytes = match mark {
         "|" => line_spelled(book, text)?,
         "|*" => lines_spelled(book, text)?,
+        "|#" => lines_counted(book, text)?,
         "/" => spelled(book, text)?,
         "x" => bytes_spelled(book, text)?,
         "x*" => all_bytes_spelled(book, text)?,
