@@ -1,4 +1,4 @@
-//! The machine's own sockets, files and clock, as tests: calls over loopback, log files, and matches of the program.
+//! The machine's own sockets, files and clock, as tests: calls over loopback, log files, and matches over them.
 //!
 //! What can fail here while the proofs hold: no contract says what comes over a wire, stands on a disk, or how long a
 //! call waits. A library without functions of its own: everything in it is a test.

@@ -1,7 +1,8 @@
-//! A run of the program over the machine's files and sockets.
+//! A run of a command over the machine's files and sockets. It is that of the program, but for the
+//! words, which clap doesn't split here.
 
 use file_shelf::FileShelf;
-use peer_cli::run;
+use peer_runs::run;
 use rand_chacha::ChaCha20Rng;
 use rand_core::SeedableRng;
 use station::{MemorySink, MemorySource};

@@ -1,16 +1,10 @@
-//! Moves texts: what is chosen by one, and the lines at which others are at fault.
+//! What is chosen by a text of moves.
 
 use crate::pilot_moves::asked;
 use crate::sessions::session_of;
 use definitions::{Cell, Move, Track};
-use grid_world::Session;
-use pilots::{ScriptPilot, TextFault, print_moves};
-use std::alloc::Global;
+use pilots::{ScriptPilot, print_moves};
 use std::test::Fail;
-
-/// A session of three turns.
-const SHORT: &[u8] =
-    b"playout 1\ngrid 12 1\nrules 1 1 0\ncharge 1 2 1\nturns 3\nplayers 2\nplayer 0 0 0\nplayer 1 9 0\nend\n";
 
 /// A session of eight turns.
 const LONG: &[u8] =
@@ -47,47 +41,5 @@ fn a_script_is_followed_and_then_stays(rt: HostRuntime) -> Result<(), Fail> {
     assert_eq!(rt; sent(&mut pilot, 5).strike, strike);
     let printed = print_moves(rt.alloc(), pilot.moves())?;
     assert!(rt; printed.as_slice() == text);
-    Ok(())
-}
-
-/// The line at which a text of three turns is at fault, if it is.
-fn fault_of(alloc: Global, session: &Session, text: &[u8]) -> Option<TextFault> {
-    ScriptPilot::read(alloc, text, session).err()
-}
-
-#[test]
-fn faulty_lines_are_named(rt: HostRuntime) -> Result<(), Fail> {
-    let session = session_of(rt.alloc(), SHORT)?;
-    let rows = [
-        (b"".as_slice(), 1),
-        (b"0 0\n", 2),
-        (b"0 0\n0 0\n", 3),
-        (b"0 0\n0 0\n0 0", 3),
-        (b"0 0\n0 0\n0 0\n0 0\n", 4),
-        (b"0 0\n0 0\n0 0\n\n", 4),
-        (b"0 0\n0 0\n0 0\nx", 4),
-        (b"0 0\n\n0 0\n", 2),
-        (b"0\n0 0\n0 0\n", 1),
-        (b"0 0 0\n0 0\n0 0\n", 1),
-        (b"0 0\n0 0 0 0 0\n0 0\n", 2),
-        (b"0 0\n65536 0\n0 0\n", 2),
-        (b"0 0\n0 65536\n0 0\n", 2),
-        (b"0 0\n0 0 65536 0\n0 0\n", 2),
-        (b"0 0\n0 0 0 65536\n0 0\n", 2),
-        (b"0 0\n0 0\n00 0\n", 3),
-        (b"0 0\n0 0\n0 01\n", 3),
-        (b" 0 0\n0 0\n0 0\n", 1),
-        (b"0  0\n0 0\n0 0\n", 1),
-        (b"0 0 \n0 0\n0 0\n", 1),
-        (b"0 0\r\n0 0\n0 0\n", 1),
-        (b"0 0\n-1 0\n0 0\n", 2),
-    ];
-    for (text, line) in rows {
-        assert_eq!(rt;
-            fault_of(rt.alloc(), &session, text),
-            Some(TextFault::At(line)),
-            "line {line}"
-        );
-    }
     Ok(())
 }

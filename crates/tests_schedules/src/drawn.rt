@@ -1,14 +1,14 @@
 //! Drawn schedules of larger matches, by seed: some hundred steps, and then on to an end.
 
+use crate::plain::audits::{agrees_on_all, audit};
+use crate::plain::checks::check_table;
+use crate::plain::dice::{Dice, Match, match_of};
+use crate::plain::drawing::{any_step, asked_of};
+use crate::plain::plain_steps::log_in;
+use crate::plain::scripts::told;
+use crate::plain::taking::take;
+use crate::plain::worlds::{Trouble, hold};
 use definitions::PlayerId;
-use plain_schedule::audits::{agrees_on_all, audit};
-use plain_schedule::checks::check_table;
-use plain_schedule::dice::{Dice, Match, match_of};
-use plain_schedule::drawing::{any_step, asked_of};
-use plain_schedule::plain_steps::log_in;
-use plain_schedule::scripts::told;
-use plain_schedule::taking::take;
-use plain_schedule::worlds::{Trouble, hold};
 use schedule::{Stand, Step, Table, has_players};
 use std::alloc::Global;
 use std::process::Abort;

@@ -1,9 +1,9 @@
 //! The graphs of the scenes are walked.
 
-use plain_schedule::explorer::Graph;
-use plain_schedule::scenes::{HOSTILE, PAIRS, TRIOS, Walk};
-use plain_schedule::scripts::told;
-use plain_schedule::worlds::world_of;
+use crate::plain::explorer::Graph;
+use crate::plain::scenes::{HOSTILE, PAIRS, TRIOS, Walk};
+use crate::plain::scripts::told;
+use crate::plain::worlds::world_of;
 use std::alloc::Global;
 use std::process::Abort;
 use std::test::Fail;

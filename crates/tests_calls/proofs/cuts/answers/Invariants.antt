@@ -1,5 +1,0 @@
-use Rattle.std.proofs.Common.{◌≤◌, length}
-use Rattle.tests_calls.proofs.cuts.answers.Given as goal
-
-abbrev pub invariant-answers : goal.invariant-answers
-invariant-answers l = (l.reader.at ≤ length l.log) × (length l.log ≤ 1000)
