@@ -1,4 +1,4 @@
--- Fair: an honest log's reveals stand behind the commitments of all that meet, and what it accepts opens what it holds.
+-- Fair: an honest log's reveals stand after the commitments of all that meet, and what it accepts opens what it holds.
 use Rattle.std.proofs.Common.{List, None, Option, Some, inl, inr, refl, subst, ℕ, ◌++◌, ◌<◌, ◌∷◌, ◌≡◌, ◌≤◌, ◌⊎◌}
 use Rattle.std.specs.Prelude.{IsSome, IsTrue}
 use Rattle.definitions.specs.declared.logs.Entry.{Entry}

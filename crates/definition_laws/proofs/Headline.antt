@@ -1,4 +1,4 @@
--- What is held was committed first, what is resolved opens it, and a reveal stands behind the commitments of all who meet.
+-- What is held was committed first, what is resolved opens it, and a reveal stands after the commitments of all who meet.
 use Rattle.std.proofs.Common.{Bool, List, None, Some, [], ap, false, inl, inr, length, refl, subst, suc, sym, true, zero, ℕ, ◌*◌, ◌++◌, ◌+◌, ◌∙◌, ◌∷◌, ◌≡◌, ◌⊎◌}
 use Rattle.std.specs.Prelude.{Option, if◌then◌else◌, is_some, min, nat_lt, not, slice_get, ◌&&◌, ◌==◌}
 use Rattle.std.specs.Option.{option_or}
@@ -126,7 +126,7 @@ resolved_opens game me q t h m e =
     let o = s.opens t m e in
     (o.0, o.1, s.first t o.0 o.1, o.2)
 
--- in an honest log each reveal made stands behind a commitment that is held of each other player that meets
+-- in an honest log each reveal made stands after a commitment that is held of each other player that meets
 pub reveal_behind : (game : Game) (me t : ℕ) (g rest : List Entry) (m : Move) (n : Nonce) (front back : List ℕ) (q : ℕ) →
     IsHonest game me (g ++ Made (Reveal me t m n) ∷ rest) → others game me ≡ front ++ q ∷ back → meets game me g q t ≡ true →
     (d : Digest) × (held game me g q t ≡ Some d) × (first_commit (frames_of me q g) t ≡ Some d)

@@ -29,7 +29,7 @@ pub fn choices()
     ensures one { ChoosesOneAtATime }
 {}
 
-/// A reveal stands behind the commitments of all who meet, and what is resolved opens what is held.
+/// A reveal stands after the commitments of all who meet, and what is resolved opens what is held.
 pub fn fair_play()
     ensures behind { RevealsStandBehind }
     ensures opens { ResolvedOpens }

@@ -1,4 +1,4 @@
--- Fair: the log of a peer that is driven is honest, and its reveals stand behind the commitments of all that meet.
+-- Fair: the log of a peer that is driven is honest, and its reveals stand after the commitments of all that meet.
 use Rattle.std.proofs.Common.{Bool, List, [], false, true, ℕ, ◌+◌, ◌∷◌, ◌≤◌}
 use Rattle.definitions.specs.declared.logs.Entry.{Entry}
 use Rattle.definitions.specs.World.{Game}

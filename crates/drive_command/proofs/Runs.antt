@@ -22,7 +22,7 @@ use Rattle.drive_command.specs.Drive.{drive_log, log_from, said_behind, state_be
 use Rattle.drive_command.specs.Laws.{steps_from, steps_in, steps_of}
 
 module _ (game : Game) (me : ℕ) where
-  -- behind a finding no step changes a log
+  -- after a finding no step changes a log
   still_choice : (h : List Entry) (mv : Move) (nonce : Nonce) → is_clean game h ≡ false → after_choice game me h mv nonce ≡ h
   unfolding may_choose
   still_choice h mv nonce c = rw c refl

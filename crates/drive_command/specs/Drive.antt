@@ -85,7 +85,7 @@ log_from game me s n (line ∷ lines) =
     log_by (is_bad (said_behind game n line)) s.log
     (log_on game (state_behind game me s (said_behind game n line)).log (log_from game me (state_behind game me s (said_behind game n line)) (n + 1) lines))
 
--- the log that the peer has at the end of its run, behind the answer `drive`
+-- the log that the peer has at the end of its run, after the answer `drive`
 unfoldable pub drive_log : Game → ℕ → List Entry → Input → List Entry
 drive_log game me first input = log_on game (advance game me first) (log_from game me (fresh_state (advance game me first)) 0 (lines_in input))
 

@@ -89,7 +89,7 @@ steps_from game me s n (line ∷ lines) =
     if is_bad (said_behind game n line) then [] else steps_of s (said_behind game n line) ++ steps_from game me (state_behind game me s (said_behind game n line)) (n + 1) lines
 
 -- The log that a peer has at the end of its run is that of the protocol's steps, one behind the other, which its script's lines
--- bring: behind a finding no step changes a log.
+-- bring: after a finding no step changes a log.
 abbrev pub DrivesAreRuns : Type 0
 DrivesAreRuns = (game : Game) (me : ℕ) (first : List Entry) (input : Input) → let h = advance game me first in
     drive_log game me first input ≡ log_run game me h (steps_from game me (fresh_state h) 0 (lines_in input))

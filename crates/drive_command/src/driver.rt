@@ -170,7 +170,7 @@ impl Driver {
         }
     }
 
-    /// Takes the next line, which has at most `LONGEST_LINE` bytes. No line comes behind a finding. Bytes that the line brings are still
+    /// Takes the next line, which has at most `LONGEST_LINE` bytes. No line comes after a finding. Bytes that the line brings are still
     /// to be read.
     pub(crate) fn take_line(&mut self, line: &[u8]) -> Outcome
         requires short { length line.now ≤ LONGEST_LINE }

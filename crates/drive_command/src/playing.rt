@@ -58,7 +58,7 @@ fn answer_last<O: Sink>(driver: &mut Driver, line: &[u8], out: &mut O) -> Status
     }
 }
 
-/// Reads the next line and answers it; behind a finding nothing is read.
+/// Reads the next line and answers it; after a finding nothing is read.
 fn answer_line<I: Source, O: Sink>(
     driver: &mut Driver,
     reader: &mut LineReader,
@@ -114,7 +114,7 @@ fn follow<I: Source, O: Sink>(
     let mut reader = LineReader::new();
     match put_start(driver.peer(), entries, out) {
         Written::All => {
-            // the input is left alone behind a finding with which the peer begins
+            // the input is left alone after a finding with which the peer begins
             if driver.peer().finding().is_some() {
                 return end_caught(driver, out);
             }
@@ -124,7 +124,7 @@ fn follow<I: Source, O: Sink>(
     }
 }
 
-/// Lets the peer advance, and then answers the lines of the input as its script. Nothing is written behind a fault.
+/// Lets the peer advance, and then answers the lines of the input as its script. Nothing is written after a fault.
 pub fn play<I: Source, O: Sink>(peer: Peer, input: &mut I, out: &mut O) -> Status
 
     // What is read and written, and how the run ends: as is due for the bytes that were read, whatever stands behind them.

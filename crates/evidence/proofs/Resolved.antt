@@ -78,7 +78,7 @@ held_by game q u h d e =
     let r = held_is_first game (suc q) q u h d (ap (λ (k : Known). slice_get k.digests u) (got_is game q h) ∙ e) in
     record { player = r.0; front = r.1; back = r.2; stands = sym (frames_are q h) ∙ r.3; first = r.4 }
 
--- what `find` gives behind items that give nothing
+-- what `find` gives after items that give nothing
 pub find_there : {X Y : Type 0} (g : X → Option Y) (front back : List X) (x : X) → EachIs (λ z. g z ≡ None) front → is_some (g x) ≡ true → find (λ z. is_some (g z)) (front ++ x ∷ back) ≡ Some x
 find_there g [] back x each some = rw some refl
 find_there g (z ∷ front) back x each some = rw each.0 (find_there g front back x each.1 some)

@@ -29,7 +29,7 @@ world_same : (game : Game) (b : Bool) (line other : ℕ → Option WorldLine) �
 world_same game true line other same = world_alike line other (players_of game) same
 world_same game false line other same = refl
 
--- what stands behind the findings
+-- what stands after the findings
 pub rest_same : (game : Game) (count count' : ℕ → ℕ) (b : Bool) (line line' : ℕ → Option WorldLine) →
     ((q : ℕ) → q < players_of game → count q ≡ count' q) → ((q : ℕ) → q < players_of game → line q ≡ line' q) → rest_text game count b line ≡ rest_text game count' b line'
 unfolding rest_text

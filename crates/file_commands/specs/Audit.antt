@@ -38,7 +38,7 @@ world_text game told line = if told then world_lines line 0 (players_of game) el
 abbrev pub last_text : Game → Bool → (ℕ → Option WorldLine) → List ℕ
 last_text game told line = world_text game told line ++ end_line_text
 
--- what is written behind the findings: how many turns of each player are agreed, where each stands, and the end
+-- what is written after the findings: how many turns of each player are agreed, where each stands, and the end
 unfoldable pub rest_text : Game → (ℕ → ℕ) → Bool → (ℕ → Option WorldLine) → List ℕ
 rest_text game count told line = agreed_lines count 0 (players_of game) ++ last_text game told line
 

@@ -133,7 +133,7 @@ fn put_last<O: Sink>(session: &Session, report: &Report, out: &mut O) -> Written
     }
 }
 
-/// Writes what stands behind the findings.
+/// Writes what stands after the findings.
 #[tactic(auto, unfolding(crate::specs::Audit::rest_text))]
 fn put_rest<O: Sink>(session: &Session, report: &Report, out: &mut O) -> Written
     ensures { Puts (O.state out.old) (O.state out.new) (A.rest_text session.now (agreed_by report.now) (is_some (world_by report.now 0)) (world_by report.now)) result }

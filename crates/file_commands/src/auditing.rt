@@ -27,7 +27,7 @@ fn status_by(found: &[Finding]) -> Status
 }
 
 /// Prints what the logs show that the auditor took: each finding with the evidence that shows it, how many turns of each player the
-/// logs agree on, and where each player stands at the end. Memory for the evidence is taken behind the first byte too: where it is
+/// logs agree on, and where each player stands at the end. Memory for the evidence is taken after the first byte too: where it is
 /// wanting, a front of the text was written.
 ///
 /// The auditor is of this session, and each log of which it was told an owner is one that the owner may have written. Of other logs

@@ -17,7 +17,7 @@ front_from a b c d x y =
     let at_resolved : ℕ → Front = λ n. record { commits = c; resolved = n } in
     ap at_commits x ∙ ap at_resolved y
 
--- behind a commitment comes the place with one more
+-- after a commitment comes the place with one more
 after_commit : (game : Game) (a b : ℕ) → a < min (b + game.ahead) game.turns → front_after game (record { commits = a; resolved = b }) ≡ record { commits = a + 1; resolved = b }
 after_commit game a b lt = ap (λ (x : Bool). after_by x (record { commits = a; resolved = b })) (lt-ltb _ _ lt)
 

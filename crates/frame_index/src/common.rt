@@ -152,7 +152,7 @@ fn read_first_commits(
     true
 }
 
-/// Reads the commitment that comes behind the turn's reveal, if one does, and says whether its turn is plain.
+/// Reads the commitment that comes after the turn's reveal, if one does, and says whether its turn is plain.
 fn read_next_commit(
     index: &FrameIndex,
     session: &Session,

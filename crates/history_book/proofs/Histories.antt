@@ -81,7 +81,7 @@ begun-from name parts (item ∷ items) =
 pub begun-parts : (name : List ℕ) (items : List Item) → list_any (names_log name) (parts_in items) ≡ is_begun name items
 begun-parts name items = begun-from name [] items
 
--- the dials for each player behind a dial
+-- the dials for each player after a dial
 after-dial : (q player : ℕ) (dial : Dial) (addr : Addr) (d : Dials) → dials_after q d (dial_item dial player addr) ≡ (if player == q then dialled_once (dialled_by dial) d else d)
 after-dial q player (Socket s) addr d = refl
 after-dial q player DialFailed addr d = refl
@@ -129,7 +129,7 @@ seen-more history t table new parts more j k item s call poll size dials part ke
       marks_kept = ap (λ (x : Marking). x.kept) m;
     }
 
--- the same behind a dial
+-- the same after a dial
 is-call : (dial : Dial) (player : ℕ) (addr : Addr) → is_call (dial_item dial player addr) ≡ true
 is-call (Socket s) player addr = refl
 is-call DialFailed player addr = refl
@@ -163,7 +163,7 @@ seen-dial history t table parts j player dial addr h s =
     by-test q true e = let i : player ≡ q = grind (arith, nat_tests) in ap (λ (k : ℕ). dialled_once (dialled_by dial) (get_or table k no_dials)) i
     by-test q false e = refl
 
--- the same behind a write that gave bytes
+-- the same after a write that gave bytes
 pub seen-gave : (history : List Item) (t : Tally) (table : List Dials) (parts : List HeldPart) (j : HeldJournal) (s : ℕ) (bytes : List ℕ) → IsSeen history t table parts j
     → IsSeen (history ++ I.Gave s bytes ∷ []) (called t) table (with_part (Given s) bytes parts) j
 seen-gave history t table parts j s bytes h =

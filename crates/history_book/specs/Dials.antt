@@ -13,12 +13,12 @@ no_dials = record { last = None; count = 0 }
 abbrev pub dialled_once : Option ℕ → Dials → Dials
 dialled_once socket d = record { last = option_or socket d.last; count = short (d.count + 1) }
 
--- the dials for a player behind a call that failed
+-- the dials for a player after a call that failed
 abbrev pub dials_failed : ℕ → Dials → Call → Dials
 dials_failed q d (DialCall player addr) = if player == q then dialled_once None d else d
 dials_failed q d _ = d
 
--- the dials for a player behind an item
+-- the dials for a player after an item
 abbrev pub dials_after : ℕ → Dials → Item → Dials
 dials_after q d (Dialled s player addr) = if player == q then dialled_once (Some s) d else d
 dials_after q d (Failed call) = dials_failed q d call

@@ -15,6 +15,6 @@ HasRoomFor room bytes = room.spent ≡ None → (0 < room.items) × (bytes ≤ r
 abbrev pub spent_by : ℕ → Room → Room
 spent_by bytes room = if is_none room.spent then record { items = room.items - 1; bytes = room.bytes - bytes; spent = room.spent } else room
 
--- the room behind a call that found too little, when so many items were told: the first such call counts
+-- the room after a call that found too little, when so many items were told: the first such call counts
 abbrev pub cut_at : ℕ → Room → Room
 cut_at told room = if is_none room.spent then record { items = room.items; bytes = room.bytes; spent = Some told } else room

@@ -82,7 +82,7 @@ fetching_none s name = record {
     go (Some f) = tt
     go None = tt
 
--- the pieces behind one call more
+-- the pieces after one call more
 module _ (a b c : ShelfState) (name : List ℕ) (next : ℕ) (gave : Option (List ℕ)) (f : Fetching a b name next) (call : IsCall b c name next gave) where
   piece : Piece
   piece = record { name = name; at = next; gave = gave }

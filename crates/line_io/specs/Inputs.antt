@@ -32,7 +32,7 @@ ending_of (Line line input) = ending_of input
 ending_of End = AtEnd
 ending_of Fault = AtFault
 
--- an input of which these bytes are read until its end or until a fault: behind a fault a line that has no LF yet is not read
+-- an input of which these bytes are read until its end or until a fault: after a fault a line that has no LF yet is not read
 abbrev pub input_of : Ending → List ℕ → Input
 input_of AtEnd bytes = lines_then (lines_of bytes) End
 input_of AtFault bytes = lines_then (closed_lines_of bytes) Fault

@@ -53,7 +53,7 @@ fn taken_at(end: Next) -> LogTaken
 ///
 /// Whole comes exactly where the file was read to its end and is a log of the session, or empty: then the auditor stands for the logs
 /// with the file's entries at the end of that log, which is the file's owner's. Bad comes exactly where it was read so far that it is
-/// none, and names the first fault, TooLong before any other, so that reading goes on behind a fault. Failed comes exactly where the
+/// none, and names the first fault, TooLong before any other, so that reading goes on after a fault. Failed comes exactly where the
 /// shelf counts a fault in this call, and Memory where the auditor's allocator has none. In these three cases the first of the file's
 /// entries were taken. Other logs are left alone.
 pub fn take_log<H: Shelf>(

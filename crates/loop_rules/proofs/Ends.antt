@@ -1,4 +1,4 @@
--- Ends: behind a fault of the log, of listening or of a poll nothing may come; and what is given is due.
+-- Ends: after a fault of the log, of listening or of a poll nothing may come; and what is given is due.
 use Rattle.std.proofs.Common.{◌≡◌, inl, inr, ℕ, Bool, true, false, refl, List, [], ◌∷◌}
 use Rattle.std.specs.Prelude.{Option, Some, None, is_some}
 use Rattle.std.proofs.lemmas.Bool.{and_parts, or_cases}
@@ -128,7 +128,7 @@ ended_behind v (WriteCall s) e = absurd (cc)
 ended_behind v (KeepCall bytes) e = refl
 ended_behind v SyncCall e = refl
 
--- behind a fault nothing comes
+-- after a fault nothing comes
 pub none_behind : (v : View) (items : List Item) → is_ended v.phase ≡ true → are_allowed v items ≡ true → items ≡ []
 none_behind v [] e h = refl
 none_behind v (item ∷ items) e h = absurd (no_item v item e (and_parts _ _ h).0)

@@ -252,7 +252,7 @@ setting_after v (Failed (WriteCall s)) = refl
 setting_after v (Failed (KeepCall bytes)) = refl
 setting_after v (Failed SyncCall) = refl
 
--- ---- the lines behind an item
+-- ---- the lines after an item
 
 sorted_lines : (arrivals : List Arrival) (v : View) → (sorted arrivals v).table.lines ≡ v.table.lines
 sorted_lines [] v = refl
@@ -271,7 +271,7 @@ kept_lines : (v : View) (o : Option Entry) → (kept_entry v o).table.lines ≡ 
 kept_lines v None = refl
 kept_lines v (Some e) = sorted_lines (with_entry e v).table.waiting (with_entry e v)
 
--- the lines behind an item stand, and their sockets differ
+-- the lines after an item stand, and their sockets differ
 abbrev pub StandsAfter : List Item → View → Item → Type 0
 StandsAfter items v item = EachIs (LineStands (items ++ item ∷ [])) (after v item).table.lines × Differ (after v item).table.lines
 

@@ -1,4 +1,4 @@
--- After: what is shown behind an item.
+-- After: what is shown after an item.
 use Rattle.std.specs.Prelude.{ℕ, ◌+◌, false, not, nat_lt, List, [], ◌∷◌, ◌++◌, Option, Some, None, filter, length, map, min, slice_get}
 use Rattle.std.specs.List.{fold}
 use Rattle.definitions.specs.declared.frames.TurnFrame.{TurnFrame}
@@ -63,7 +63,7 @@ abbrev pub gave_by : Speaker → (safe : List TurnFrame) → (count : ℕ) → T
 gave_by s safe count t None = t
 gave_by s safe count t (Some l) = gave_with s (own_at safe l) count t (desk_of t l)
 
--- what is shown behind a call that failed
+-- what is shown after a call that failed
 abbrev pub after_failed : View → Call → View
 after_failed v (ListenCall addr) = in_phase PollFault v
 after_failed v (LogCall name) = in_phase KeepFault v
@@ -74,7 +74,7 @@ after_failed v (WriteCall s) = with_table (at_line s closed v.table) v
 after_failed v (KeepCall bytes) = in_phase KeepFault v
 after_failed v SyncCall = in_phase KeepFault v
 
--- what is shown behind an item
+-- what is shown after an item
 abbrev pub after : View → Item → View
 after v (LogBegun name) = in_phase Logged v
 after v (Listening addr) = in_phase Running v

@@ -35,7 +35,7 @@ passed v a =
 abbrev pub is_new_to : View → Arrival → Bool
 is_new_to v a = is_new v.setting.game v.setting.me v.kept a.player a.frame
 
--- the frames that wait are handled up to the first that is new; behind a finding none is logged
+-- the frames that wait are handled up to the first that is new; after a finding none is logged
 abbrev pub sorted : List Arrival → View → View
 sorted [] v = with_waiting [] v
 sorted (a ∷ more) v =

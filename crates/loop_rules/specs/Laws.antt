@@ -63,7 +63,7 @@ FailedPollsAreLicensed = (s : Setting) (items more : List Item) → IsHistory s 
 abbrev pub ends_run : Call → Bool
 ends_run call = is_poll_call call || is_keep_call call
 
--- behind such a failure nothing stands
+-- after such a failure nothing stands
 abbrev pub FaultsAreLast : Type 0
 FaultsAreLast = (s : Setting) (items more : List Item) (call : Call) → ends_run call ≡ true → IsHistory s (items ++ Failed call ∷ more) → more ≡ []
 

@@ -21,14 +21,14 @@ is_running Running = true
 is_running KeepFault = false
 is_running PollFault = false
 
--- Reading. Each open socket was read until nothing was there, behind its opening and behind the last poll that listed it.
+-- Reading. Each open socket was read until nothing was there, after its opening and after the last poll that listed it.
 abbrev pub is_read : Line → Bool
 is_read l = not l.is_open || l.is_quiet
 
 abbrev pub all_is_read : Table → Bool
 all_is_read t = list_all is_read t.lines
 
--- Giving. On each open socket all that is due was given, or the last write was refused behind the last poll that listed the socket.
+-- Giving. On each open socket all that is due was given, or the last write was refused after the last poll that listed the socket.
 abbrev pub has_due_at : (made : ℕ) → Option Desk → Bool
 has_due_at made None = false
 has_due_at made (Some d) = has_due made d

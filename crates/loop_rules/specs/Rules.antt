@@ -86,7 +86,7 @@ is_within t count (Some l) = nat_lt 0 count && nat_le count (room_on t l)
 abbrev pub may_take : View → (s : ℕ) → List ℕ → Bool
 may_take v s bytes = may_read v s && is_empty v.table.waiting && is_within v.table (length bytes) (line_of v.table s)
 
--- ---- writing: an open socket that is not to be shut, behind no write that was refused, and the bytes that go out next
+-- ---- writing: an open socket that is not to be shut, after no write that was refused, and the bytes that go out next
 
 abbrev pub due_at : Speaker → (own : Option TurnFrame) → Option Desk → List ℕ
 due_at s own None = []

@@ -92,7 +92,7 @@ beginning =
 abbrev pub greeting : List Item
 greeting = Dialled 0 1 (told_addr (addr_at 7001)) ∷ Gave 0 (hello_of 0) ∷ ReadNotYet 0 ∷ []
 
--- behind a poll its HELLO and its commitment come, and the own commitment goes out in two pieces
+-- after a poll its HELLO and its commitment come, and the own commitment goes out in two pieces
 abbrev pub exchange : List Item
 exchange =
     Polled (Seems 0 ∷ []) ∷ Took 0 (other_hello 0) ∷ Gave 0 (take 10 (turn_bytes (commit_by game 0 0 0 0))) ∷
@@ -173,7 +173,7 @@ ShutsTheFormerOfOneName =
 abbrev pub failed_keep : View
 failed_keep = view_of (setting []) (LogBegun name ∷ Listening (told_addr (addr_at 7000)) ∷ Failed (KeepCall (kept_for [] chose)) ∷ [])
 
--- nothing comes behind a keep that failed
+-- nothing comes after a keep that failed
 unfoldable pub EndsAtAFailedKeep : Type 0
 EndsAtAFailedKeep =
     (are_allowed (start (setting [])) (LogBegun name ∷ Listening (told_addr (addr_at 7000)) ∷ Failed (KeepCall (kept_for [] chose)) ∷ []) ≡ true) ×

@@ -36,7 +36,7 @@ listing-more rows l =
     take-take-append 64 (filter_map ready_in rows) (option_to_list (ready_in l))
     ∙ ap (take 64) (ap (λ r. filter_map ready_in rows ++ r) (sym (filter-one l)) ∙ sym (filter_map-append ready_in rows (l ∷ [])))
 
--- the rows behind a poll
+-- the rows after a poll
 pub map-polled : (ps : List Piece) (list : List Ready) (rows : List Row) → map (held_row ps) (map (polled_row list) rows) ≡ map (polled list) (map (held_row ps) rows)
 map-polled ps list [] = refl
 map-polled ps list (l ∷ rows) = ap (λ r. polled list (held_row ps l) ∷ r) (map-polled ps list rows)

@@ -130,7 +130,7 @@ ready_in row = ready_as row.standing row
 abbrev pub listing : List HeldRow → List Ready
 listing rows = take 64 (filter_map ready_in rows)
 
--- a row behind a poll with that list
+-- a row after a poll with that list
 abbrev pub polled : List Ready → HeldRow → HeldRow
 polled list row = record row { standing = if opens list row.number then Open else row.standing; seems_ready = false }
 

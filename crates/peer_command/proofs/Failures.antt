@@ -17,7 +17,7 @@ use Rattle.loop_rules.specs.Told.{IsTold}
 use Rattle.loop_rules.proofs.Kept.{keeps_took, keeps_sorted}
 use Rattle.peer_command.specs.Faults.{EndsBy, FailsNone, FailsNeither}
 
--- ---- the phase behind one item
+-- ---- the phase after one item
 
 -- what an item that leads to a phase of failure is, or else the phase was there before
 abbrev LeadsTo : (Call → Bool) → Phase → View → Item → Type 0

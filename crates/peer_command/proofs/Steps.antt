@@ -52,7 +52,7 @@ use Rattle.peer_command.specs.Steps.{IsLogRun}
 
 -- ---- where no own frame may be made
 
--- behind a finding
+-- after a finding
 unclean : (game : Game) (me : ℕ) (h : List Entry) → is_clean game h ≡ false → next_made game me h ≡ None
 unfolding next_made
 unclean game me h e = go (frame_at game me h (slot_at game (made_count h)))

@@ -53,7 +53,7 @@ unsent_to l q = if q == l.peer.me then [] else lacking_text (made_count l.peer.e
 unfoldable pub unsents_text : LoopState → (first count : ℕ) → List ℕ
 unsents_text l first count = flat_map (unsent_to l) (range_with_len first count)
 
--- how the peer stands: where the loop gave up, whom it waits for, and who lacks own frames; behind a finding or a fault, nothing
+-- how the peer stands: where the loop gave up, whom it waits for, and who lacks own frames; after a finding or a fault, nothing
 abbrev pub stand_by : Ended → LoopState → List ℕ
 stand_by E.Done l = stand_text l.peer.game l.peer.me l.peer.entries
 stand_by (E.Caught f) l = []

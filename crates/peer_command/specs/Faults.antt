@@ -22,7 +22,7 @@ FailsNone is_such items = (before more : List Item) (call : Call) → items ≡ 
 abbrev pub FailsNeither : List Item → Type 0
 FailsNeither items = FailsNone is_keep_call items × FailsNone is_poll_call items
 
--- A run ends by a keep fault only behind a failed call of the log, and by a poll fault only behind a failed call of listening or polling, which is
+-- A run ends by a keep fault only after a failed call of the log, and by a poll fault only after a failed call of listening or polling, which is
 -- the last call; and it ends otherwise only where none of these failed. So it blames the outside for no fault that never came, and passes none over.
 abbrev pub StandsByFaults : Ended → List Item → Type 0
 StandsByFaults E.KeepFault items = EndsBy is_keep_call items

@@ -75,7 +75,7 @@ next_is game me n h os is i clean o e =
     by_slot None slot = if_free (is_empty (needs game me h))
     by_slot (Some s) slot = by_what s.what s.turn slot
 
--- behind a finding nothing is made
+-- after a finding nothing is made
 caught_next : (game : Game) (me : ℕ) (h : List Entry) → is_clean game h ≡ false → None ≡ next_made game me h
 unfolding next_made
 caught_next game me h dirty = by_frame (frame_at game me h (slot_at game (made_count h)))

@@ -17,7 +17,7 @@ pub(crate) fn caught_in(answer: &GotAnswer) -> Option<Finding>
 }
 
 /// Whether a frame that the peer answered so stands in its log by this answer. One that was the same as a frame before, too far
-/// ahead, of nobody else, or came behind a finding doesn't.
+/// ahead, of nobody else, or came after a finding doesn't.
 pub fn is_logged(answer: &GotAnswer) -> bool
     ensures { result ≡ S.is_logged answer.now }
 {

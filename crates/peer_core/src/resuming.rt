@@ -26,7 +26,7 @@ impl Peer {
     /// as `new` does, and replays the entries one by one: nothing is chosen, drawn or made anew. NotReplayed comes exactly
     /// where the entries aren't an honest log of the player: its entry is a choice that may not come next or whose move
     /// isn't legal, a made frame that isn't the next one or isn't allowed, a frame that `got` would not take into the log,
-    /// or any entry behind a finding.
+    /// or any entry after a finding.
     pub fn resume(
         alloc: Global,
         session: &Session,

@@ -25,7 +25,7 @@ pub(crate) fn count_made(entries: &[Entry]) -> usize
 impl Peer {
     /// How many own frames may be sent, from place 0 on, once the first `stored` entries of the log are kept where a crash
     /// doesn't reach them: those that are among these entries. A frame that went out before its entry was kept may be made
-    /// anew behind a crash, of another choice, and the two together show a cheat. The time that it takes goes by the number
+    /// anew after a crash, of another choice, and the two together show a cheat. The time that it takes goes by the number
     /// of entries that aren't stored yet.
     #[tactic(auto, using(crate::proofs::MadeFrames::made_count_split))]
     pub fn sendable(&self, stored: usize) -> u32

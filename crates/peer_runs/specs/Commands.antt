@@ -89,7 +89,7 @@ ReadsThrough (Some (Audit a)) status ended = Unit {0}
 ReadsThrough (Some (Schedule session)) status ended = OnEnd status (ended ≡ true)
 ReadsThrough (Some (Make number)) status ended = Unit {0}
 
--- Whether a command takes memory behind its first byte too, so that a front of its text may stand before the line for want of memory.
+-- Whether a command takes memory after its first byte too, so that a front of its text may stand before the line for want of memory.
 abbrev pub takes_late : Option Command → Bool
 takes_late None = false
 takes_late (Some (Drive d)) = false

@@ -25,7 +25,7 @@ OneFailed before after =
     ⊎ ((after.input.faults ≡ before.input.faults) × Rose before.shelf.faults after.shelf.faults)
 
 -- A fault is counted exactly where one is answered: of the input or of the shelf, or of the output, before whose fault one of the
--- others may have failed. No other status comes behind a fault.
+-- others may have failed. No other status comes after a fault.
 abbrev pub CountsFaults : (before after : Outside) → Status → Type 0
 CountsFaults before after InputFault = OneFailed before after × (after.output.faults ≡ before.output.faults)
 CountsFaults before after OutputFault = (NeitherFailed before after ⊎ OneFailed before after) × Rose before.output.faults after.output.faults

@@ -40,7 +40,7 @@ peering_behind (name ∷ words) = peering_named name words
 unfoldable pub peering_of : List (List ℕ) → Option Peering
 peering_of words = if list_all is_word words then peering_behind words else None
 
--- a run over sockets: what its words say, the outside before it and behind it, what its station told by then, and what its generator is to give
+-- a run over sockets: what its words say, the outside before it and after it, what its station told by then, and what its generator is to give
 pub record PeerRun : Type 0 where
   pub peering : Peering
   pub before : Outside

@@ -15,7 +15,7 @@ use Rattle.peer_runs.specs.Commands.{IsOverAtFirst, ReadsFor, ReadsThrough, answ
 use Rattle.peer_runs.specs.Causes.{HasCause, IsGood, IsMeant}
 use Rattle.peer_runs.specs.Outside.{CountsFaults, Outside}
 
--- a run: the command that its words say, if they say one, and the outside before it and behind it
+-- a run: the command that its words say, if they say one, and the outside before it and after it
 pub record Run : Type 0 where
   pub command : Option Command
   pub before : Outside

@@ -55,7 +55,7 @@ next_at_commit game q c u ss w lt =
     ∙ ap (λ (i : ℕ). with_commit (shown ss c u) (first_commit (frames_in (in_order ss)) i)) a
     ∙ ap (with_commit (shown ss c u)) (commit_slot q c u c ss w)
 
--- behind the commitments: the reveal in its turn's slot
+-- after the commitments: the reveal in its turn's slot
 pub next_at_reveal : (game : Game) (q c u : ℕ) (ss : List (Option Received)) (r : Received) (d : Digest) → AreSlots q ss c u → min (u + game.ahead) game.turns ≤ c → u < game.turns → u < c →
     slot ss (2 * u) ≡ Some r → r.frame ≡ Commit q u d →
     next_known game q (frames_in (in_order ss)) (shown ss c u) ≡ with_move (shown ss c u) (of_slot (λ r. opening_of game q (moves_to ss u) d u r.frame) (slot ss (2 * u + 1)))

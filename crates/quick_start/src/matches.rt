@@ -13,7 +13,7 @@ const POLLS_OF_A_LIAR: u32 = 90;
 /// The status of a player that gave up.
 const GAVE_UP: u8 = 7;
 
-/// The polls behind which player 1 is out of the match: it waits for player 2 by then, who isn't
+/// The polls after which player 1 is out of the match: it waits for player 2 by then, who isn't
 /// there yet.
 const POLLS_BEFORE_THE_STOP: u32 = 30;
 

@@ -7,7 +7,7 @@ use std::thread::sleep;
 use std::time::Duration;
 
 /// More polls than a match takes, of a tenth of a second at most: whoever waits for a player that
-/// isn't there gives up behind a minute.
+/// isn't there gives up after a minute.
 pub(crate) const POLLS: u32 = 600;
 
 /// The name of a program's log.

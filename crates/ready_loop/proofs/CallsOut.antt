@@ -152,7 +152,7 @@ pub dial_seat_at : (l m : LoopState) (k : ℕ) (link : Link) → l ≡ m → IsN
 dial_seat_at l m k link same next is =
     subst (λ (x : LoopState). IsSeatAt x.table.seats link.player (Some k)) (sym same) (next.0, next.1, sym (ap (λ (x : Link). x.player) (is next.0 next.1)))
 
--- the table behind a dial of the player
+-- the table after a dial of the player
 abbrev pub dialled_by : (q next : ℕ) → Dial → Table → Table
 dialled_by q next (D.Socket s) t = dialled_on s q next t
 dialled_by q next D.Failed t = at_seat q dials t

@@ -170,7 +170,7 @@ pub record Choosing (by to : Chooser) (before items : List Item) (l m : LoopStat
   pub clean : is_clean m.peer.game m.peer.entries ≡ is_clean l.peer.game l.peer.entries
   pub steady : IsSteady m
 
--- what stands behind a choice that is put, or is not
+-- what stands after a choice that is put, or is not
 pub puts_choice : (i l : LoopState) (w : Writing) (p : PeerState) (mv : Move) (nonce : Nonce) → i ≡ l → IsFit i w → p ≡ record i.peer { entries = i.peer.entries ++ Chose (length (chosen i.peer.me i.peer.entries)) mv nonce ∷ [] } → IsStanding p →
     PutsChoice mv nonce None l (record i { peer = p })
 puts_choice i l w p mv nonce same f is facts =
@@ -245,7 +245,7 @@ choose_faults by to r items after l m n mv nonce fault d w p none fits is on sta
       stands = ap (λ (x : LoopState). x.phase) same;
     }
 
--- behind the keep of the choice
+-- after the keep of the choice
 pub record IsPut (items mid : List Item) (l n : LoopState) (mv : Move) (nonce : Nonce) : Type 0 where
   pub grows : Grows items mid l n
   pub running : n.phase ≡ Running

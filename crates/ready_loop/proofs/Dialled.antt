@@ -69,7 +69,7 @@ next_free l k c n g =
 pub new_socket : (items : List Item) (l : LoopState) (s : ℕ) → IsTold items (view_of l) → IsIdle l → standing_in items s ≡ Fresh → IsNotIn s l.table.lines
 new_socket items l s told w f = not_in_fresh items s l.table.lines f (subst (IsTold items) (idle_view l w) told).stand
 
--- the table behind the call
+-- the table after the call
 abbrev pub dialled_table : LoopState → (c : Seat) → Dial → Table
 dialled_table l c (D.Socket s) = A.dialled_on s c.link.player (next_place l.peer.game l.peer.me l.peer.entries c.link.player) l.table
 dialled_table l c D.Failed = at_seat c.link.player dials l.table

@@ -29,7 +29,7 @@ fit_phase p l w differs f = record { over = f.over; kept = f.kept; synced = f.sy
 pub fit_from : (p q : Phase) (i l : LoopState) (w : Writing) → i ≡ l → l.phase ≡ q → (q ≡ KeepFault → ⊥) → IsFit i w → IsFit (in_phase p i) w
 fit_from p q i l w same is differs f = fit_phase p i w (λ e. differs (sym is ∙ sym (ap (λ (x : LoopState). x.phase) same) ∙ e)) f
 
--- behind a keep that failed
+-- after a keep that failed
 pub fit_fault : (l : LoopState) (w v : Writing) → IsFit l w → IsFit (in_phase KeepFault l) v
 fit_fault l w v f = record { over = f.over; kept = f.kept; synced = f.synced; seats = f.seats; differ = f.differ; waiting = f.waiting; writer = λ n. absurd (n refl) }
 

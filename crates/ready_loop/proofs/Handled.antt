@@ -84,7 +84,7 @@ handles_fault before items after l m n w h = record {
   fault = λ e. h.stands;
 }
 
--- nothing waits any more, or nothing is to be handled behind a finding
+-- nothing waits any more, or nothing is to be handled after a finding
 abbrev cleared : LoopState → LoopState
 cleared m = record m { table = record m.table { waiting = [] }; handled = 0 }
 

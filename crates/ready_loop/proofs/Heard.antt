@@ -87,7 +87,7 @@ asked_undialled q next t = same_undialled t.seats (at_seat q (asks next) t).seat
 
 -- ---- a frame that makes no entry
 
--- of a frame of another player, behind no finding, that is not new: it is far, or the log has it
+-- of a frame of another player, after no finding, that is not new: it is far, or the log has it
 pub old_answer : (game : Game) (me q : ℕ) (h : List Entry) (f : TurnFrame) → is_clean game h ≡ true → is_of_another game me q f ≡ true → is_new game me h q f ≡ false →
     got_answer game me h q f ≡ (if is_far game me h q f then GA.Far else GA.Same)
 unfolding got_answer

@@ -1,4 +1,4 @@
--- Kept: what a loop knows behind the keep of the first entry that was not kept.
+-- Kept: what a loop knows after the keep of the first entry that was not kept.
 use Rattle.std.proofs.Common.{◌≡◌, ℕ, zero, suc, ◌+◌, ◌<◌, Bool, true, false, refl, sym, ap, subst, ◌∙◌, List, [], ◌∷◌, ◌++◌, arith, length}
 use Rattle.std.proofs.lemmas.Bool.{and_from}
 use Rattle.std.specs.Prelude.{Option, Some, not, drop, take, slice_get, is_none, if◌then◌else◌}

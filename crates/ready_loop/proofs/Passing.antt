@@ -101,7 +101,7 @@ own_move_passes by to turn fault before mid after l b c chosen g steady w s =
     let own = own_move_on by.plan turn fault b c s.same w in
     record { refused = true; refuses = refl; choices = chooses_goes by to true mid after l b c g.setting chosen s.goes; grows = grows_goes before mid after l b c g s.goes; stands = ((whole, own), sym (still_chooses c whole.idle own.chooses)) }
 
--- ---- what stands behind the writes of a pass
+-- ---- what stands after the writes of a pass
 
 pub serving_first : (mid after : List Item) (b c : LoopState) → IsSteady b → is_clean b.peer.game b.peer.entries ≡ true → Syncs true mid after b c → IsServing after c
 serving_first mid after b c steady clean s =

@@ -96,7 +96,7 @@ by_none a b l m g = record { more = g.more; grown = g.grown; polls = (let x = g.
 pub by_still : (a : List Item) (l : LoopState) → IsTold a (view_of l) → GoesBy 0 a a l l
 by_still a l told = record { more = []; grown = sym (append-nil a); polls = omega arith; setting = refl; told = told }
 
--- the table behind a poll
+-- the table after a poll
 abbrev pub polled_state : (done : Bool) → List Ready → LoopState → LoopState
 polled_state true list l = with_table (polled_on list l.table) l
 polled_state false list l = in_phase PollFault l

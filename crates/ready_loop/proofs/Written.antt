@@ -163,7 +163,7 @@ write_may items l k s x (O.Gave n) w a found g =
 write_may items l k s x O.NotYet w a found g = line_may items l k s x w a found
 write_may items l k s x O.Failed w a found g = line_may items l k s x w a found
 
--- the table behind the call
+-- the table after the call
 abbrev pub wrote : LoopState → (s : ℕ) → Line → SocketWrite → Table
 wrote l s x write = wrote_on (speaker_by l) (own_by l x) s write (desk_of l.table x) l.table
 
@@ -237,7 +237,7 @@ wrote_beside items l k s x write w a i y z g h differs served =
     go O.NotYet found differ h = blocked_others s (made_count l.peer.entries) l.table i y z g h differs served
     go O.Failed found differ h = closed_others s (made_count l.peer.entries) l.table i y z g h differs served
 
--- behind a write that gives nothing, nothing more is to be written there
+-- after a write that gives nothing, nothing more is to be written there
 put_served : (s made : ℕ) (f : Line → Line) (t : Table) (k : ℕ) (x : Line) → slice_get t.lines k ≡ Some x → x.socket ≡ s → ((u : Table) → wants_write made u (f x) ≡ false) →
     work_with made (at_line s f t) (slice_get (at_line s f t).lines k) ≡ 0
 put_served s made f t k x g e none =

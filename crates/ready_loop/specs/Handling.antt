@@ -1,4 +1,4 @@
--- Handling: what stands behind the calls that handle what came.
+-- Handling: what stands after the calls that handle what came.
 use Rattle.std.specs.Prelude.{◌≡◌, ℕ, ◌+◌, ◌<◌, ◌≤◌, ◌&&◌, nat_lt, Bool, true, false, not, List, [], ◌∷◌, ◌++◌, Option, Some, None, length, map, slice_get, if◌then◌else◌}
 use Rattle.std.specs.List.{list_all}
 use Rattle.definitions.specs.Advance as A

@@ -1,4 +1,4 @@
--- Polling: what stands behind polls, rounds and whole runs.
+-- Polling: what stands after polls, rounds and whole runs.
 use Rattle.std.specs.Prelude.{◌≡◌, ℕ, ◌+◌, ◌≤◌, Bool, true, false, List, ◌++◌, Option}
 use Rattle.socket_station.specs.Items.{Item}
 use Rattle.pilots.specs.Plans.{Plan}
@@ -73,7 +73,7 @@ ended_of R.PollFault = E.PollFault
 ended_of R.KeepFault = E.KeepFault
 ended_of (R.OwnMove turn fault) = E.OwnMove turn fault
 
--- or that settled so behind its last poll
+-- or that settled so after its last poll
 abbrev pub ended_at : Settled → Ended
 ended_at settled = ended_of (round_of settled)
 
@@ -86,7 +86,7 @@ StandsRound plan R.PollFault m = IsDeaf m
 StandsRound plan R.KeepFault m = StandsSettled plan S.KeepFault m
 StandsRound plan (R.OwnMove turn fault) m = StandsSettled plan (S.OwnMove turn fault) m
 
--- whether a move was refused behind the last choice
+-- whether a move was refused after the last choice
 abbrev pub RefusesRound : Round → (refused : Bool) → Type 0
 RefusesRound R.On refused = Refuses S.Idle refused
 RefusesRound R.Done refused = Refuses S.Done refused

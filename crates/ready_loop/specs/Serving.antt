@@ -1,4 +1,4 @@
--- Serving: what stands behind the calls that shut, write and dial.
+-- Serving: what stands after the calls that shut, write and dial.
 use Rattle.std.specs.Prelude.{◌≡◌, ℕ, ◌+◌, ◌<◌, Bool, true, not, List, [], ◌∷◌, ◌++◌, Option, Some, None, slice_get, if◌then◌else◌}
 use Rattle.definitions.specs.declared.frames.TurnFrame.{TurnFrame}
 use Rattle.definitions.specs.Logs as L

@@ -1,4 +1,4 @@
--- Settling: what stands behind the calls that play.
+-- Settling: what stands after the calls that play.
 use Rattle.std.specs.List.{list_all}
 use Rattle.definitions.specs.Lists.{EachIs}
 use Rattle.definitions.specs.declared.openings.Nonce.{Nonce}
@@ -125,7 +125,7 @@ is_idle (S.Caught f) = false
 is_idle S.KeepFault = false
 is_idle (S.OwnMove turn fault) = false
 
--- Whether a move was refused behind the last choice: at an own move that isn't legal one was, and behind a fault of the log one may have been.
+-- Whether a move was refused after the last choice: at an own move that isn't legal one was, and after a fault of the log one may have been.
 abbrev pub Refuses : Settled → (refused : Bool) → Type 0
 Refuses S.Idle refused = refused ≡ false
 Refuses S.Done refused = refused ≡ false
@@ -205,7 +205,7 @@ pub record IsReadOut (l : LoopState) : Type 0 where
   pub read : list_all (λ x. not (wants_read l.table x)) l.table.lines ≡ true
   pub chosen : may_choose l.peer.game l.peer.me l.peer.entries ≡ false
 
--- what stands behind the calls that serve
+-- what stands after the calls that serve
 abbrev pub StandsServed : Option Settled → LoopState → LoopState → List Item → Type 0
 StandsServed None l m items = IsReadyToRead items m × (undialled m < undialled l)
 StandsServed (Some S.Idle) l m items = IsWhole m × (is_licensed (view_of m) ≡ true)

@@ -75,5 +75,5 @@ pub record IsFit (l : LoopState) (w : Writing) : Type 0 where
   pub seats : EachIs (IsOthers l.peer.game l.peer.me) l.table.seats
   pub differ : DiffersBy (λ c. c.link.player) l.table.seats
   pub waiting : EachIs (IsOfOther l.peer.game l.peer.me) l.table.waiting
-  -- behind a keep that failed nothing more is written
+  -- after a keep that failed nothing more is written
   pub writer : (l.phase ≡ KeepFault → ⊥) → w ≡ writer_of l

@@ -109,7 +109,7 @@ impl Loop {
         true
     }
 
-    /// Whether some frame waits that is to be handled: behind a finding none is.
+    /// Whether some frame waits that is to be handled: after a finding none is.
     fn has_next(&self) -> bool
         ensures { result ≡ has_next self.now }
     {

@@ -60,7 +60,7 @@ fn round_of(settled: &Settled) -> Round
     }
 }
 
-/// Whether a run goes on behind the round.
+/// Whether a run goes on after the round.
 fn is_on(round: &Round) -> bool
     ensures { result ≡ is_round_on round.now }
 {
@@ -81,7 +81,7 @@ fn ended_of(round: &Round) -> Ended
     }
 }
 
-/// How a run ended that settled so behind its last poll.
+/// How a run ended that settled so after its last poll.
 fn ended_at(settled: &Settled) -> Ended
     ensures { result ≡ ended_at settled.now }
 {

@@ -20,7 +20,7 @@ impl Loop {
         self.peer.made(self.table.lines()[place].cursor)
     }
 
-    /// Whether the line is to be written: it is open, no write was refused behind the last poll that listed it, and something is due.
+    /// Whether the line is to be written: it is open, no write was refused after the last poll that listed it, and something is due.
     fn wants_write(&self, place: usize) -> bool
         requires { place < length self.now.table.lines }
         ensures { (l : Line) → slice_get self.now.table.lines place ≡ Some l → result ≡ wants_write (made_count self.now.peer.entries) self.now.table l }

@@ -51,7 +51,7 @@ place_text word q place = word ++ decimal q ++ codes " " ++ decimal place ++ cod
 unfoldable pub foreign_text : (q : ℕ) → List ℕ
 foreign_text q = codes "foreign " ++ decimal q ++ codes "\n"
 
--- what is written about a frame of this place that came from q, by the peer's answer; behind a finding no frame comes
+-- what is written about a frame of this place that came from q, by the peer's answer; after a finding no frame comes
 abbrev pub got_text : (q place : ℕ) → GotAnswer → List ℕ
 got_text q place Taken = place_text (codes "taken ") q place
 got_text q place Stashed = place_text (codes "stashed ") q place

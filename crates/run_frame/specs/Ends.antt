@@ -27,7 +27,7 @@ IsToBeWritten whole cut late source shelf text =
 
 -- What a run has written when it ends with this status: all that is due and the status's line, or the part of it that the
 -- status tells of. `whole` is due by the whole input, `cut` by the part of it that was read before a fault of the source; `late` says
--- that memory is taken behind the first byte too, and `source` and `shelf` that they failed.
+-- that memory is taken after the first byte too, and `source` and `shelf` that they failed.
 abbrev pub Finished : (before now : SinkState) → (whole cut : Answer) → (late : Bool) → (source shelf : Type 0) → Status → Type 0
 Finished before now whole cut late source shelf NoMemory = (front : List ℕ) × MayBeFront late whole.body front × (now ≡ after_bytes before (front ++ refusal_of NoMemory))
 Finished before now whole cut late source shelf InputFault =

@@ -45,7 +45,7 @@ EndCause OutputFault = Unit {0}
 EndCause status = ⊥
 
 -- What may have been written of this text where memory is wanting: nothing, where all memory is taken before the first byte; else a
--- front of it. `late` says that memory is taken behind the first byte too.
+-- front of it. `late` says that memory is taken after the first byte too.
 abbrev pub MayBeFront : (late : Bool) → (text front : List ℕ) → Type 0
 MayBeFront false text front = front ≡ []
 MayBeFront true text front = (rest : List ℕ) × (text ≡ front ++ rest)

@@ -25,7 +25,7 @@ counted t G.Foreign = record t { foreign = up t.foreign }
 counted t (G.Caught f) = record t { caught = up t.caught }
 counted t G.Closed = record t { closed = up t.closed }
 
--- the tallies, in order of player, behind a step of this player that was answered so
+-- the tallies, in order of player, after a step of this player that was answered so
 abbrev pub tallied : List Tally → ℕ → StepAnswer → List Tally
 tallied ts p (Chosen turn) = ts
 tallied ts p (Refused fault) = ts

@@ -37,7 +37,7 @@ is_too_much n line = nat_lt LONGEST_LINE (length line) || nat_le MOST_LINES n
 unfoldable pub said_behind : Game → ℕ → List ℕ → ScheduleLine
 said_behind game n line = if is_too_much n line then says.Bad else line_of game line
 
--- the table behind the step
+-- the table after the step
 unfoldable pub table_after : TableState → Step → TableState
 table_after t step = record {
   game = t.game;

@@ -3,7 +3,7 @@
 //!
 //! The first line that isn't passed over names the hostile players; each line behind it is a step of a table of `schedule`, or asks for
 //! how often a player's peer gave each answer. What is written is the text of the definitions in `specs/Schedule.antt`: a line outside the
-//! grammar ends the run behind the answers to the lines before it, and at the end stands how the match goes on. For a program of many
+//! grammar ends the run after the answers to the lines before it, and at the end stands how the match goes on. For a program of many
 //! commands the crate has its words (`specs/Words.antt`), its answer (`Schedule`), one function (`play_schedule`), and what that makes of its
 //! input (`Played`). It touches the source and the sink that it is handed, and takes all memory before the first byte is written.
 #![tactic(auto)]

@@ -25,9 +25,9 @@ pub struct Line {
     pub reader: FrameReader,
     /// How many bytes were taken before it was named, its HELLO with them.
     pub taken: u32,
-    /// Whether a read answered that nothing is there, behind the opening and behind the last poll that listed it.
+    /// Whether a read answered that nothing is there, after the opening and after the last poll that listed it.
     pub is_quiet: bool,
-    /// Whether a write answered that nothing can be given, behind the last poll that listed it.
+    /// Whether a write answered that nothing can be given, after the last poll that listed it.
     pub is_blocked: bool,
     /// Whether a rule or a limit asks that it be shut.
     pub is_wrong: bool,

@@ -14,7 +14,7 @@ use Rattle.socket_station.specs.Laws.{is_opening}
 use Rattle.socket_station.specs.Moved.{taken_in, took_at, given_in, gave_at, kept_in, kept_at}
 use Rattle.socket_station.specs.Standings.{standing_in, standing_after, standing_failed, opens, AreNew, OpensNew}
 
--- how a number stands behind one item more
+-- how a number stands after one item more
 pub standing-more : (items : List Item) (item : Item) (n : ℕ) → standing_in (items ++ item ∷ []) n ≡ standing_after n (standing_in items n) item
 standing-more items item n = fold-append (standing_after n) Fresh items (item ∷ [])
 

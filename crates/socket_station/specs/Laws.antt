@@ -5,7 +5,7 @@ use Rattle.socket_station.specs.Items.{Item, Dialled, Polled}
 use Rattle.socket_station.specs.Standings.{standing_in, opens, OpensNew}
 use Rattle.socket_station.specs.Faults.{is_fault, is_poll_call, is_keep_call, is_link_call, poll_faults, keep_faults, link_faults}
 
--- A closed number stays closed behind each item that a station may add.
+-- A closed number stays closed after each item that a station may add.
 abbrev pub ClosedStaysClosed : Type 0
 ClosedStaysClosed = (items : List Item) (item : Item) (n : ℕ) → standing_in items n ≡ Closed → OpensNew items item → standing_in (items ++ item ∷ []) n ≡ Closed
 
@@ -15,7 +15,7 @@ is_opening (Dialled s player addr) n = s == n
 is_opening (Polled list) n = opens list n
 is_opening _ n = false
 
--- A number is open behind an item only where it was before, or where the item opens it.
+-- A number is open after an item only where it was before, or where the item opens it.
 abbrev pub OpensByItsItem : Type 0
 OpensByItsItem = (items : List Item) (item : Item) (n : ℕ) → standing_in (items ++ item ∷ []) n ≡ Open → (is_opening item n ≡ true) ⊎ (standing_in items n ≡ Open)
 

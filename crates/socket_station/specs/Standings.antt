@@ -13,13 +13,13 @@ opens [] n = false
 opens (Opened s ∷ more) n = (s == n) || opens more n
 opens (Seems s ∷ more) n = opens more n
 
--- how a number stands behind a call that failed: a read or a write closes its socket
+-- how a number stands after a call that failed: a read or a write closes its socket
 abbrev pub standing_failed : Call → ℕ → Standing → Standing
 standing_failed (ReadCall s) n old = if s == n then Closed else old
 standing_failed (WriteCall s) n old = if s == n then Closed else old
 standing_failed _ n old = old
 
--- how a number stands behind an item
+-- how a number stands after an item
 abbrev pub standing_after : ℕ → Standing → Item → Standing
 standing_after n old (Dialled s player addr) = if s == n then Open else old
 standing_after n old (Polled list) = if opens list n then Open else old

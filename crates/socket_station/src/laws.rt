@@ -2,7 +2,7 @@
 
 ghost use Rattle.socket_station.specs.Laws.{ClosedStaysClosed, OpensByItsItem, PollFaultsRise, KeepFaultsRise, LinkFaultsRise};
 
-/// A socket number that is closed stays so, whatever a station answers next: no number is used twice. And a number is open behind an item
+/// A socket number that is closed stays so, whatever a station answers next: no number is used twice. And a number is open after an item
 /// only where it was before, or where that item opens it.
 pub fn numbers_are_used_once()
     ensures closed { ClosedStaysClosed }

@@ -120,7 +120,7 @@ each_stays : (cs : List Seat) (t : Table) (ls : List Line) → EachIs (IsFitLine
 each_stays cs t [] f e = tt
 each_stays cs t (l ∷ ls) f e = let p = and_parts _ _ e in (one_stays cs t l f.0 p.0, each_stays cs t ls f.1 p.1)
 
--- behind a poll no more stay than are accepted at most, and one for each number of a player
+-- after a poll no more stay than are accepted at most, and one for each number of a player
 pub few_stay : (t v : Table) (a b : ℕ) → t ≡ v → IsSound t a b → all_is_shut v ≡ true → length (filter (λ l. l.is_open) t.lines) ≤ 512
 few_stay t v a b e s shut =
     let two = count_two (λ l. l.is_open) is_fine (is_below 256) t.lines (each_stays t.seats t t.lines s.lines (ap all_is_shut e ∙ shut)) in

@@ -100,7 +100,7 @@ due_there own d =
     let asked = slice_get d.seat.asks.due 0 in
     hello_there own d d.line.hello (named_due d.line.name (want_or_own asked own)) refl (named_there own d d.line.name (want_or_own asked own) (want_there own d asked refl))
 
--- ---- the work behind a write
+-- ---- the work after a write
 
 -- what a frame's end makes of what is begun
 work_left : (made : ℕ) (left : List ℕ) (d : Desk) →
@@ -180,7 +180,7 @@ gave_less made k own count d c most some few = go (is_empty d.line.unsent) refl 
         let none = ap (λ (b : Bool). if b then frames_again made d.line.sending d.line.cursor d.line.jump else 0) e in
         omega (arith, behind, left, none, some, n)
 
--- ---- the desk behind a write
+-- ---- the desk after a write
 
 desk_parts : (l : Line) (o : Option Seat) (d : Desk) → desk_with l o ≡ Some d → (d.line ≡ l) × (o ≡ Some d.seat)
 desk_parts l None d e = absurd (cc)

@@ -80,7 +80,7 @@ fit_given cs d nl n e t r name p dialled f =
       dialled = subst IsByte (sym dialled) f.dialled;
     }
 
--- the table behind a write, by the line and the seat that were read and those that were put back
+-- the table after a write, by the line and the seat that were read and those that were put back
 pub written : (t v : Table) (a b place k : ℕ) (s : Speaker) (own : Option TurnFrame) (count : ℕ) (x l : Line) (y : Seat) (nl : Line) (ns : Seat) (o : Option ℕ) → t ≡ v → IsSound t a b →
     x ≡ get_or t.lines place x → slice_get v.lines place ≡ Some l → y ≡ get_or t.seats k y → IsDeskSeat v (player_of l) o → o ≡ Some k →
     ((f : TurnFrame) → own ≡ Some f → l.cursor + 1 < 2 ^ 32) → record { line = nl; seat = ns } ≡ gave s own count (record { line = x; seat = y }) →

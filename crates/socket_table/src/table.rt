@@ -19,7 +19,7 @@ use std::marker::Model;
 /// How many bytes are taken at most by one read.
 pub const MOST_TAKEN: usize = 1024;
 
-/// How many lines there are at most behind a poll: those accepted, one dialled for each player, and those that the poll lists.
+/// How many lines there are at most after a poll: those accepted, one dialled for each player, and those that the poll lists.
 pub const MOST_LINES: usize = 576;
 
 /// The lines of sockets, in the order in which they were opened, the seats of the other players, and the frames that came and are not handled

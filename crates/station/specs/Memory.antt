@@ -18,7 +18,7 @@ unused fails = record { fails = fails; calls = 0; faults = 0 }
 abbrev pub fails_next : Plan → Bool
 fails_next plan = nat_lt (plan.calls + 1) (2 ^ 32) && list_any (λ number. number == plan.calls + 1) plan.fails
 
--- the plan behind a call that failed or did not
+-- the plan after a call that failed or did not
 abbrev pub after_call : Plan → (failed : Bool) → Plan
 after_call plan failed = record { fails = plan.fails; calls = one_more plan.calls; faults = faults_behind failed plan.faults }
 

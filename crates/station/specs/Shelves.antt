@@ -12,12 +12,12 @@ pub record ShelfState : Type 0 where
   -- how many of its calls failed, at most 2^64 - 1
   pub faults : ℕ
 
--- the count of faults behind a call that gave this
+-- the count of faults after a call that gave this
 abbrev pub faults_after : Option (List ℕ) → ℕ → ℕ
 faults_after (Some bytes) n = n
 faults_after None n = one_more n
 
--- the shelf behind a call
+-- the shelf after a call
 abbrev pub after_piece : ShelfState → Piece → ShelfState
 after_piece s piece = record { files = s.files; pieces = s.pieces ++ piece ∷ []; faults = faults_after piece.gave s.faults }
 

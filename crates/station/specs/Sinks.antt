@@ -20,7 +20,7 @@ GivesWithin Failed bytes = Unit {0}
 abbrev pub after_bytes : SinkState → List ℕ → SinkState
 after_bytes s bytes = record { held = s.held ++ bytes; faults = s.faults }
 
--- the sink behind a call: it took the bytes that were given, or failed once more
+-- the sink after a call: it took the bytes that were given, or failed once more
 abbrev pub after_push : SinkState → Push → (bytes : List ℕ) → SinkState
 after_push s (Gave count) bytes = after_bytes s (take count bytes)
 after_push s Failed bytes = record { held = s.held; faults = one_more s.faults }

@@ -21,7 +21,7 @@ TakesWithin (Took count) buf = (0 < count) × (count ≤ length buf) × (count �
 TakesWithin Ended buf = Unit {0}
 TakesWithin Failed buf = Unit {0}
 
--- the source behind a call: it gave what was taken, or answered the end, or failed once more
+-- the source after a call: it gave what was taken, or answered the end, or failed once more
 abbrev pub after_pull : SourceState → Pull → (buf : List ℕ) → SourceState
 after_pull s (Took count) buf = record { whole = s.whole; seen = s.seen ++ take count buf; ended = s.ended; faults = s.faults }
 after_pull s Ended buf = record { whole = s.whole; seen = s.seen; ended = true; faults = s.faults }

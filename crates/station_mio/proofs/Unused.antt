@@ -1,4 +1,4 @@
--- Unused: which numbers are still unused behind a poll.
+-- Unused: which numbers are still unused after a poll.
 use Rattle.std.proofs.Common.{◌≡◌, ◌≢◌, ◌≤◌, ◌<◌, ◌+◌, ◌==◌, ◌∙◌, false, ℕ, List, [], ◌∷◌, ◌++◌, refl, arith}
 use Rattle.std.proofs.lemmas.Bool.Decides.{nat_tests}
 use Rattle.socket_station.specs.declared.answers.Did.{Did}

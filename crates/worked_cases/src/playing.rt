@@ -16,7 +16,7 @@ use std::alloc::{AllocError, Global};
 /// How many bytes a run may write.
 const MOST_WRITTEN: usize = 2_097_152;
 
-/// How many sockets are looked at behind a run: those that a station has at most.
+/// How many sockets are looked at after a run: those that a station has at most.
 const MOST_SOCKETS: u32 = 512;
 
 /// How a run ended: its status, what it wrote, how many polls it made, how many bytes it kept, how
