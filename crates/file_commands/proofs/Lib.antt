@@ -4,3 +4,4 @@ mod Printed
 pub mod Told
 pub mod Alike
 pub mod Tells
+pub mod Verdicts

@@ -5,6 +5,7 @@ pub mod AuditPrinting
 pub mod AuditLaws
 pub mod JudgeWords
 pub mod Judge
+pub mod JudgeLaws
 pub mod UpgradeWords
 pub mod UpgradeLaws
 pub mod Upgrade

@@ -3,6 +3,7 @@
 ghost use Rattle.std.specs.Prelude.{◌≡◌, [], IfSome, None, Some, map, option_and_then, option_map};
 ghost use Rattle.command_line.specs.Lines.{owned};
 ghost use Rattle.drive_command.specs.Laws.{DrivesAreRuns, LinesAreOneStream};
+ghost use Rattle.peer_command.specs.Crashes.{CrashesAreSurvived};
 ghost use Rattle.peer_command.specs.Words.{Peering};
 ghost use Rattle.peer_runs.specs.Peers.{RunsPeer, peering_of};
 ghost use Rattle.peer_runs.specs.Words.{HasRoom, command_of};
@@ -136,6 +137,9 @@ pub fn run<I: Source, O: Sink, H: Shelf, S: Station, R: Rng>(
     // The log that `drive` tells is that of the protocol's steps that the lines of the input bring, their bytes in whatever pieces.
     ensures steps { DrivesAreRuns }
     ensures streams { LinesAreOneStream }
+
+    // Whenever `peer` stops, and whatever a crash leaves of its log, the player goes on from that and has all that it gave.
+    ensures crashes { CrashesAreSurvived }
 {
     if is_peering(words) {
         peer_for(alloc, words, input, out, shelf, station, chance)

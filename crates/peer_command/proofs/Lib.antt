@@ -11,4 +11,4 @@ mod Reading
 mod Left
 mod Honest
 mod Handed
-mod Survived
+pub mod Survived

@@ -1,6 +1,8 @@
 -- Played: a run from the first call of its loop to its end, and what its station told.
-use Rattle.std.proofs.Common.{◌≡◌, ℕ, false, List, [], Option, ap, sym, refl, ◌∙◌, subst, append-nil, take, arith}
+use Rattle.std.proofs.Common.{inr, ◌≡◌, ℕ, false, List, [], Option, ap, sym, refl, ◌∙◌, subst, append-nil, take, arith}
 use Rattle.std.proofs.Math.Seq.{take-length}
+use Rattle.definitions.specs.declared.logs.Entry.{Entry}
+use Rattle.definitions.specs.Honest.{IsHonest}
 use Rattle.definitions.specs.Logs.{chosen}
 use Rattle.station.specs.Sinks.{SinkState}
 use Rattle.socket_station.specs.Items.{Item}
@@ -13,6 +15,7 @@ use Rattle.loop_rules.specs.declared.phases.Phase.TheVariants.{Running, KeepFaul
 use Rattle.loop_rules.specs.Histories.{IsHistory}
 use Rattle.loop_rules.specs.Laws.{FailedPollsAreLicensed, FaultsAreLast, GivenIsDue, KeptIsHonest, PrefixesAreHistories, RevealsGivenAreFair}
 use Rattle.loop_rules.specs.Runs.{LogsAreRuns}
+use Rattle.loop_rules.specs.Settings.{Setting}
 use Rattle.loop_rules.specs.Told.{IsTold}
 use Rattle.loop_rules.proofs.Kept.{keeps_sorted}
 use Rattle.definition_laws.proofs.Fair.{honest_fair}
@@ -75,7 +78,7 @@ phase_shown l p e = (keeps_sorted (rest_of l) (base_of l)).phase ∙ e
 
 -- which failed calls stand behind the end
 by_faults : (last : FaultsAreLast) (plan : Option Plan) (polls made : ℕ) (ended : Ended) (items : List Item) (n : LoopState) → IsTold items (view_of n) → L.StandsEnded plan polls made ended n → StandsByFaults ended items
-by_faults last plan polls made E.KeepFault items n told stands = keep_failed last items (view_of n) told (phase_shown n KeepFault stands)
+by_faults last plan polls made E.KeepFault items n told stands = keep_failed last items (view_of n) told (phase_shown n KeepFault stands.fault)
 by_faults last plan polls made E.PollFault items n told stands = poll_failed last items (view_of n) told (phase_shown n PollFault stands.fault)
 by_faults last plan polls made E.Done items n told stands = fails_neither last items (view_of n) told (phase_shown n Running stands.whole.idle.running)
 by_faults last plan polls made (E.Caught f) items n told stands = fails_neither last items (view_of n) told (phase_shown n Running stands.0.idle.running)
@@ -84,14 +87,15 @@ by_faults last plan polls made E.GaveUp items n told stands = fails_neither last
 
 module _ (last : FaultsAreLast) (histories : BeginningsAreHistories) (log : List ℕ) (by : Chooser) (polls : ℕ) (l m : LoopState) (items : List Item) (new : IsNew l) where
   -- the log could not be begun or kept, and nothing was played
-  pub logs_not : Begins log B.KeepFault l m items → PlaysOut log by by polls E.KeepFault l m items
-  logs_not b = record {
+  pub logs_not : Begins log B.KeepFault l m items → IsHonest m.peer.game m.peer.me m.peer.entries → PlaysOut log by by polls E.KeepFault l m items
+  logs_not b honest = record {
+    honest = honest;
     run = record {
       history = histories log B.KeepFault l m items new b;
       setting = b.setting ∙ new_setting l new;
       told = b.told;
       few = (let none = b.polls in omega (arith, none));
-      stands = b.stands;
+      stands = record { fault = b.stands; rest = inr (inr (inr (ap (λ (p : PeerState). p.entries) b.peer ∙ sym (ap (λ (s : Setting). s.over) (b.setting ∙ new_setting l new))))) };
       kept = λ differs. absurd (differs refl);
       refused = false;
       refuses = tt;
@@ -101,8 +105,9 @@ module _ (last : FaultsAreLast) (histories : BeginningsAreHistories) (log : List
   }
 
   -- it could not listen, and nothing was played
-  pub listens_not : Begins log B.PollFault l m items → PlaysOut log by by polls E.PollFault l m items
-  listens_not b = record {
+  pub listens_not : Begins log B.PollFault l m items → IsHonest m.peer.game m.peer.me m.peer.entries → PlaysOut log by by polls E.PollFault l m items
+  listens_not b honest = record {
+    honest = honest;
     run = record {
       history = histories log B.PollFault l m items new b;
       setting = b.setting ∙ new_setting l new;
@@ -119,7 +124,7 @@ module _ (last : FaultsAreLast) (histories : BeginningsAreHistories) (log : List
 
 -- it listens, is ready to play, and played
 pub on_from : (last : FaultsAreLast) (whole : RunsAreWhole) (log : List ℕ) (by to : Chooser) (polls polls' : ℕ) (ended : Ended) (l m n : LoopState) (first items : List Item) → IsNew l → Begins log B.Ready l m first → polls' ≡ polls →
-    L.Ends by to polls' ended first items m n → PlaysOut log by to polls ended l n items
-on_from last whole log by to polls polls' ended l m n first items new b e w =
+    L.Ends by to polls' ended first items m n → IsHonest n.peer.game n.peer.me n.peer.entries → PlaysOut log by to polls ended l n items
+on_from last whole log by to polls polls' ended l m n first items new b e w honest =
     let x : L.Ends by to polls ended first items m n = subst (λ (k : ℕ). L.Ends by to k ended first items m n) e w in
-    record { run = whole log by to polls ended l m n first items new b x; faults = by_faults last by.plan polls x.made ended items n x.goes.told x.stands }
+    record { run = whole log by to polls ended l m n first items new b x; faults = by_faults last by.plan polls x.made ended items n x.goes.told x.stands; honest = honest }

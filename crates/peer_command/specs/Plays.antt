@@ -1,5 +1,6 @@
 -- Plays: what a run makes of the station and the generator.
 use Rattle.std.specs.Prelude.{◌≡◌, ◌⊎◌, ℕ, List, Option}
+use Rattle.definitions.specs.Honest.{IsHonest}
 use Rattle.station.specs.Sinks.{SinkState}
 use Rattle.socket_station.specs.Items.{Item}
 use Rattle.rosters.specs.Rosters.{Neighbours}
@@ -25,6 +26,8 @@ pub record PlaysOut (log : List ℕ) (by to : Chooser) (polls : ℕ) (ended : En
   pub run : IsRun log by to polls ended l n items
   -- and which failed calls stand behind that
   pub faults : StandsByFaults ended items
+  -- the peer of which the end is told is honest, after a fault of the log too
+  pub honest : IsHonest n.peer.game n.peer.me n.peer.entries
 
 -- what a run plays with: the peer, the others, the byte from which on an older log was dropped, if it was, the name of the log, and how many polls are
 -- granted

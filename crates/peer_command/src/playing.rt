@@ -41,9 +41,19 @@ fn play_out<S: Station, P: Pilot, R: Rng>(
     faults_are_last();
     runs_are_whole();
     match played.begin(station, log) {
-        Begun::KeepFault => Ended::KeepFault,
-        Begun::PollFault => Ended::PollFault,
-        Begun::Ready => played.play(station, pilot, chance, u64::from(polls)),
+        Begun::KeepFault => {
+            played.facts();
+            Ended::KeepFault
+        }
+        Begun::PollFault => {
+            played.facts();
+            Ended::PollFault
+        }
+        Begun::Ready => {
+            let ended = played.play(station, pilot, chance, u64::from(polls));
+            played.facts();
+            ended
+        }
     }
 }
 

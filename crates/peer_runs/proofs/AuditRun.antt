@@ -16,7 +16,7 @@ use Rattle.file_commands.specs.Audit.{audit_answer}
 use Rattle.file_commands.specs.AuditWords.{Auditing}
 use Rattle.run_files.specs.declared.audits.Audited.{Audited}
 use Rattle.run_files.specs.Audits.{IsAuditDue, IsAuditFor, OpensAudit}
-use Rattle.peer_runs.specs.AuditAnswers.{audit_by, audit_for}
+use Rattle.peer_runs.specs.AuditLaw.{audit_by, audit_for}
 use Rattle.peer_runs.specs.Commands.{ReadsFor}
 use Rattle.peer_runs.specs.Words.{Audit}
 use Rattle.peer_runs.proofs.Alone.{IsRefused}

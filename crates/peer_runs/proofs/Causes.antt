@@ -30,7 +30,9 @@ use Rattle.text_fields.specs.declared.fault.TextFault.TheVariants as text
 use Rattle.evidence.specs.declared.exhibit.Exhibit.{Exhibit}
 use Rattle.evidence.specs.Reading.{exhibit_at}
 use Rattle.file_commands.specs.Judge.{JudgeCause, is_shown, judge_answer, verdict_answer}
+use Rattle.file_commands.specs.JudgeLaws.{TellsVerdict}
 use Rattle.file_commands.specs.JudgeWords.{Judging}
+use Rattle.file_commands.proofs.Verdicts.{verdict_tells}
 use Rattle.schedule_command.specs.Causes.{ScheduleCause, TellsMatch, answer_in}
 use Rattle.schedule_command.specs.Schedule.{schedule_answer}
 use Rattle.schedule_command.proofs.Commanded.{schedule_caused, schedule_done, schedule_tells}
@@ -41,10 +43,11 @@ use Rattle.definitions.specs.Lists.{is_empty}
 use Rattle.file_commands.specs.Audit.{audit_answer, status_by}
 use Rattle.file_commands.specs.AuditWords.{Auditing}
 use Rattle.log_files.specs.Several.{LogFault, behind_first, first_fault, logs_in, owners_in}
-use Rattle.peer_runs.specs.AuditAnswers.{audit_by, audit_for}
+use Rattle.peer_runs.specs.AuditLaw.{AreAudited, audit_by, audit_for}
 use Rattle.run_files.specs.Exhibits.{case_for, evidence_front_of, exhibit_by, exhibit_in, with_exhibit}
-use Rattle.peer_runs.specs.Causes.{AreAudited, HasCause, IsCase, IsGood, IsMeant, IsSeated, IsSet}
-use Rattle.peer_runs.specs.Commands.{answer_of, begins_with}
+use Rattle.peer_runs.specs.Commands.{HasCause, IsGood, IsMeant, answer_of}
+use Rattle.peer_runs.specs.DriveLaw.{IsSeated, IsSet, begins_with}
+use Rattle.peer_runs.specs.JudgeLaw.{IsCase}
 use Rattle.line_io.specs.Files.{Contents, content}
 use Rattle.run_files.specs.Games.{begun, empty_beginning, ended_by, front_of, log_front_of, old_beginning, session_in, with_old, with_player}
 use Rattle.peer_runs.specs.Outside.{CountsFaults, OneFailed, Outside}
@@ -222,7 +225,8 @@ meant (Some (Drive d)) contents input = λ b set.
     (drive_tells_play d.player b input ahead (begun_honest b.game d.player _ b set.begins).honest)
 meant (Some (Upgrade session)) contents input = λ game read.
     subst (λ (a : Answer). TellsUpgrade game a.body) (sym (upgrade_answer_is contents game read)) (upgrade_tells game _ (game_found _ game read))
-meant (Some (Judge j)) contents input = tt
+meant (Some (Judge j)) contents input = λ case is.
+    subst (λ (x : Answer). TellsVerdict case.0 case.1 x.body) (sym (case_answer contents case is)) (verdict_tells case.0 case.1 (game_found _ case.0 is.read).session.ahead.0)
 meant (Some (Audit a)) contents input = λ game is bytes. record {
   text_is = ap (λ (x : Answer). x.body) (audit_answer_is a contents game is);
   faces = two_faces game (behind_first contents) (length a.logs) (game_found _ game is.read).session bytes;

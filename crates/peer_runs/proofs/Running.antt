@@ -24,8 +24,8 @@ use Rattle.run_frame.proofs.Finish.{finished}
 use Rattle.old_log.specs.Beginnings.{Beginning}
 use Rattle.drive_command.specs.Begin.{NeedsNoInput, begun_answer}
 use Rattle.drive_command.specs.Words.{Driving}
-use Rattle.peer_runs.specs.Causes.{HasCause}
-use Rattle.peer_runs.specs.Commands.{ReadsFor, ReadsThrough, answer_of, begins_with, names_of, takes_first, takes_late}
+use Rattle.peer_runs.specs.Commands.{HasCause, ReadsFor, ReadsThrough, answer_of, names_of, takes_first, takes_late}
+use Rattle.peer_runs.specs.DriveLaw.{begins_with}
 use Rattle.line_io.specs.Files.{AreContents, AreReadings, Calls, Contents, content}
 use Rattle.run_files.specs.Files.{OpensPeer, log_names}
 use Rattle.run_files.specs.Games.{IsStartFor}

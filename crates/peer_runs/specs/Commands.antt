@@ -1,111 +1,85 @@
--- Commands: what a command reads of its files, what it answers to them and to its input, and when it leaves the input alone. A further
--- command is a case of each definition here, and of `Words` and `Causes`.
-use Rattle.std.specs.Prelude.{◌≡◌, ℕ, Bool, true, false, List, [], ◌∷◌, map, Option, Some, None, Result, length, option_map}
+-- Commands: the law of each command, and its parts. A further command is a case of `law_of`, and of `Words`.
+use Rattle.std.specs.Prelude.{◌≡◌, ℕ, Bool, List, [], map, Option, Some, None}
 use Rattle.station.specs.Shelves.{ShelfState}
+use Rattle.line_io.specs.Files.{Calls, Contents, ReadsFiles}
 use Rattle.line_io.specs.Inputs.{Input}
-use Rattle.run_frame.specs.Frame.{Answer, OnDone, bare_answer}
+use Rattle.run_frame.specs.Frame.{Answer, bare_answer}
 use Rattle.run_frame.specs.declared.statuses.Status.{Status}
-use Rattle.run_frame.specs.declared.statuses.Status.TheVariants.{Usage}
-use Rattle.old_log.specs.Beginnings.{Beginning}
-use Rattle.drive_command.specs.Begin.{NeedsNoInput, drive_answer}
-use Rattle.drive_command.specs.Words.{Driving}
-use Rattle.file_commands.specs.Upgrade.{upgrade_answer}
-use Rattle.line_io.specs.Files.{Calls, Contents, ReadsFiles, content}
-use Rattle.run_files.specs.Files.{IsLogDue, log_names}
-use Rattle.run_files.specs.CaseFiles.{IsSecondDue}
-use Rattle.file_commands.specs.Judge.{judge_answer}
-use Rattle.log_files.specs.Several.{behind_first}
-use Rattle.schedule_command.specs.Causes.{answer_in}
-use Rattle.schedule_command.specs.Causes as schedules
-use Rattle.schedule_command.specs.Played.{OnEnd}
-use Rattle.make_command.specs.Make.{make_answer}
-use Rattle.run_files.specs.Audits.{AreLogsDue}
-use Rattle.peer_runs.specs.AuditAnswers.{audit_for}
-use Rattle.run_files.specs.Exhibits.{case_for}
-use Rattle.run_files.specs.Games.{beginning_for, session_in}
+use Rattle.run_frame.specs.declared.statuses.Status.TheVariants.{NoMemory, Usage, InputFault, OutputFault}
+use Rattle.peer_runs.specs.Law.{Law, law_without_input}
+use Rattle.peer_runs.specs.AuditLaw.{audit_law}
+use Rattle.peer_runs.specs.DriveLaw.{drive_law}
+use Rattle.peer_runs.specs.JudgeLaw.{judge_law}
+use Rattle.peer_runs.specs.MakeLaw.{make_law}
+use Rattle.peer_runs.specs.ScheduleLaw.{schedule_law}
+use Rattle.peer_runs.specs.UpgradeLaw.{upgrade_law}
 use Rattle.peer_runs.specs.Words.{Audit, Command, Drive, Judge, Make, Schedule, Upgrade}
 
--- the files that a command names, in the order of its words
-abbrev pub names_of : Option Command → List (List ℕ)
-names_of None = []
-names_of (Some (Drive d)) = d.session ∷ log_names d.old
-names_of (Some (Upgrade session)) = session ∷ []
-names_of (Some (Judge j)) = j.session ∷ j.evidence ∷ []
-names_of (Some (Audit a)) = a.session ∷ a.logs
-names_of (Some (Schedule session)) = session ∷ []
-names_of (Some (Make number)) = []
+-- why words that are no command end so
+abbrev pub usage_cause : Contents → Status → Type 0
+usage_cause contents Usage = Unit {0}
+usage_cause contents status = ⊥
 
--- what they hold, where each file holds this
+-- what is promised where words are no command: no file is read, and they are told so
+abbrev pub usage_law : Law
+usage_law = law_without_input []
+    (λ before after calls. after ≡ before)
+    (λ contents. bare_answer Usage)
+    usage_cause
+    (λ contents. ⊥)
+    (λ contents. Unit {0})
+
+-- the law of a command, and of words that are none
+abbrev pub law_of : Option Command → Law
+law_of None = usage_law
+law_of (Some (Drive d)) = drive_law d
+law_of (Some (Upgrade session)) = upgrade_law session
+law_of (Some (Judge j)) = judge_law j
+law_of (Some (Audit a)) = audit_law a
+law_of (Some (Schedule session)) = schedule_law session
+law_of (Some (Make number)) = make_law number
+
+-- ---- its parts
+
+abbrev pub names_of : Option Command → List (List ℕ)
+names_of command = (law_of command).names
+
+-- what its files hold, where each file holds this
 abbrev pub contents_of : Option Command → (files : List ℕ → Option (List ℕ)) → Contents
 contents_of command files = map files (names_of command)
 
--- Of which files nothing is read, as long as others don't ask for it.
 abbrev pub ReadsWhatIsDue : Option Command → (before after : ShelfState) → Calls → Type 0
-ReadsWhatIsDue None before after calls = after ≡ before
-ReadsWhatIsDue (Some (Drive d)) before after calls = IsLogDue d.player calls
-ReadsWhatIsDue (Some (Upgrade session)) before after calls = Unit {0}
-ReadsWhatIsDue (Some (Judge j)) before after calls = IsSecondDue calls
-ReadsWhatIsDue (Some (Audit a)) before after calls = AreLogsDue calls
-ReadsWhatIsDue (Some (Schedule session)) before after calls = Unit {0}
-ReadsWhatIsDue (Some (Make number)) before after calls = after ≡ before
+ReadsWhatIsDue command = (law_of command).due
 
 -- What a command reads of its files.
 pub record ReadsFor (command : Option Command) (before after : ShelfState) (calls : Calls) : Type 0 where
   pub reads : ReadsFiles (names_of command) before after calls
   pub due : ReadsWhatIsDue command before after calls
 
--- what a driven peer begins with, or how the run ends where there is nothing
-abbrev pub begins_with : Driving → Contents → Result Beginning Status
-begins_with d contents = beginning_for d.player (content contents 0) (option_map (λ name. content contents 1) d.old)
-
--- the answer to a command, where its files hold this
 abbrev pub answer_of : Option Command → Contents → Input → Answer
-answer_of None contents input = bare_answer Usage
-answer_of (Some (Drive d)) contents input = drive_answer d.player (begins_with d contents) input
-answer_of (Some (Upgrade session)) contents input = upgrade_answer (session_in (content contents 0))
-answer_of (Some (Judge j)) contents input = judge_answer (case_for (content contents 0) (content contents 1))
-answer_of (Some (Audit a)) contents input = audit_for (session_in (content contents 0)) (behind_first contents) (length a.logs)
-answer_of (Some (Schedule session)) contents input = answer_in (session_in (content contents 0)) input
-answer_of (Some (Make number)) contents input = make_answer number
+answer_of command = (law_of command).answer
 
--- Nothing is due by the input, where its files hold this.
 abbrev pub IsOverAtFirst : Option Command → Contents → Type 0
-IsOverAtFirst None contents = Unit {0}
-IsOverAtFirst (Some (Drive d)) contents = NeedsNoInput d.player (begins_with d contents)
-IsOverAtFirst (Some (Upgrade session)) contents = Unit {0}
-IsOverAtFirst (Some (Judge j)) contents = Unit {0}
-IsOverAtFirst (Some (Audit a)) contents = Unit {0}
-IsOverAtFirst (Some (Schedule session)) contents = schedules.NeedsNoInput (session_in (content contents 0))
-IsOverAtFirst (Some (Make number)) contents = Unit {0}
+IsOverAtFirst command = (law_of command).over
 
--- Where a command that reads its input came to its end, it has read the input to its end: a driven peer without a finding, and a match
--- with one or without.
 abbrev pub ReadsThrough : Option Command → Status → (ended : Bool) → Type 0
-ReadsThrough None status ended = Unit {0}
-ReadsThrough (Some (Drive d)) status ended = OnDone status (ended ≡ true)
-ReadsThrough (Some (Upgrade session)) status ended = Unit {0}
-ReadsThrough (Some (Judge j)) status ended = Unit {0}
-ReadsThrough (Some (Audit a)) status ended = Unit {0}
-ReadsThrough (Some (Schedule session)) status ended = OnEnd status (ended ≡ true)
-ReadsThrough (Some (Make number)) status ended = Unit {0}
+ReadsThrough command = (law_of command).through
 
--- Whether a command takes memory after its first byte too, so that a front of its text may stand before the line for want of memory.
 abbrev pub takes_late : Option Command → Bool
-takes_late None = false
-takes_late (Some (Drive d)) = false
-takes_late (Some (Upgrade session)) = false
-takes_late (Some (Judge j)) = false
-takes_late (Some (Audit a)) = true
-takes_late (Some (Schedule session)) = false
-takes_late (Some (Make number)) = false
+takes_late command = (law_of command).late
 
--- Whether a command takes its memory before it reads its input, so that the input is left alone where memory is wanting. A match takes
--- the memory of its honest players, whom a line names.
 abbrev pub takes_first : Option Command → Bool
-takes_first None = true
-takes_first (Some (Drive d)) = true
-takes_first (Some (Upgrade session)) = true
-takes_first (Some (Judge j)) = true
-takes_first (Some (Audit a)) = true
-takes_first (Some (Schedule session)) = false
-takes_first (Some (Make number)) = true
+takes_first command = (law_of command).first
+
+-- why the program may end so with this command, these files and this input
+abbrev pub HasCause : Option Command → Contents → Input → Status → Type 0
+HasCause command contents input NoMemory = Unit {0}
+HasCause command contents input InputFault = Unit {0}
+HasCause command contents input OutputFault = Unit {0}
+HasCause command contents input status = (law_of command).cause contents input status
+
+abbrev pub IsGood : Option Command → Contents → Input → Type 0
+IsGood command = (law_of command).good
+
+abbrev pub IsMeant : Option Command → Contents → Input → Type 0
+IsMeant command = (law_of command).meant

@@ -1,7 +1,12 @@
 pub mod Words
-pub mod AuditAnswers
+pub mod Law
+pub mod DriveLaw
+pub mod UpgradeLaw
+pub mod JudgeLaw
+pub mod AuditLaw
+pub mod ScheduleLaw
+pub mod MakeLaw
 pub mod Commands
-pub mod Causes
 pub mod Outside
 pub mod Runs
 pub mod Seats

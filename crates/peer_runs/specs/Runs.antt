@@ -11,8 +11,7 @@ use Rattle.run_frame.specs.declared.statuses.Status.{Status}
 use Rattle.run_frame.specs.declared.statuses.Status.TheVariants.{Done, NoMemory, OutputFault, Usage}
 use Rattle.peer_runs.specs.Words.{Command}
 use Rattle.line_io.specs.Files.{AreContents, Calls, Contents}
-use Rattle.peer_runs.specs.Commands.{IsOverAtFirst, ReadsFor, ReadsThrough, answer_of, takes_first, takes_late}
-use Rattle.peer_runs.specs.Causes.{HasCause, IsGood, IsMeant}
+use Rattle.peer_runs.specs.Commands.{HasCause, IsGood, IsMeant, IsOverAtFirst, ReadsFor, ReadsThrough, answer_of, takes_first, takes_late}
 use Rattle.peer_runs.specs.Outside.{CountsFaults, Outside}
 
 -- a run: the command that its words say, if they say one, and the outside before it and after it

@@ -6,8 +6,9 @@
 //! touches the station and the generator: what is promised of it is a record of its own (`specs/Peers.antt`), and of all other
 //! commands `specs/Runs.antt` is the one. The words are read by plain comparisons; `peer_cli` has them split by clap, and promises the same.
 //!
-//! A further command is a case of `Command` and of `obey`, and in `specs/` of `Words`, `Commands` and `Causes`: its crate has its words, its
-//! answer, its causes, one function and its laws, as `drive_command` does. What a run promises (`specs/Runs.antt`) names none of them.
+//! A further command is a case of `Command` and of `obey`, and in `specs/` of `Words` and of `law_of` in `Commands`, with a page for its law, as
+//! `JudgeLaw` is: its crate has its words, its answer, its causes, one function and its laws. What a run promises (`specs/Runs.antt`) names none
+//! of them.
 #![tactic(auto)]
 
 mod auditing;

@@ -168,7 +168,7 @@ got_more l w = (let k = w.kept in omega (arith, k))
 
 pub got_stops : (r : Bool) (items after : List Item) (l m : LoopState) → IsGot l → IsTold items (view_of l) → FitsNext l → r ≡ false → after ≡ items ++ keep_item (did_by r) (next_bytes l) ∷ [] → m ≡ kept_next r l → Hears false items after l m
 got_stops r items after l m w told fits is on state =
-    got_faults items after l m (Got w.arrival.player w.arrival.frame) (got_keeps items l w told fits) (on ∙ ap (λ (b : Bool). items ++ keep_item (did_by b) (next_bytes l) ∷ []) is) (state ∙ ap (λ (b : Bool). kept_next b l) is)
+    got_faults items after l m (Got w.arrival.player w.arrival.frame) (got_keeps items l w told fits) w.entries (on ∙ ap (λ (b : Bool). items ++ keep_item (did_by b) (next_bytes l) ∷ []) is) (state ∙ ap (λ (b : Bool). kept_next b l) is)
 
 -- the loop after the keep, seen as its parts, and then with one more frame handled
 pub got_state : (r : Bool) (l m i n : LoopState) → r ≡ true → m ≡ kept_next r l → i ≡ m → n ≡ record i { handled = i.handled + 1 } → n ≡ record l { kept = l.kept + 1; handled = l.handled + 1 }

@@ -1,5 +1,5 @@
 -- Choosing: an own move is chosen, and kept.
-use Rattle.std.proofs.Common.{◌≡◌, ℕ, zero, suc, ◌+◌, ◌-◌, ◌*◌, ◌<◌, ◌≤◌, Bool, true, false, refl, sym, ap, subst, ◌∙◌, List, [], ◌∷◌, ◌++◌, append-nil, arith, length}
+use Rattle.std.proofs.Common.{inl, inr, ◌≡◌, ℕ, zero, suc, ◌+◌, ◌-◌, ◌*◌, ◌<◌, ◌≤◌, Bool, true, false, refl, sym, ap, subst, ◌∙◌, List, [], ◌∷◌, ◌++◌, append-nil, arith, length}
 use Rattle.std.specs.Prelude.{Option, Some, None, IfSome, not, if◌then◌else◌, ◌&&◌, take, slice_get, is_none}
 use Rattle.std.specs.List.{fold}
 use Rattle.std.proofs.lemmas.List.{length-append, take-append-le}
@@ -44,7 +44,7 @@ use Rattle.loop_rules.specs.Told.{IsTold}
 use Rattle.loop_rules.proofs.Kept.{Keeps, keeps_sorted}
 use Rattle.ready_loop.specs.States.{LoopState, IsFit, setting_of, kept_of, base_of, rest_of, view_of}
 use Rattle.ready_loop.specs.Steps.{did_by, next_bytes, kept_next}
-use Rattle.ready_loop.specs.Going.{Grows, IsSteady, undialled}
+use Rattle.ready_loop.specs.Going.{Grows, IsCut, IsSteady, undialled}
 use Rattle.ready_loop.specs.Handling.{Advances, StandsPlayed}
 use Rattle.ready_loop.specs.declared.playing.Played.TheVariants as P
 use Rattle.ready_loop.specs.declared.playing.Played.{Played}
@@ -235,14 +235,17 @@ pub choose_faults : (by to : Chooser) (r : Bool) (items after : List Item) (l m 
     ((e : Entry) → slice_get m.peer.entries m.kept ≡ Some e → FitsEntry e) → r ≡ false → after ≡ items ++ keep_item (did_by r) (next_bytes m) ∷ [] → n ≡ kept_next r m → Chooses by to P.KeepFault items after l n
 choose_faults by to r items after l m n mv nonce fault d w p none fits is on state =
     let q = puts_none l m mv nonce fault p none in
+    let e : Entry = Chose (length (chosen l.peer.me l.peer.entries)) mv nonce in
     let same : n ≡ kept_next false m = state ∙ ap (λ (b : Bool). kept_next b m) is in
+    let both : n ≡ kept_next false (with_entries (l.peer.entries ++ e ∷ []) l) = same ∙ ap (kept_next false) q.stands.0 in
+    let kept : take l.kept (l.peer.entries ++ e ∷ []) ≡ l.peer.entries = take-append-le l.kept l.peer.entries (e ∷ []) (let k = w.steady.idle.kept in omega (arith, k)) ∙ all_kept l w.steady.idle.kept in
     record {
-      choices = chose_one l n by to mv nonce d (ap (λ (x : LoopState). x.peer) (same ∙ ap (kept_next false) q.stands.0));
+      choices = chose_one l n by to mv nonce d (ap (λ (x : LoopState). x.peer) both);
       grows = put_goes false r items after l m n mv nonce fault w p none fits is on state;
       table = ap (λ (x : LoopState). x.table) same ∙ ap (λ (x : LoopState). x.table) q.stands.0;
       synced = ap (λ (x : LoopState). x.synced) same ∙ ap (λ (x : LoopState). x.synced) q.stands.0;
       clean = λ on. absurd (false≢true on);
-      stands = ap (λ (x : LoopState). x.phase) same;
+      stands = subst IsCut (sym both) (record { fault = refl; rest = inr (inl (e, ap (λ (xs : List Entry). xs ++ e ∷ []) (sym kept))) });
     }
 
 -- after the keep of the choice

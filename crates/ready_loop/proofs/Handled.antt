@@ -1,5 +1,5 @@
 -- Handled: the entry of a frame is kept, and all frames that wait are handled.
-use Rattle.std.proofs.Common.{◌≡◌, ℕ, zero, suc, ◌+◌, ◌<◌, Bool, true, false, refl, sym, ap, subst, ◌∙◌, List, [], ◌∷◌, ◌++◌, arith, length}
+use Rattle.std.proofs.Common.{inl, inr, ◌≡◌, ℕ, zero, suc, ◌+◌, ◌<◌, Bool, true, false, refl, sym, ap, subst, ◌∙◌, List, [], ◌∷◌, ◌++◌, arith, length}
 use Rattle.std.specs.Prelude.{◌&&◌, nat_lt, drop, take}
 use Rattle.std.proofs.lemmas.Bool.{ltb-false, le-ltb}
 use Rattle.std.proofs.Math.Seq.{take-length}
@@ -24,14 +24,14 @@ use Rattle.ready_loop.proofs.Kept.{MayKeep, fault_told, got_told}
 
 -- ---- the entry of a frame
 
-pub got_faults : (items after : List Item) (l m : LoopState) (e : Entry) → MayKeep items l e → after ≡ items ++ keep_item (did_by false) (next_bytes l) ∷ [] → m ≡ kept_next false l → Hears false items after l m
-got_faults items after l m e w on same =
+pub got_faults : (items after : List Item) (l m : LoopState) (e : Entry) → MayKeep items l e → l.peer.entries ≡ kept_of l ++ e ∷ [] → after ≡ items ++ keep_item (did_by false) (next_bytes l) ∷ [] → m ≡ kept_next false l → Hears false items after l m
+got_faults items after l m e w entries on same =
     subst (λ (x : LoopState). Hears false items after l x) (sym same) (record {
       goes = goes_one items after (Failed (KeepCall (next_bytes l))) l (in_phase KeepFault l) on refl refl (omega arith) (fault_told items l e w) refl;
       keeps = record { lines = refl; rooms = λ p. refl };
       waiting = refl;
       handled = λ d. absurd (let f : false ≡ true = d in cc);
-      stands = refl;
+      stands = record { fault = refl; rest = inr (inl (e, entries)) };
     })
 
 pub got_goes : (items after : List Item) (l m : LoopState) (w : IsGot l) → l.handled < length l.table.waiting → MayKeep items l (Got w.arrival.player w.arrival.frame) →
@@ -79,8 +79,8 @@ pub handles_fault : (before items after : List Item) (l m n : LoopState) → Han
 handles_fault before items after l m n w h = record {
   goes = goes_then before items after l m n w.goes h.goes;
   keeps = keeps_then l.table m.table n.table w.keeps h.keeps;
-  on = sym (ap (λ (p : Phase). is_running p && is_clean n.peer.game n.peer.entries) h.stands);
-  stands = λ e. absurd (let f : KeepFault ≡ Running = sym h.stands ∙ e in cc);
+  on = sym (ap (λ (p : Phase). is_running p && is_clean n.peer.game n.peer.entries) h.stands.fault);
+  stands = λ e. absurd (let f : KeepFault ≡ Running = sym h.stands.fault ∙ e in cc);
   fault = λ e. h.stands;
 }
 

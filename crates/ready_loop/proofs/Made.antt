@@ -1,5 +1,5 @@
 -- Made: the own frames that were just made are kept one by one.
-use Rattle.std.proofs.Common.{◌≡◌, ℕ, zero, suc, ◌+◌, ◌*◌, ◌<◌, ◌≤◌, Bool, true, false, refl, sym, ap, subst, ◌∙◌, List, [], ◌∷◌, ◌++◌, append_assoc, append-nil, arith, length}
+use Rattle.std.proofs.Common.{inl, inr, ◌≡◌, ℕ, zero, suc, ◌+◌, ◌*◌, ◌<◌, ◌≤◌, Bool, true, false, refl, sym, ap, subst, ◌∙◌, List, [], ◌∷◌, ◌++◌, append_assoc, append-nil, arith, length}
 use Rattle.std.proofs.lemmas.Bool.{and_from}
 use Rattle.std.specs.Prelude.{Option, Some, None, ◌&&◌, take, slice_get}
 use Rattle.std.proofs.lemmas.List.{length-take-le}
@@ -141,7 +141,7 @@ made_faults before items after l m n w g same =
       handled = w.handled;
       synced = w.synced;
       peer = w.peer;
-      stands = refl;
+      stands = record { fault = refl; rest = inr (inr (inl (sym w.made))) };
     })
 
 -- all are kept

@@ -29,7 +29,7 @@ use Rattle.ready_loop.specs.declared.settling.Settled.TheVariants as S
 use Rattle.ready_loop.specs.declared.playing.Played.TheVariants as P
 use Rattle.ready_loop.specs.States.{LoopState, view_of}
 use Rattle.ready_loop.specs.Steps.{synced_all, with_table}
-use Rattle.ready_loop.specs.Going.{Goes, Grows, IsSteady, undialled}
+use Rattle.ready_loop.specs.Going.{Goes, Grows, IsCut, IsSteady, undialled}
 use Rattle.ready_loop.specs.declared.playing.Played.{Played}
 use Rattle.ready_loop.specs.Handling.{IsReadyToRead, StandsRead, ReadsAll, Advances, StandsPlayed}
 use Rattle.ready_loop.proofs.ReadAll.{ready_on}
@@ -45,7 +45,7 @@ use Rattle.ready_loop.proofs.Going.{goes_then, grows, grows_then, goes_grows, gr
 use Rattle.ready_loop.proofs.Choices.{chooses_none, chooses_then, goes_chooses, chooses_goes}
 use Rattle.ready_loop.proofs.Served.{serving_on}
 use Rattle.ready_loop.proofs.Licensed.{MayWait, licensed, not_waiting, not_running, not_clean, still_chooses}
-use Rattle.ready_loop.proofs.Synced.{synced_whole}
+use Rattle.ready_loop.proofs.Synced.{unsynced_cut, synced_whole}
 
 -- ---- ends
 
@@ -62,7 +62,7 @@ stop_stands : (plan : Option Plan) (settled : Settled) (n : LoopState) → Stand
 stop_stands plan S.Idle n w = absurd w
 stop_stands plan S.Done n w = absurd w
 stop_stands plan (S.Caught f) n w = (w, sym (not_clean n w.0.idle (found_unclean n.peer.game n.peer.entries f w.1)))
-stop_stands plan S.KeepFault n w = (w, sym (not_running n w))
+stop_stands plan S.KeepFault n w = (w, sym (not_running n w.fault))
 stop_stands plan (S.OwnMove turn fault) n w = absurd w
 
 pub stop_passes : (by : Chooser) (settled : Settled) (before mid after : List Item) (l m n : LoopState) → Goes before mid l m → Stops settled mid after m n → Passes by by (Some settled) before after l n
@@ -82,14 +82,11 @@ stop_settles by settled before mid after l m n g s =
     let w = stop_passes by settled before mid after l m n g s in
     record { refused = w.refused; refuses = w.refuses; choices = w.choices; grows = w.grows; stands = w.stands.0; licensed = w.stands.1 }
 
-pub fault_passes : (by to : Chooser) (refused : Bool) (before after : List Item) (l n : LoopState) → ChoosesIn by to refused l n → Grows before after l n → n.phase ≡ KeepFault → Passes by to (Some S.KeepFault) before after l n
-fault_passes by to refused before after l n c g f = record { refused = refused; refuses = tt; choices = c; grows = g; stands = (f, sym (not_running n f)) }
+pub fault_passes : (by to : Chooser) (refused : Bool) (before after : List Item) (l n : LoopState) → ChoosesIn by to refused l n → Grows before after l n → IsCut n → Passes by to (Some S.KeepFault) before after l n
+fault_passes by to refused before after l n c g f = record { refused = refused; refuses = tt; choices = c; grows = g; stands = (f, sym (not_running n f.fault)) }
 
-pub fault_settles : (by : Chooser) (before after : List Item) (l n : LoopState) → Goes before after l n → n.phase ≡ KeepFault → Settles by by S.KeepFault before after l n
-fault_settles by before after l n g f = record { refused = false; refuses = tt; choices = chooses_none by before after l n g; grows = grows before after l n g; stands = f; licensed = sym (not_running n f) }
-
-pub sync_faults : (before after : List Item) (l m : LoopState) → Syncs false before after l m → m.phase ≡ KeepFault
-sync_faults before after l m s = ap (λ (x : LoopState). x.phase) s.same
+pub fault_settles : (by : Chooser) (before after : List Item) (l n : LoopState) → Goes before after l n → IsCut n → Settles by by S.KeepFault before after l n
+fault_settles by before after l n g f = record { refused = false; refuses = tt; choices = chooses_none by before after l n g; grows = grows before after l n g; stands = f; licensed = sym (not_running n f.fault) }
 
 -- an own move that is not legal, once all is synced
 own_move_on : (plan : Option Plan) (turn : ℕ) (fault : MoveFault) (b c : LoopState) → c ≡ synced_all true b → IsOwnMove plan turn fault b → IsOwnMove plan turn fault c
@@ -162,6 +159,7 @@ done_stands after e w d honest none =
     let idle = w.serving.steady.idle in (
       record {
         whole = record { idle = idle; synced = w.serving.synced };
+        clean = w.serving.clean;
         done = done_of e.peer.game e.peer.me e.peer.entries d honest w.serving.clean w.serving.steady.made w.chosen (empty_of (needs e.peer.game e.peer.me e.peer.entries) parts.0);
         given = parts.1;
       },
@@ -258,7 +256,7 @@ reads_ready before mid l a r w sure = ready_on mid l a before w.goes (subst (λ 
 pub pass_playing : (before mid : List Item) (l a : LoopState) (r : Bool) → ReadsAll r before mid l a → r ≡ true → IsPlaying mid a
 pass_playing before mid l a r w sure = let ready = reads_ready before mid l a r w sure in record { told = ready.told; steady = ready.steady }
 
-fault_of : (plan : Option Plan) (played : Played) (b : LoopState) → StandsAs plan played b → is_fault played ≡ true → b.phase ≡ KeepFault
+fault_of : (plan : Option Plan) (played : Played) (b : LoopState) → StandsAs plan played b → is_fault played ≡ true → IsCut b
 fault_of plan P.On b s e = absurd (false≢true e)
 fault_of plan P.KeepFault b s e = s
 fault_of plan (P.OwnMove turn fault) b s e = absurd (false≢true e)
@@ -285,11 +283,12 @@ pass_fault by to played r q i j k l a b w p is sure =
 pub pass_ready : (by to : Chooser) (played : Played) (q : Bool) (j k : List Item) (a b : LoopState) → Plays by to played j k a b → q ≡ is_fault played → q ≡ false → IsReady k b
 pass_ready by to played q j k a b p is none = record { told = p.grows.told; idle = (steady_of by.plan played b p.stands (sym is ∙ none)).idle }
 
-pub pass_unsynced : (by to : Chooser) (played : Played) (r s : Bool) (i j k m : List Item) (l a b c : LoopState) → ReadsAll r i j l a → Plays by to played j k a b → Syncs s k m b c → s ≡ false → Passes by to (Some S.KeepFault) i m l c
-pass_unsynced by to played r s i j k m l a b c w p y none =
+pub pass_unsynced : (by to : Chooser) (played : Played) (q r s : Bool) (i j k m : List Item) (l a b c : LoopState) → ReadsAll r i j l a → Plays by to played j k a b → q ≡ is_fault played → q ≡ false →
+    Syncs s k m b c → s ≡ false → Passes by to (Some S.KeepFault) i m l c
+pass_unsynced by to played q r s i j k m l a b c w p is sound y none =
     let g = pass_grows by to played r i j k l a b w p in
     fault_passes by to (is_refused played) i m l c (chooses_goes by to (is_refused played) k m l b c g.1.setting g.0 y.goes) (grows_goes i k m l b c g.1 y.goes)
-    (ap (λ (x : LoopState). x.phase) (y.same ∙ ap (λ (t : Bool). synced_all t b) none))
+    (unsynced_cut b c (steady_of by.plan played b p.stands (sym is ∙ sound)).idle (y.same ∙ ap (λ (t : Bool). synced_all t b) none))
 
 syncs_so : (s : Bool) (k m : List Item) (b c : LoopState) → Syncs s k m b c → s ≡ true → Syncs true k m b c
 syncs_so s k m b c y sure = subst (λ (t : Bool). Syncs t k m b c) sure y

@@ -13,7 +13,7 @@ use Rattle.ready_loop.specs.Steps.{synced_all}
 use Rattle.ready_loop.specs.Settling.{IsReady, IsStopping, Stops, Syncs}
 use Rattle.ready_loop.proofs.Going.{goes_still}
 use Rattle.ready_loop.proofs.ReadAll.{running_is}
-use Rattle.ready_loop.proofs.Synced.{synced_whole}
+use Rattle.ready_loop.proofs.Synced.{synced_whole, unsynced_cut}
 
 pub stop_faulty : (items : List Item) (l : LoopState) (r : Bool) → IsStopping items l → r ≡ is_running l.phase → r ≡ false → Stops S.KeepFault items items l l
 stop_faulty items l r w is none = record { goes = goes_still items l w.told; stands = w.fault (λ e. false≢true (sym none ∙ is ∙ ap is_running e)) }
@@ -21,8 +21,9 @@ stop_faulty items l r w is none = record { goes = goes_still items l w.told; sta
 pub stop_ready : (items : List Item) (l : LoopState) (r : Bool) → IsStopping items l → r ≡ is_running l.phase → r ≡ true → IsReady items l
 stop_ready items l r w is sure = record { told = w.told; idle = w.idle (running_is l.phase (sym is ∙ sure)) }
 
-pub stop_unsynced : (items after : List Item) (l m : LoopState) (r : Bool) → Syncs r items after l m → r ≡ false → Stops S.KeepFault items after l m
-stop_unsynced items after l m r s none = record { goes = s.goes; stands = ap (λ (x : LoopState). x.phase) (s.same ∙ ap (λ (b : Bool). synced_all b l) none) }
+pub stop_unsynced : (items after : List Item) (l m : LoopState) (q r : Bool) → IsStopping items l → q ≡ is_running l.phase → q ≡ true → Syncs r items after l m → r ≡ false → Stops S.KeepFault items after l m
+stop_unsynced items after l m q r w is run s none =
+    record { goes = s.goes; stands = unsynced_cut l m (w.idle (running_is l.phase (sym is ∙ run))) (s.same ∙ ap (λ (b : Bool). synced_all b l) none) }
 
 pub syncs_true : (items after : List Item) (l m : LoopState) (r : Bool) → Syncs r items after l m → r ≡ true → Syncs true items after l m
 syncs_true items after l m r s sure = subst (λ (b : Bool). Syncs b items after l m) sure s

@@ -13,7 +13,7 @@ use Rattle.loop_rules.proofs.Told.{told_goes_on}
 use Rattle.session_log.specs.Writing.{Writing}
 use Rattle.ready_loop.specs.States.{LoopState, IsFit, base_of, view_of}
 use Rattle.ready_loop.specs.Steps.{did_by, in_phase, synced_all}
-use Rattle.ready_loop.specs.Going.{Goes, IsIdle}
+use Rattle.ready_loop.specs.Going.{Goes, IsCut, IsIdle}
 use Rattle.ready_loop.specs.Settling.{IsReady, Syncs, IsWhole}
 use Rattle.ready_loop.proofs.Going.{goes_one, goes_still}
 use Rattle.ready_loop.proofs.Idle.{still_view, idle_view, all_kept}
@@ -45,6 +45,10 @@ syncs done before after l m w lt on same = record { goes = sync_goes done before
 -- nothing is to be synced
 pub syncs_none : (before : List Item) (l : LoopState) → IsReady before l → l.synced ≡ l.kept → Syncs true before before l l
 syncs_none before l w e = record { goes = goes_still before l w.told; same = ap (λ (n : ℕ). record l { synced = n }) e }
+
+-- the sync failed
+pub unsynced_cut : (l m : LoopState) → IsIdle l → m ≡ synced_all false l → IsCut m
+unsynced_cut l m w same = subst IsCut (sym same) (record { fault = refl; rest = inl (sym (all_kept l w.kept)) })
 
 pub synced_whole : (before after : List Item) (l m : LoopState) → IsIdle l → Syncs true before after l m → IsWhole m
 synced_whole before after l m w s =

@@ -54,7 +54,7 @@ ended_stops : (plan : Option Plan) (polls made : ℕ) (ended : Ended) (n : LoopS
 ended_stops plan polls made E.Done n w = inr (whole_stops n w.whole)
 ended_stops plan polls made (E.Caught f) n w = inr (whole_stops n w.0)
 ended_stops plan polls made E.PollFault n w = inr (deaf_stops n w)
-ended_stops plan polls made E.KeepFault n w = inl w
+ended_stops plan polls made E.KeepFault n w = inl w.fault
 ended_stops plan polls made (E.OwnMove turn fault) n w = inr (record { kept = w.0.idle.kept; synced = w.0.synced; stops = w.1.chooses })
 ended_stops plan polls made E.GaveUp n w = inr (whole_stops n w.whole)
 

@@ -1,13 +1,14 @@
 -- Going on: what the calls of a loop promise of the history of its station.
-use Rattle.std.specs.Prelude.{◌≡◌, ℕ, ◌+◌, ◌≤◌, Bool, not, ◌&&◌, List, [], ◌∷◌, ◌++◌, None, length}
+use Rattle.std.specs.Prelude.{◌≡◌, ◌⊎◌, ℕ, ◌+◌, ◌≤◌, Bool, not, ◌&&◌, List, [], ◌∷◌, ◌++◌, None, length}
 use Rattle.std.specs.List.{count_by}
-use Rattle.definitions.specs.Advance.{next_made}
+use Rattle.definitions.specs.declared.logs.Entry.{Entry}
+use Rattle.definitions.specs.Advance.{advance, next_made}
 use Rattle.definitions.specs.Findings.{is_clean}
 use Rattle.socket_station.specs.Items.{Item, Polled}
-use Rattle.loop_rules.specs.declared.phases.Phase.TheVariants.{Running, PollFault}
+use Rattle.loop_rules.specs.declared.phases.Phase.TheVariants.{Running, KeepFault, PollFault}
 use Rattle.loop_rules.specs.Licence.{is_running}
 use Rattle.loop_rules.specs.Told.{IsTold}
-use Rattle.ready_loop.specs.States.{LoopState, setting_of, choices_of, view_of}
+use Rattle.ready_loop.specs.States.{LoopState, kept_of, setting_of, choices_of, view_of}
 
 -- how many polls an item tells of
 abbrev pub poll_count : Item → ℕ
@@ -61,6 +62,20 @@ pub record IsDeaf (l : LoopState) : Type 0 where
   pub synced : l.synced ≡ l.kept
   pub waiting : l.table.waiting ≡ []
   pub handled : l.handled ≡ 0
+
+-- How the log stands to the entries kept, where a call of the log failed: it has no more, or one more, which came or was chosen, or also the own
+-- frames that the entries kept let be made; or nothing was added yet to those taken over.
+abbrev pub IsRest : LoopState → Type 0
+IsRest l =
+    (l.peer.entries ≡ kept_of l)
+    ⊎ (((e : Entry) × (l.peer.entries ≡ kept_of l ++ e ∷ []))
+    ⊎ ((l.peer.entries ≡ advance l.peer.game l.peer.me (kept_of l))
+    ⊎ (l.peer.entries ≡ (setting_of l).over)))
+
+-- a call of the log failed
+pub record IsCut (l : LoopState) : Type 0 where
+  pub fault : l.phase ≡ KeepFault
+  pub rest : IsRest l
 
 -- before a socket is read or written: no own frame is left to be made either
 pub record IsSteady (l : LoopState) : Type 0 where

@@ -13,7 +13,7 @@ use Rattle.socket_station.specs.Items.{Item, read_item}
 use Rattle.socket_station.specs.Withins.{TakesWithin}
 use Rattle.socket_station.specs.declared.answers.SocketRead.{SocketRead}
 use Rattle.socket_lines.specs.declared.line.Line.{Line}
-use Rattle.loop_rules.specs.declared.phases.Phase.TheVariants.{Running, KeepFault}
+use Rattle.loop_rules.specs.declared.phases.Phase.TheVariants.{Running}
 use Rattle.socket_lines.specs.Seats.{asks}
 use Rattle.loop_rules.specs.declared.arrivals.Arrival.{Arrival}
 use Rattle.loop_rules.specs.Tables.{Table, at_seat, seat_of, room_by_seat, room_on}
@@ -25,12 +25,12 @@ use Rattle.ready_loop.specs.Hearers.{hearer_by}
 use Rattle.definitions.specs.Lists.{EachIs}
 use Rattle.ready_loop.specs.States.{LoopState, kept_of, view_of}
 use Rattle.ready_loop.specs.Steps.{with_table, read_on}
-use Rattle.ready_loop.specs.Going.{Goes, IsPlayed, IsSteady, goes_on}
+use Rattle.ready_loop.specs.Going.{Goes, IsCut, IsPlayed, IsSteady, goes_on}
 
 -- the loop runs, and every entry is kept and no own frame left; or a keep failed
 abbrev pub StandsPlayed : (done : Bool) → LoopState → Type 0
 StandsPlayed true m = (m.phase ≡ Running) × IsPlayed m
-StandsPlayed false m = m.phase ≡ KeepFault
+StandsPlayed false m = IsCut m
 
 -- the own frames are made that the protocol lets be made, and kept; nothing else changes
 pub record Advances (done : Bool) (before after : List Item) (l m : LoopState) : Type 0 where
@@ -100,7 +100,7 @@ pub record Handles (answer : Bool) (before after : List Item) (l m : LoopState) 
   pub keeps : KeepsLines l.table m.table
   pub on : answer ≡ goes_on m
   pub stands : m.phase ≡ Running → IsSteady m
-  pub fault : (m.phase ≡ Running → ⊥) → m.phase ≡ KeepFault
+  pub fault : (m.phase ≡ Running → ⊥) → IsCut m
 
 -- ---- reading
 
@@ -146,7 +146,7 @@ pub record IsReadyToRead (items : List Item) (l : LoopState) : Type 0 where
 pub record StandsRead (answer : Bool) (l m : LoopState) : Type 0 where
   pub on : answer ≡ goes_on m
   pub steady : m.phase ≡ Running → IsSteady m
-  pub fault : (m.phase ≡ Running → ⊥) → m.phase ≡ KeepFault
+  pub fault : (m.phase ≡ Running → ⊥) → IsCut m
   pub sockets : SameSockets l.table m.table
 
 -- one read of the socket at the place, and what it brought handled

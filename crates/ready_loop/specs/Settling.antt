@@ -18,7 +18,7 @@ use Rattle.definition_laws.specs.First.{finding_of_log}
 use Rattle.definition_laws.specs.Advancing.{IsDone}
 use Rattle.pilots.specs.Plans.{Plan}
 use Rattle.socket_station.specs.Items.{Item}
-use Rattle.loop_rules.specs.declared.phases.Phase.TheVariants.{Running, KeepFault}
+use Rattle.loop_rules.specs.declared.phases.Phase.TheVariants.{Running}
 use Rattle.loop_rules.specs.Licence.{bytes_wait, is_licensed}
 use Rattle.loop_rules.specs.Told.{IsTold}
 use Rattle.loop_rules.specs.Handling.{IsOfOther}
@@ -28,7 +28,7 @@ use Rattle.ready_loop.specs.declared.playing.Played.{Played}
 use Rattle.ready_loop.specs.declared.playing.Played.TheVariants as P
 use Rattle.ready_loop.specs.States.{LoopState, view_of}
 use Rattle.ready_loop.specs.Steps.{synced_all}
-use Rattle.ready_loop.specs.Going.{Goes, Grows, IsIdle, IsSteady, goes_on, undialled}
+use Rattle.ready_loop.specs.Going.{Goes, Grows, IsCut, IsIdle, IsSteady, goes_on, undialled}
 use Rattle.ready_loop.specs.Choices.{Chooser, ChoosesBy}
 use Rattle.ready_loop.specs.Handling.{IsReadyToRead}
 
@@ -78,13 +78,13 @@ pub record PutsChoice (mv : Move) (nonce : Nonce) (fault : Option MoveFault) (l 
 -- all moves are chosen that may be, or a keep failed, or a move is not legal
 abbrev pub StandsAs : Option Plan → Played → LoopState → Type 0
 StandsAs plan P.On m = IsSteady m × (may_choose m.peer.game m.peer.me m.peer.entries ≡ false)
-StandsAs plan P.KeepFault m = m.phase ≡ KeepFault
+StandsAs plan P.KeepFault m = IsCut m
 StandsAs plan (P.OwnMove turn fault) m = IsSteady m × IsOwnMove plan turn fault m
 
 -- one move is chosen
 abbrev pub StandsChosen : Option Plan → Played → LoopState → LoopState → Type 0
 StandsChosen plan P.On l m = IsSteady m × (length (chosen m.peer.me m.peer.entries) ≡ length (chosen l.peer.me l.peer.entries) + 1)
-StandsChosen plan P.KeepFault l m = m.phase ≡ KeepFault
+StandsChosen plan P.KeepFault l m = IsCut m
 StandsChosen plan (P.OwnMove turn fault) l m = IsSteady m × IsOwnMove plan turn fault m
 
 -- the own moves that are chosen meanwhile are the chooser's
@@ -104,9 +104,10 @@ pub record IsWhole (m : LoopState) : Type 0 where
   pub idle : IsIdle m
   pub synced : m.synced ≡ m.kept
 
--- no own turn is left, nobody is waited for, and no bytes wait
+-- the log has no finding, no own turn is left, nobody is waited for, and no bytes wait
 pub record IsOver (m : LoopState) : Type 0 where
   pub whole : IsWhole m
+  pub clean : is_clean m.peer.game m.peer.entries ≡ true
   pub done : IsDone m.peer.game m.peer.me m.peer.entries
   pub given : bytes_wait (made_count m.peer.entries) m.table ≡ false
 
@@ -115,7 +116,7 @@ abbrev pub StandsSettled : Option Plan → Settled → LoopState → Type 0
 StandsSettled plan S.Idle m = IsWhole m
 StandsSettled plan S.Done m = IsOver m
 StandsSettled plan (S.Caught f) m = IsWhole m × (finding_of_log m.peer.game m.peer.entries ≡ Some f)
-StandsSettled plan S.KeepFault m = m.phase ≡ KeepFault
+StandsSettled plan S.KeepFault m = IsCut m
 StandsSettled plan (S.OwnMove turn fault) m = IsWhole m × IsOwnMove plan turn fault m
 
 abbrev pub is_idle : Settled → Bool
@@ -171,13 +172,13 @@ pub record IsStopping (items : List Item) (l : LoopState) : Type 0 where
   pub told : IsTold items (view_of l)
   pub on : goes_on l ≡ false
   pub idle : l.phase ≡ Running → IsIdle l
-  pub fault : (l.phase ≡ Running → ⊥) → l.phase ≡ KeepFault
+  pub fault : (l.phase ≡ Running → ⊥) → IsCut l
 
 abbrev pub StandsStopped : Settled → LoopState → Type 0
 StandsStopped S.Idle m = ⊥
 StandsStopped S.Done m = ⊥
 StandsStopped (S.Caught f) m = IsWhole m × (finding_of_log m.peer.game m.peer.entries ≡ Some f)
-StandsStopped S.KeepFault m = m.phase ≡ KeepFault
+StandsStopped S.KeepFault m = IsCut m
 StandsStopped (S.OwnMove turn fault) m = ⊥
 
 pub record Stops (settled : Settled) (before after : List Item) (l m : LoopState) : Type 0 where

@@ -18,7 +18,7 @@ use socket_station::{Did, Station};
 pub enum Round {
     /// A poll was licensed, and was made.
     On,
-    /// All own turns are made, nobody is waited for, and no bytes wait.
+    /// The log has no finding, all own turns are made, nobody is waited for, and no bytes wait.
     Done,
     /// The log has a finding: this is its first.
     Caught(Finding),
@@ -33,7 +33,7 @@ pub enum Round {
 /// How a run ended.
 #[derive(Clone, Copy, Debug, PartialEq, Eq)]
 pub enum Ended {
-    /// All own turns are made, nobody is waited for, and no bytes wait.
+    /// The log has no finding, all own turns are made, nobody is waited for, and no bytes wait.
     Done,
     /// The log has a finding: this is its first.
     Caught(Finding),

@@ -77,7 +77,7 @@ impl Loop {
     }
 
     /// What holds of the peer: its session's numbers are within their limits, and its log is honest.
-    pub(crate) fn facts(&self)
+    pub fn facts(&self)
         ensures { IsStanding self.now.peer }
     {
         self.peer.facts();

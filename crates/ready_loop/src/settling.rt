@@ -18,7 +18,7 @@ use socket_station::Station;
 pub enum Settled {
     /// A poll is licensed.
     Idle,
-    /// All own turns are made, nobody is waited for, and no bytes wait.
+    /// The log has no finding, all own turns are made, nobody is waited for, and no bytes wait.
     Done,
     /// The log has a finding: this is its first.
     Caught(Finding),

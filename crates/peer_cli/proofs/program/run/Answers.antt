@@ -3,6 +3,7 @@ use Rattle.std.specs.Prelude.{is_some}
 use Rattle.drive_command.proofs.Runs.{drive_runs}
 use Rattle.drive_command.proofs.Streams.{gives_next}
 use Rattle.peer_command.specs.Words.{Peering}
+use Rattle.peer_command.proofs.Survived.{crashes_are_survived}
 use Rattle.peer_cli.proofs.program.run.Goals as goal
 
 some_there : (o : Option Peering) (p : Peering) → is_some o ≡ false → o ≡ Some p → ⊥
@@ -48,3 +49,9 @@ returns-then-is_peering-clause-steps g c = drive_runs
 
 pub returns-then-is_peering-clause-streams : goal.returns-then-is_peering-clause-streams
 returns-then-is_peering-clause-streams g c = gives_next
+
+pub returns-else-is_peering-clause-crashes : goal.returns-else-is_peering-clause-crashes
+returns-else-is_peering-clause-crashes g c = crashes_are_survived
+
+pub returns-then-is_peering-clause-crashes : goal.returns-then-is_peering-clause-crashes
+returns-then-is_peering-clause-crashes g c = crashes_are_survived

@@ -19,7 +19,8 @@ sync-requires g c = record { ready = pass_ready _ _ c.choose_all-played.result c
 
 pub returns-then-not-sync : goal.returns-then-not-sync
 returns-then-not-sync g c =
-    pass_unsynced _ _ c.choose_all-played.result c.read_all.result c.sync.result _ _ _ _ c.args.self.now c.read_all.new.self c.choose_all-played.new.self c.sync.new.self c.read_all.ensures c.choose_all-played.ensures c.sync.ensures c.if-not-sync.true
+    pass_unsynced _ _ c.choose_all-played.result c.is_fault.result c.read_all.result c.sync.result _ _ _ _ c.args.self.now c.read_all.new.self c.choose_all-played.new.self c.sync.new.self c.read_all.ensures c.choose_all-played.ensures
+    c.is_fault.ensures c.if-is_fault.false c.sync.ensures c.if-not-sync.true
 
 pub returns-in-OwnMove : goal.returns-in-OwnMove
 returns-in-OwnMove g c =
