@@ -1,0 +1,12 @@
+pub mod Pending
+pub mod Fits
+pub mod Views
+pub mod Making
+pub mod Taken
+pub mod Kept
+pub mod Sent
+pub mod Settles
+pub mod Played
+pub mod Began
+pub mod Told
+pub mod Whole

@@ -1,0 +1,9 @@
+pub mod States
+pub mod Beginning
+pub mod Pending
+pub mod Keeping
+pub mod Receiving
+pub mod Sending
+pub mod Settling
+pub mod Playing
+pub mod Laws

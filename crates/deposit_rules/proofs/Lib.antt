@@ -1,0 +1,5 @@
+pub mod Prefixes
+pub mod Standings
+pub mod Fronts
+pub mod Heard
+pub mod Given

@@ -1,0 +1,7 @@
+pub mod States
+pub mod Beginning
+pub mod Going
+pub mod Reading
+pub mod Serving
+pub mod Polling
+pub mod Reports

@@ -1,0 +1,5 @@
+pub mod Lists
+pub mod Turned
+pub mod Standing
+pub mod Owned
+pub mod Kept

@@ -1,0 +1,93 @@
+-- Turned: a page goes on with the bytes that came.
+use Rattle.std.proofs.Common.{◌≡◌, ℕ, ◌+◌, ◌≤◌, Bool, true, false, List, [], ◌∷◌, ◌++◌, length, refl, sym, ap, subst, ◌∙◌, append-nil, arith}
+use Rattle.std.specs.Prelude.{Option, Some, None, ◌&&◌, ◌==◌, is_some, if◌then◌else◌}
+use Rattle.definitions.specs.declared.limits.TheConstants.{LONGEST_LOG}
+use Rattle.definitions.specs.World.{Game}
+use Rattle.session_log.specs.declared.reader.Next.TheVariants as next
+use Rattle.session_log.specs.declared.feed.Fault.{Fault}
+use Rattle.session_log.specs.declared.feed.Fault.TheVariants.{BadChain, BadEntry}
+use Rattle.session_log.specs.Fed.{IsFeedOf}
+use Rattle.session_log.specs.Feeding.{LogFeeding, given_of, end_at, end_by_owner, end_unless, finished, torn_at}
+use Rattle.auditor.specs.declared.auditor.Auditor.{Auditor}
+use Rattle.auditor.specs.Audits.{owner_in}
+use Rattle.auditor.specs.Taking.{IsFeeding, LeavesOthers, TakesAll}
+use Rattle.watch_rules.specs.Streams.{Stream, count_of, entries_of, feeding_of, gone_on, is_others, took}
+use Rattle.log_books.specs.declared.pages.Page.{Page}
+use Rattle.log_books.specs.Pages.{GoesOn, IsPageOf, begins_others, is_fault}
+use Rattle.watch_rules.proofs.Streams.{count_more, entries_more, feeding_more, owner_is}
+
+-- a log has a fault exactly where its end so far is one
+fault_at : (at : ℕ) → is_fault (end_at at) ≡ false
+fault_at at = go (at == 1)
+  where
+    go : (b : Bool) → is_fault (if b then next.Torn 0 else next.End) ≡ false
+    go true = refl
+    go false = refl
+
+fault_torn : (at : ℕ) (held : List ℕ) → is_fault (torn_at at held) ≡ false
+fault_torn at [] = fault_at at
+fault_torn at (b ∷ held) = refl
+
+fault_none : (owner : Option ℕ) (at : ℕ) (held : List ℕ) → is_fault (end_by_owner owner at held) ≡ false
+fault_none None at held = refl
+fault_none (Some me) at held = fault_torn at held
+
+pub fault_is : (f : LogFeeding) → is_fault (finished f) ≡ is_some f.fault
+fault_is f = go f.fault
+  where
+    go : (o : Option Fault) → is_fault (end_unless o (end_by_owner f.owner f.at f.held)) ≡ is_some o
+    go None = fault_none f.owner f.at f.held
+    go (Some (BadChain at)) = refl
+    go (Some (BadEntry at)) = refl
+
+others_test : (game : Game) (a : Auditor) (q : ℕ) (s : Stream) (p : Page) (bytes : List ℕ) → IsPageOf game a q s p → begins_others p q bytes ≡ ((count_of s == 0) && is_others q bytes)
+others_test game a q s p bytes w = ap (λ (n : ℕ). (n == 0) && is_others q bytes) w.count
+
+-- the first byte is another player's: the player is closed
+pub others_go : (game : Game) (a : Auditor) (q : ℕ) (s : Stream) (p : Page) (bytes : List ℕ) → IsPageOf game a q s p → begins_others p q bytes ≡ true → GoesOn game a a q s (took game q s bytes) (record p { is_closed = true })
+others_go game a q s p bytes w h =
+    let e : ((count_of s == 0) && is_others q bytes) ≡ true = sym (others_test game a q s p bytes w) ∙ h in
+    subst (λ (b : Bool). GoesOn game a a q s (if b then record s { is_closed = true } else gone_on game (s.pieces ++ bytes ∷ [])) (record p { is_closed = true })) (sym e) (record {
+      page = record { closed = refl; count = w.count; most = w.most; feed = w.feed; used = w.used; counted = w.counted };
+      more = [];
+      entries = sym (append-nil (entries_of game s));
+      taken = λ g logs is. is;
+      owner = λ o. o;
+      session = refl;
+      others = λ i n. (refl, refl);
+    })
+
+-- the bytes were fed to the page, and the auditor took what they gave
+pub record WasFed (game : Game) (a b : Auditor) (q : ℕ) (s : Stream) (p m : Page) (bytes : List ℕ) : Type 0 where
+  pub all : TakesAll game a b q p.feed m.feed bytes (feeding_of game s.pieces)
+  pub feeding : IsFeeding b q m.feed
+  pub within : m.feed.used ≤ p.feed.used + length bytes
+  pub session : b.session ≡ a.session
+  pub owner : owner_in b q ≡ m.feed.owner
+  pub others : LeavesOthers a b q
+  pub count : m.count ≡ p.count + length bytes
+  pub few : p.count + length bytes ≤ LONGEST_LOG
+  pub closed : (f : LogFeeding) → IsFeedOf m.feed f → m.is_closed ≡ is_fault (finished f)
+
+pub fed_goes : (game : Game) (a b : Auditor) (q : ℕ) (s : Stream) (p m : Page) (bytes : List ℕ) → IsPageOf game a q s p → begins_others p q bytes ≡ false → WasFed game a b q s p m bytes → GoesOn game a b q s (took game q s bytes) m
+fed_goes game a b q s p m bytes w h k =
+    let e : ((count_of s == 0) && is_others q bytes) ≡ false = sym (others_test game a q s p bytes w) ∙ h in
+    let f : LogFeeding = feeding_of game (s.pieces ++ bytes ∷ []) in
+    let t : Stream = gone_on game (s.pieces ++ bytes ∷ []) in
+    let is : IsFeedOf m.feed f = subst (IsFeedOf m.feed) (sym (feeding_more game s.pieces bytes)) k.all.feed in
+    subst (λ (c : Bool). GoesOn game a b q s (if c then record s { is_closed = true } else t) m) (sym e) (record {
+      page = record {
+        closed = k.closed f is ∙ fault_is f;
+        count = k.count ∙ ap (λ n. n + length bytes) w.count ∙ sym (count_more game s bytes);
+        most = (let few = k.few in let n = k.count in omega (arith, few, n));
+        feed = is;
+        used = (let u = k.within in let v = w.used in let n = k.count in omega (arith, u, v, n));
+        counted = k.feeding.counted;
+      };
+      more = (given_of game (feeding_of game s.pieces) bytes).entries;
+      entries = entries_more game s bytes;
+      taken = k.all.taken;
+      owner = λ o. k.owner ∙ is.owner ∙ owner_is game t;
+      session = k.session;
+      others = k.others;
+    })

@@ -1,0 +1,45 @@
+-- Pages: how far one player's log came, and what bytes that come make of it.
+use Rattle.std.specs.Prelude.{◌≡◌, ℕ, ◌≤◌, Bool, true, false, ◌==◌, ◌&&◌, List, ◌++◌}
+use Rattle.definitions.specs.declared.limits.TheConstants.{LONGEST_LOG}
+use Rattle.definitions.specs.declared.logs.Entry.{Entry}
+use Rattle.definitions.specs.World.{Game}
+use Rattle.session_log.specs.declared.reader.Next.{Next}
+use Rattle.session_log.specs.declared.reader.Next.TheVariants as next
+use Rattle.session_log.specs.Fed.{IsFeedOf}
+use Rattle.auditor.specs.declared.auditor.Auditor.{Auditor}
+use Rattle.auditor.specs.Audits.{count_in, owner_in}
+use Rattle.auditor.specs.Taking.{LeavesOthers, Takes}
+use Rattle.watch_rules.specs.Streams.{Stream, count_of, entries_of, feeding_of, is_others, owner_of}
+use Rattle.log_books.specs.declared.pages.Page.{Page}
+
+-- the end of a log so far is a fault
+abbrev pub is_fault : Next → Bool
+is_fault (next.Entry e) = false
+is_fault next.End = false
+is_fault (next.Torn at) = false
+is_fault (next.BadChain at) = true
+is_fault (next.BadEntry at) = true
+
+-- these are the first bytes of the log, and of another player
+abbrev pub begins_others : Page → (q : ℕ) → List ℕ → Bool
+begins_others p q bytes = (p.count == 0) && is_others q bytes
+
+-- the page is as far as the stream, and the auditor has no more entries than bytes came
+pub record IsPageOf (game : Game) (a : Auditor) (q : ℕ) (s : Stream) (p : Page) : Type 0 where
+  pub closed : p.is_closed ≡ s.is_closed
+  pub count : p.count ≡ count_of s
+  pub most : p.count ≤ LONGEST_LOG
+  pub feed : IsFeedOf p.feed (feeding_of game s.pieces)
+  pub used : p.feed.used ≤ p.count
+  pub counted : count_in a q ≤ p.feed.used
+
+-- the page went on from one stream to the next, and the auditor took the entries that are more in
+-- it
+pub record GoesOn (game : Game) (a b : Auditor) (q : ℕ) (s t : Stream) (p : Page) : Type 0 where
+  pub page : IsPageOf game b q t p
+  pub more : List Entry
+  pub entries : entries_of game t ≡ entries_of game s ++ more
+  pub taken : Takes a b q more
+  pub owner : owner_in a q ≡ owner_of game s → owner_in b q ≡ owner_of game t
+  pub session : b.session ≡ a.session
+  pub others : LeavesOthers a b q

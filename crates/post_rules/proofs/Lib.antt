@@ -1,0 +1,9 @@
+pub mod Told
+pub mod Runs
+pub mod Logs
+pub mod Received
+pub mod Given
+pub mod Stretches
+pub mod Opened
+pub mod Firsts
+pub mod Whole

@@ -1,0 +1,11 @@
+pub mod Views
+pub mod Hearing
+pub mod Handling
+pub mod Keeping
+pub mod Sending
+pub mod Licence
+pub mod Rules
+pub mod After
+pub mod Histories
+pub mod Laws
+pub mod Runs

@@ -1,0 +1,2 @@
+pub mod SealedFrames
+pub mod Laws

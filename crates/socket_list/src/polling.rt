@@ -1,0 +1,115 @@
+//! A poll is made, and sockets open.
+
+ghost use Rattle.std.specs.Prelude.{◌≡◌, ◌≤◌, ◌<◌, ◌∷◌, [], ◌++◌, ◌==◌, if◌then◌else◌, true, filter, length, vec_capacity, vec_len};
+ghost use Rattle.socket_lines.specs.Lines.{woken};
+ghost use Rattle.loop_rules.specs.Tables.{in_lines};
+ghost use Rattle.loop_rules.specs.Told.{IsNotIn};
+ghost use Rattle.socket_table.specs.Opening.{AreNewTo};
+ghost use Rattle.socket_list.specs.declared.sockets.TheConstants.{MOST_SOCKETS};
+ghost use Rattle.socket_list.specs.Sockets.{at_line, opened_on, listed, rested, polled_on};
+ghost use Rattle.socket_list.specs.Sound.{none_wrong};
+
+use crate::sockets::Sockets;
+use socket_lines::{Line, MOST_ACCEPTED};
+use socket_station::ready_list::MOST_READY;
+use socket_station::{Ready, SocketId};
+
+/// Adds the line at the end, for which there is room.
+fn add(list: &mut Vec<Line>, line: Line)
+    requires { vec_len list.old < vec_capacity list.old }
+    ensures items { list.new.items ≡ list.old.items ++ line ∷ [] }
+    ensures capacity { vec_capacity list.old ≤ vec_capacity list.new }
+{
+    list.push(line).unwrap();
+}
+
+/// A socket that was listed may be read and written again.
+fn wake(line: &mut Line, socket: SocketId)
+    ensures { line.new ≡ (if line.old.socket == socket then woken line.old else line.old) }
+{
+    if line.socket == socket {
+        line.wake();
+    }
+}
+
+/// The same of all lines.
+fn wake_all(lines: &mut [Line], socket: SocketId)
+    ensures { lines.new ≡ in_lines socket woken lines.old }
+{
+    for line in lines.iter_mut() {
+        wake(line, socket);
+    }
+}
+
+/// Closed sockets go.
+fn drop_closed(lines: &mut Vec<Line>)
+    ensures items { lines.new.items ≡ filter (λ l. l.is_open) lines.old.items }
+    ensures capacity { vec_capacity lines.new ≡ vec_capacity lines.old }
+{
+    let mut at = 0;
+    while at < lines.len() {
+        if lines[at].is_open {
+            at += 1;
+        } else {
+            lines.remove(at);
+        }
+    }
+}
+
+impl Sockets {
+    /// A socket that was listed may be read and written again.
+    fn wake(&mut self, socket: SocketId)
+        ensures { self.new ≡ at_line socket woken self.old }
+    {
+        wake_all(&mut self.lines, socket);
+    }
+
+    /// A new socket was accepted: one beyond the most that are is to be shut.
+    fn open(&mut self, socket: SocketId)
+        requires new { IsNotIn socket self.old.lines }
+        requires few { length self.old.lines < MOST_SOCKETS }
+        ensures { self.new ≡ opened_on socket self.old }
+    {
+        if self.accepted < MOST_ACCEPTED {
+            add(&mut self.lines, Line::accepted(socket, false));
+            self.accepted += 1;
+        } else {
+            add(&mut self.lines, Line::accepted(socket, true));
+        }
+    }
+
+    /// Closed sockets go; the others are no more than are accepted at most.
+    fn rest(&mut self)
+        requires { none_wrong self.old ≡ true }
+        ensures sockets { self.new ≡ rested self.old }
+        ensures few { length self.new.lines ≤ MOST_ACCEPTED }
+    {
+        drop_closed(&mut self.lines);
+    }
+
+    /// A poll listed this.
+    fn list(&mut self, item: Ready)
+        requires new { AreNewTo self.old.lines (item ∷ []) }
+        requires few { length self.old.lines < MOST_SOCKETS }
+        ensures { self.new ≡ listed self.old item }
+    {
+        match item {
+            Ready::Opened(socket) => self.open(socket),
+            Ready::Socket(socket) => self.wake(socket),
+        }
+    }
+
+    /// A poll was made and listed this: closed sockets go, sockets open, and others may be read
+    /// and written again. No open socket is left that is to be shut, and those that open are new.
+    pub fn polled(&mut self, ready: &[Ready])
+        requires wrong { none_wrong self.old ≡ true }
+        requires few { length ready.now ≤ MOST_READY }
+        requires new { AreNewTo self.old.lines ready.now }
+        ensures { self.new ≡ polled_on ready.now self.old }
+    {
+        self.rest();
+        for item in ready {
+            self.list(*item);
+        }
+    }
+}

@@ -1,0 +1,4 @@
+pub mod Prefixes
+pub mod Told
+pub mod Given
+pub mod Streams

@@ -1,0 +1,89 @@
+-- Streams: what one piece more makes of a log, and that nothing follows the byte that closed a
+-- player.
+use Rattle.std.proofs.Common.{◌≡◌, ℕ, ◌+◌, true, List, [], ◌∷◌, ◌++◌, length, refl, sym, ap, ◌∙◌, append_assoc, append-nil, length-append}
+use Rattle.std.specs.Prelude.{Option, Some, None, drop, flat_map, is_some}
+use Rattle.std.proofs.lemmas.Bool.{false≢true}
+use Rattle.std.proofs.lemmas.List.{flat_map_more}
+use Rattle.definitions.specs.declared.logs.Entry.{Entry}
+use Rattle.definitions.specs.World.{Game}
+use Rattle.session_log.specs.declared.feed.Fault.{Fault}
+use Rattle.session_log.specs.declared.feed.Fault.TheVariants.{BadChain, BadEntry}
+use Rattle.session_log.specs.declared.feed.LogFedWhat.{LogFedWhat}
+use Rattle.session_log.specs.Feeding.{LogFeeding, LogGiven, fed_by_owner, fed_step, fed_unless, feed_at_start, given_by, given_of, given_on, given_over, what_of}
+use Rattle.session_log.specs.Laws.{owner_in}
+use Rattle.session_log.specs.Reading.{next_step, read_log}
+use Rattle.session_log.proofs.Pieces.{log_pieces_same}
+use Rattle.watch_rules.specs.Streams.{Stream, bytes_of, count_of, entries_of, feeding_of, gone_on, no_stream, owner_of}
+use Rattle.watch_rules.specs.Laws.{LaterBytesGiveNothing}
+
+over_feeding : (game : Game) (f : LogFeeding) (pieces : List (List ℕ)) (piece : List ℕ) →
+    (given_over game f (pieces ++ piece ∷ [])).feeding ≡ (given_of game (given_over game f pieces).feeding piece).feeding
+over_feeding game f [] piece = refl
+over_feeding game f (q ∷ qs) piece = over_feeding game (given_of game f q).feeding qs piece
+
+over_entries : (game : Game) (f : LogFeeding) (pieces : List (List ℕ)) (piece : List ℕ) →
+    (given_over game f (pieces ++ piece ∷ [])).entries ≡ (given_over game f pieces).entries ++ (given_of game (given_over game f pieces).feeding piece).entries
+over_entries game f [] piece = append-nil (given_of game f piece).entries
+over_entries game f (q ∷ qs) piece =
+    let one : LogGiven = given_of game f q in
+    let more : LogGiven = given_over game one.feeding qs in
+    ap (λ (es : List Entry). one.entries ++ es) (over_entries game one.feeding qs piece) ∙ sym (append_assoc one.entries more.entries (given_of game more.feeding piece).entries)
+
+pub feeding_more : (game : Game) (pieces : List (List ℕ)) (piece : List ℕ) → feeding_of game (pieces ++ piece ∷ []) ≡ (given_of game (feeding_of game pieces) piece).feeding
+feeding_more game pieces piece = over_feeding game (feed_at_start game.id) pieces piece
+
+pub entries_more : (game : Game) (s : Stream) (piece : List ℕ) → entries_of game (gone_on game (s.pieces ++ piece ∷ [])) ≡ entries_of game s ++ (given_of game (feeding_of game s.pieces) piece).entries
+entries_more game s piece =
+    let all = log_pieces_same game (s.pieces ++ piece ∷ []) in
+    let old = log_pieces_same game s.pieces in
+    sym all.entries ∙ over_entries game (feed_at_start game.id) s.pieces piece ∙ ap (λ (es : List Entry). es ++ (given_of game (feeding_of game s.pieces) piece).entries) old.entries
+
+pub owner_is : (game : Game) (s : Stream) → (feeding_of game s.pieces).owner ≡ owner_of game s
+owner_is game s = (log_pieces_same game s.pieces).owner
+
+pub count_more : (game : Game) (s : Stream) (piece : List ℕ) → count_of (gone_on game (s.pieces ++ piece ∷ [])) ≡ count_of s + length piece
+count_more game s piece = ap (λ (x : List ℕ). length x) (sym (flat_map_more (λ (p : List ℕ). p) [] s.pieces piece)) ∙ length-append (bytes_of s) piece
+
+pub none_of : (game : Game) → entries_of game no_stream ≡ []
+unfolding read_log next_step
+none_of game = refl
+
+-- ---- the byte that closed a player
+
+given_none : (x : Fault) (w : LogFedWhat) (f : LogFeeding) (left : LogGiven) → w ≡ what_of x → ((given_on w f left).entries ≡ []) × ((given_on w f left).feeding ≡ f)
+given_none x w f left e = (ap (λ (u : LogFedWhat). (given_on u f left).entries) e ∙ (fault x).0, ap (λ (u : LogFedWhat). (given_on u f left).feeding) e ∙ (fault x).1)
+  where
+    fault : (y : Fault) → ((given_on (what_of y) f left).entries ≡ []) × ((given_on (what_of y) f left).feeding ≡ f)
+    fault (BadChain at) = (refl, refl)
+    fault (BadEntry at) = (refl, refl)
+
+fault_stays : (game : Game) (f : LogFeeding) (bytes : List ℕ) (x : Fault) → f.fault ≡ Some x → ((fed_step game f bytes).fed.what ≡ what_of x) × ((fed_step game f bytes).feeding ≡ f)
+unfolding fed_step
+fault_stays game f bytes x e =
+    (ap (λ (o : Option Fault). (fed_unless o f (fed_by_owner game f.owner f bytes)).fed.what) e, ap (λ (o : Option Fault). (fed_unless o f (fed_by_owner game f.owner f bytes)).feeding) e)
+
+-- a reader that met a fault gives no entry more, and stays as it is
+faulty_gives : (game : Game) (f : LogFeeding) (bytes : List ℕ) (x : Fault) → f.fault ≡ Some x → ((given_of game f bytes).entries ≡ []) × ((given_of game f bytes).feeding ≡ f)
+faulty_gives game f bytes x e =
+    let s = fault_stays game f bytes x e in
+    let left : LogGiven = given_by game (length bytes) (fed_step game f bytes).feeding (drop (fed_step game f bytes).fed.used bytes) in
+    let g = given_none x (fed_step game f bytes).fed.what (fed_step game f bytes).feeding left s.0 in
+    (g.0, g.1 ∙ s.1)
+
+some_fault : (o : Option Fault) → is_some o ≡ true → (x : Fault) × (o ≡ Some x)
+some_fault None e = absurd (false≢true e)
+some_fault (Some x) e = (x, refl)
+
+pub later_bytes_give_nothing : LaterBytesGiveNothing
+later_bytes_give_nothing game pieces front rest closed =
+    let ps : List (List ℕ) = pieces ++ front ∷ [] in
+    let x = some_fault (feeding_of game ps).fault closed in
+    let g = faulty_gives game (feeding_of game ps) rest x.0 x.1 in
+    let same : flat_map (λ (p : List ℕ). p) (pieces ++ (front ++ rest) ∷ []) ≡ flat_map (λ (p : List ℕ). p) (ps ++ rest ∷ []) =
+    sym (flat_map_more (λ (p : List ℕ). p) [] pieces (front ++ rest))
+    ∙ sym (append_assoc (flat_map (λ (p : List ℕ). p) pieces) front rest)
+    ∙ ap (λ (b : List ℕ). b ++ rest) (flat_map_more (λ (p : List ℕ). p) [] pieces front)
+    ∙ flat_map_more (λ (p : List ℕ). p) [] ps rest in (
+      ap (λ (b : List ℕ). (read_log game b).entries) same ∙ entries_more game (gone_on game ps) rest ∙ ap (λ (es : List Entry). entries_of game (gone_on game ps) ++ es) g.0 ∙ append-nil (entries_of game (gone_on game ps)),
+      ap (λ (b : List ℕ). owner_in game b) same ∙ sym (owner_is game (gone_on game (ps ++ rest ∷ []))) ∙ ap (λ (f : LogFeeding). f.owner) (feeding_more game ps rest ∙ g.1) ∙ owner_is game (gone_on game ps),
+    )
