@@ -1,8 +1,8 @@
 -- Holding: the first clash with a frame that is put into an empty slot.
-use Rattle.std.proofs.Common.{◌≡◌, ℕ, ◌+◌, ◌*◌, ◌<◌, ◌≤◌, List, length, set, refl, Bool, true, false, sym, ◌∙◌, ap, subst, arith, inl, inr, Option, Some, None}
-use Rattle.std.specs.Prelude.{if◌then◌else◌, max, min, nat_lt}
+use Rattle.std.proofs.Common.{◌≡◌, ℕ, ◌+◌, ◌*◌, ◌<◌, ◌≤◌, List, length, set, refl, Bool, true, false, sym, ◌∙◌, ap, subst, arith, inl, inr, Option, Some, None, length-set}
+use Rattle.std.specs.Prelude.{if◌then◌else◌, max, min, nat_lt, not}
 use Rattle.std.specs.Option.{option_or}
-use Rattle.std.proofs.lemmas.Bool.{ltb-false, ltb-true}
+use Rattle.std.proofs.lemmas.Bool.{eq-eqb, ltb-false, ltb-true, ne_eqb}
 use Rattle.std.specs.List.{range_with_len}
 use Rattle.plain_lemmas.proofs.Lists.{some_within}
 use Rattle.definitions.specs.declared.findings.Kind.TheVariants.{BadOpening}
@@ -20,10 +20,11 @@ use Rattle.peer_window.specs.declared.received.Received.{Received}
 use Rattle.peer_window.specs.declared.received.Clash.{Clash}
 use Rattle.peer_window.specs.declared.received.Offer.{Offer}
 use Rattle.peer_window.specs.declared.walk.Reach.{Reach}
-use Rattle.peer_window.specs.Clashes.{clash_in, first_clash, illegal_clash, lower_clash, opening_clash, same_digest}
-use Rattle.peer_window.specs.Steps.{frame_step, illegal_at, illegal_in, judged_step, reveal_step, slot_step}
+use Rattle.peer_window.specs.Clashes.{clash_in, first_clash, illegal_clash, is_of, lower_clash, opening_clash, same_digest}
+use Rattle.peer_window.specs.Steps.{AgreeBut, frame_step, illegal_at, illegal_in, judged_step, reveal_step, slot_step}
 use Rattle.peer_window.specs.Slots.{AreSlots, in_order, other_slot, slot_of, slot}
 use Rattle.peer_window.specs.Windows.{IsHeld, new_answer}
+use Rattle.peer_window.proofs.Clashing.{pair_same}
 use Rattle.peer_window.proofs.Grown.{cases_eq, slot_other, slot_same}
 use Rattle.peer_window.proofs.Ordered.{AllBefore, slot_each}
 use Rattle.peer_window.proofs.Pairs.{digest_sym, none_range, or_none, range_at, range_none}
@@ -83,6 +84,55 @@ opening_turn game (Some g) r y h = go (same_digest game g r) h
     go true e = absurd (let no : None ≡ Some y = e in cc)
     go false e = let same : (let k : Clash = record { turn = turn_of r.frame; kind = BadOpening; first = g.entry; second = r.entry } in k) ≡ y = cc in ap (λ (k : Clash). k.turn) (sym same)
 
+-- other turns are as they were
+pub elsewhere : (game : Game) (q t : ℕ) (ss : List (Option Received)) (at : Reach) (r : Received) → IsSession game → IsHeld game q ss at → first_clash game q (in_order ss) ≡ None → t < game.turns → (t ≡ turn_of r.frame → ⊥) →
+    pair_clash game t (slot (set ss (slot_of r.frame) (Some r)) (2 * t)) (slot (set ss (slot_of r.frame) (Some r)) (2 * t + 1)) ≡ None
+elsewhere game q t ss at r is h clean le apart =
+    let near = turn_at r.frame in
+    let low = near.0 in
+    let high = near.1 in
+    ap (λ (o : Option Received). pair_clash game t o (slot (set ss (slot_of r.frame) (Some r)) (2 * t + 1))) (slot_other ss (slot_of r.frame) (2 * t) r (λ e. apart (omega arith)))
+    ∙ ap (pair_clash game t (slot ss (2 * t))) (slot_other ss (slot_of r.frame) (2 * t + 1) r (λ e. apart (omega arith)))
+    ∙ pairs_agree game q t ss at is h clean le
+
+-- the frames of a turn agree where they make no clash
+clash_tells : (game : Game) (t : ℕ) (c g : Received) → same_digest game c g ≡ not (is_of (pair_clash game t (Some c) (Some g)) t)
+clash_tells game t c g = go (same_digest game c g)
+  where
+    go : (b : Bool) → b ≡ not (is_of (if b then None else Some (let k : Clash = record { turn = t; kind = BadOpening; first = min c.entry g.entry; second = max c.entry g.entry } in k)) t)
+    go true = refl
+    go false = ap not (sym (eq-eqb t t refl))
+
+-- with a frame in the empty slot of its place the frames of each turn agree, but where it makes a clash with the other of its own
+pub agree_held : (game : Game) (q at_slot : ℕ) (ss : List (Option Received)) (at : Reach) (r : Received) (bad : Option Clash) (other : Option Received) → IsSession game → IsHeld game q ss at → first_clash game q (in_order ss) ≡ None →
+    slot_of r.frame < length ss → AllBefore r.entry (in_order ss) → at_slot ≡ slot_of r.frame → other ≡ slot ss (other_slot r.frame) → bad ≡ opening_clash game other r → AgreeBut game (set ss at_slot (Some r)) bad
+agree_held game q at_slot ss at r bad other is h clean lt later is_slot other_is bad_is = let P : ℕ → Type 0 = λ n. AgreeBut game (set ss n (Some r)) bad in subst P (sym is_slot) there
+  where
+    opening : bad ≡ pair_clash game (turn_of r.frame) (slot (set ss (slot_of r.frame) (Some r)) (2 * turn_of r.frame)) (slot (set ss (slot_of r.frame) (Some r)) (2 * turn_of r.frame + 1))
+    opening = bad_is ∙ ap (λ (o : Option Received). opening_clash game o r) other_is ∙ opening_pair game ss r r.frame refl lt later
+
+    -- a clash of the new frame is none of another turn
+    apart_from : (t : ℕ) → (t ≡ turn_of r.frame → ⊥) → (o : Option Clash) → bad ≡ o → is_of o t ≡ false
+    apart_from t apart None e = refl
+    apart_from t apart (Some y) e = let turn = opening_turn game other r y (sym bad_is ∙ e) in ne_eqb y.turn t (λ k. apart (omega arith))
+
+    there : AgreeBut game (set ss (slot_of r.frame) (Some r)) bad
+    there t c g e f = elim (cases_eq t (turn_of r.frame)) [
+      | inl same ↦
+          clash_tells game t c g
+          ∙ ap (λ (o : Option Received). not (is_of (pair_clash game t o (Some g)) t)) (sym e)
+          ∙ ap (λ (o : Option Received). not (is_of (pair_clash game t (slot (set ss (slot_of r.frame) (Some r)) (2 * t)) o) t)) (sym f)
+          ∙ ap (λ (n : ℕ). not (is_of (pair_clash game n (slot (set ss (slot_of r.frame) (Some r)) (2 * n)) (slot (set ss (slot_of r.frame) (Some r)) (2 * n + 1))) t)) same
+          ∙ ap (λ (x : Option Clash). not (is_of x t)) (sym opening)
+      | inr apart ↦
+          let within = some_within (set ss (slot_of r.frame) (Some r)) (2 * t) c e in
+          let len = length-set ss (slot_of r.frame) (Some r) in
+          let places = h.places in
+          let none : pair_clash game t (Some c) (Some g) ≡ None =
+          ap (λ (o : Option Received). pair_clash game t o (Some g)) (sym e) ∙ ap (pair_clash game t (slot (set ss (slot_of r.frame) (Some r)) (2 * t))) (sym f) ∙ elsewhere game q t ss at r is h clean (omega arith) apart in
+          pair_same game t c g none ∙ ap not (sym (apart_from t apart bad refl))
+    ]
+
 -- a reveal that is illegal is of the turn that isn't resolved
 illegal_turn : (game : Game) (q : ℕ) (ss : List (Option Received)) (at : Reach) (x : Clash) → AreSlots q ss at.commits at.resolved → illegal_at game ss at ≡ Some x → (x.turn ≡ at.resolved) × (2 * at.resolved + 1 < length ss)
 illegal_turn game q ss at x w h = revealed (slot ss (2 * at.resolved + 1)) refl h
@@ -125,21 +175,11 @@ held_clash game q ss at to r is h clean lt later all = go (opening_clash game (s
         ≡ pair_clash game (turn_of r.frame) (slot (set ss (slot_of r.frame) (Some r)) (2 * turn_of r.frame)) (slot (set ss (slot_of r.frame) (Some r)) (2 * turn_of r.frame + 1))
     opening = opening_pair game ss r r.frame refl lt later
 
-    -- other turns are as they were
-    elsewhere : (t : ℕ) → t < game.turns → (t ≡ turn_of r.frame → ⊥) → pair_clash game t (slot (set ss (slot_of r.frame) (Some r)) (2 * t)) (slot (set ss (slot_of r.frame) (Some r)) (2 * t + 1)) ≡ None
-    elsewhere t le apart =
-        let near = turn_at r.frame in
-        let low = near.0 in
-        let high = near.1 in
-        ap (λ (o : Option Received). pair_clash game t o (slot (set ss (slot_of r.frame) (Some r)) (2 * t + 1))) (slot_other ss (slot_of r.frame) (2 * t) r (λ e. apart (omega arith)))
-        ∙ ap (pair_clash game t (slot ss (2 * t))) (slot_other ss (slot_of r.frame) (2 * t + 1) r (λ e. apart (omega arith)))
-        ∙ pairs_agree game q t ss at is h clean le
-
     no_pairs : opening_clash game (slot ss (other_slot r.frame)) r ≡ None → (t : ℕ) → t < game.turns → pair_clash game t (slot (set ss (slot_of r.frame) (Some r)) (2 * t)) (slot (set ss (slot_of r.frame) (Some r)) (2 * t + 1)) ≡ None
     no_pairs e t le = elim (cases_eq t (turn_of r.frame)) [
       | inl same ↦
           ap (λ (n : ℕ). pair_clash game n (slot (set ss (slot_of r.frame) (Some r)) (2 * n)) (slot (set ss (slot_of r.frame) (Some r)) (2 * n + 1))) same ∙ sym opening ∙ e
-      | inr apart ↦ elsewhere t le apart
+      | inr apart ↦ elsewhere game q t ss at r is h clean le apart
     ]
 
     -- a turn of which neither the frames nor the first reveal behind those resolved shows anything
@@ -157,7 +197,7 @@ held_clash game q ss at to r is h clean lt later all = go (opening_clash game (s
     by_opening y e before =
         let within = turn_within in
         sym (range_at (clash_in game q (in_order (set ss (slot_of r.frame) (Some r)))) 0 game.turns (turn_of r.frame) y (omega arith) (omega arith)
-        (λ t le below. silent t (elsewhere t (omega arith) (λ k. omega arith)) (before t below))
+        (λ t le below. silent t (elsewhere game q t ss at r is h clean (omega arith) (λ k. omega arith)) (before t below))
         (value (turn_of r.frame) ∙ ap (λ (o : Option Clash). option_or o (end_clash (turn_of r.frame) to.resolved (illegal_at game (set ss (slot_of r.frame) (Some r)) to))) (sym opening ∙ e)))
 
     by_move : (x : Clash) → illegal_at game (set ss (slot_of r.frame) (Some r)) to ≡ Some x →
@@ -184,7 +224,7 @@ held_clash game q ss at to r is h clean lt later all = go (opening_clash game (s
             let below = ltb-true x.turn y.turn k in
             let a = opening_turn game (slot ss (other_slot r.frame)) r y e in
             let b = (illegal_turn game q (set ss (slot_of r.frame) (Some r)) to x all.slots f).0 in
-            by_move x f (λ t le lt. elsewhere t lt (λ n. omega arith))
+            by_move x f (λ t le lt. elsewhere game q t ss at r is h clean lt (λ n. omega arith))
         by_turn false k =
             let above = ltb-false x.turn y.turn k in
             let a = opening_turn game (slot ss (other_slot r.frame)) r y e in

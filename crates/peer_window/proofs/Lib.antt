@@ -9,6 +9,7 @@ pub mod OfTurns
 pub mod Empty
 pub mod Pairs
 pub mod Judging
+pub mod Agreeing
 pub mod Turns
 pub mod Clashing
 pub mod Holding

@@ -4,11 +4,13 @@ use Rattle.std.specs.Prelude.{◌==◌, ◌||◌, nat_le, nat_lt, option_to_list
 use Rattle.std.proofs.lemmas.Bool.{false≢true, leb-false}
 use Rattle.std.proofs.lemmas.List.{drop_all, take_all}
 use Rattle.std.specs.List.{list_any}
+use Rattle.plain_lemmas.proofs.Lists.{some_within}
 use Rattle.definitions.specs.declared.frames.TurnFrame.{TurnFrame}
+use Rattle.definitions.specs.declared.frames.TurnFrame.TheVariants.{Commit, Reveal}
 use Rattle.definitions.specs.World.{Game}
 use Rattle.definitions.specs.Lists.{EachIs}
 use Rattle.definitions.specs.Logs.{frame_eq, player_of}
-use Rattle.definitions.specs.Held.{places_in}
+use Rattle.definitions.specs.Held.{digest_of, places_in}
 use Rattle.definitions.specs.Answers as A
 use Rattle.grid_world.specs.Sessions.{IsSession}
 use Rattle.peer_window.specs.declared.received.Received.{Received}
@@ -16,14 +18,18 @@ use Rattle.peer_window.specs.declared.received.Clash.{Clash}
 use Rattle.peer_window.specs.declared.received.Offer.{Offer}
 use Rattle.peer_window.specs.declared.received.Offer.TheVariants.{Same, Far, Conflict}
 use Rattle.peer_window.specs.declared.walk.Reach.{Reach}
-use Rattle.peer_window.specs.Clashes.{first_clash, rival_clash}
+use Rattle.peer_window.specs.Clashes.{first_clash, rival_clash, same_digest}
 use Rattle.peer_window.specs.Slots.{in_order, other_slot, slot_of, shown, slot}
 use Rattle.peer_window.specs.Windows.{AreParts, IsHeld, IsWindow, Seen, answer, frames_after, is_far, is_same, new_answer, seen_of, with_frame}
 use Rattle.peer_window.proofs.Answered.{after_new, answer_far, answer_new, answer_same, frames_alone, frames_joined, placed_slot, same_not_there, same_there, window_clean, window_held}
+use Rattle.peer_window.proofs.Clashing.{pair_same}
+use Rattle.peer_window.proofs.Holding.{pairs_agree}
 use Rattle.peer_window.proofs.Lookups.{count_places}
 use Rattle.peer_window.proofs.Ordered.{AllBefore, in_order_set}
+use Rattle.peer_window.proofs.Pairs.{digest_sym}
 use Rattle.peer_window.proofs.Rivals.{rival_known}
 use Rattle.peer_window.proofs.Rivalry.{rival_first_clash}
+use Rattle.peer_window.proofs.Turns.{pair_clash}
 use Rattle.definitions.specs.declared.limits.TheConstants.{WINDOW}
 
 -- a window that is open still, in its parts
@@ -115,6 +121,22 @@ offer_frames game w ss new rival closed at r place count far a clash next is o c
     ∙ ap (λ (x : Option Received). in_order (set ss (slot_of r.frame) (Some r)) ++ option_to_list x) o.alone
     ∙ frames_joined ss rival (slot_of r.frame) r o.alone lt none o.later
     ∙ ap (λ (x : Seen). with_frame x r) o.view ∙ after_new w r clash next a a_is
+
+-- the frame that is held at a place has the digest of the other one of its turn
+pub others_agree : (game : Game) (w : Seen) (ss : List (Option Received)) (rival : Option Received) (closed : Bool) (at : Reach) (r h : Received) (place : ℕ) (other : Option Received) (o : Received) → IsSession game → IsOpen game w ss rival closed at r.entry →
+    place ≡ slot_of r.frame → Some h ≡ slot ss place → other ≡ slot ss (other_slot r.frame) → other ≡ Some o → same_digest game o h ≡ true
+others_agree game w ss rival closed at r h place other o is opened place_is there other_is holds = go r.frame (ap (slot ss) (sym place_is) ∙ sym there) (sym other_is ∙ holds)
+  where
+    pair : (t : ℕ) (c g : Received) → slot ss (2 * t) ≡ Some c → slot ss (2 * t + 1) ≡ Some g → same_digest game c g ≡ true
+    pair t c g e f =
+        let within = some_within ss (2 * t) c e in
+        let places = opened.held.places in
+        pair_same game t c g
+        (ap (λ (x : Option Received). pair_clash game t x (Some g)) (sym e) ∙ ap (pair_clash game t (slot ss (2 * t))) (sym f) ∙ pairs_agree game w.player t ss at is opened.held opened.clean (omega arith))
+
+    go : (f : TurnFrame) → slot ss (slot_of f) ≡ Some h → slot ss (other_slot f) ≡ Some o → same_digest game o h ≡ true
+    go (Commit p t d) here beside = digest_sym (digest_of game o.frame) (digest_of game h.frame) ∙ pair t h o here beside
+    go (Reveal p t m n) here beside = pair t o h beside here
 
 -- beside another frame of its place
 pub offer_rival : (game : Game) (w : Seen) (ss : List (Option Received)) (rival : Option Received) (closed : Bool) (at : Reach) (r h : Received) (place : ℕ) (far same : Bool) (clash : Clash) (other : Option Received) → IsSession game → IsOpen game w ss rival closed at r.entry →

@@ -86,6 +86,11 @@ opening_clash game (Some other) r =
     if same_digest game other r then None
     else Some (record { turn = turn_of r.frame; kind = BadOpening; first = other.entry; second = r.entry })
 
+-- there is a clash, and it is one of this turn
+abbrev pub is_of : Option Clash → ℕ → Bool
+is_of None t = false
+is_of (Some a) t = a.turn == t
+
 -- the first of two clashes, by turn; of one turn, the first of the two
 abbrev pub lower_clash : Option Clash → Option Clash → Option Clash
 lower_clash None b = b

@@ -1,5 +1,6 @@
 -- Steps: what stands next in a stream, and how far a walk over the slots comes.
-use Rattle.std.specs.Prelude.{◌≡◌, ℕ, ◌+◌, ◌*◌, List, Option, Some, None, Bool, true, false, if◌then◌else◌}
+use Rattle.std.specs.Prelude.{◌≡◌, ℕ, ◌+◌, ◌*◌, List, Option, Some, None, Bool, true, false, not, if◌then◌else◌}
+use Rattle.definitions.specs.declared.world.Move.{Move}
 use Rattle.definitions.specs.declared.world.Track.{Track}
 use Rattle.definitions.specs.declared.openings.Opening.{Opening}
 use Rattle.definitions.specs.declared.frames.TurnFrame.{TurnFrame}
@@ -10,13 +11,14 @@ use Rattle.definitions.specs.Moves.{track_after}
 use Rattle.definitions.specs.Held.{digest_of, known_to, next_known}
 use Rattle.reveal_check.specs.declared.judging.Verdict.{Verdict}
 use Rattle.reveal_check.specs.declared.judging.Verdict.TheVariants as V
-use Rattle.reveal_check.specs.Judgements.{judgement}
+use Rattle.move_rules.specs.Verdicts.{verdict}
+use Rattle.reveal_check.specs.Judgements.{by_rules, judgement}
 use Rattle.peer_window.specs.declared.received.Received.{Received}
 use Rattle.peer_window.specs.declared.received.Clash.{Clash}
 use Rattle.peer_window.specs.declared.walk.Reach.{Reach}
 use Rattle.peer_window.specs.declared.walk.Step.{Step}
 use Rattle.peer_window.specs.declared.walk.Step.TheVariants.{Committed, Resolved, Halt, Illegal}
-use Rattle.peer_window.specs.Clashes.{illegal_clash}
+use Rattle.peer_window.specs.Clashes.{illegal_clash, is_of, same_digest}
 use Rattle.peer_window.specs.Slots.{slot, in_order, frames_in, shown}
 
 -- the step over a commitment: one stands there, or none
@@ -43,6 +45,19 @@ frame_step game track before r (Reveal p t m n) = reveal_step game track before 
 abbrev pub slot_step : Game → Track → Option Received → Option Received → Step
 slot_step game track before None = Halt
 slot_step game track before (Some r) = frame_step game track before r r.frame
+
+-- the step over a reveal that opens the commitment that is held of its turn, by its move
+abbrev pub move_step : Game → Track → Option Received → Received → ℕ → Move → Step
+move_step game track None b p m = Halt
+move_step game track (Some a) b p m = judged_step a b (by_rules (verdict game p track m))
+
+abbrev pub opened_step : Game → Track → Option Received → Received → TurnFrame → Step
+opened_step game track before r (Commit p t d) = Halt
+opened_step game track before r (Reveal p t m n) = move_step game track before r p m
+
+-- the commitment and the reveal of a turn have one digest, but in the turn of the bad opening, if there is one
+abbrev pub AgreeBut : Game → List (Option Received) → Option Clash → Type 0
+AgreeBut game ss bad = (t : ℕ) (c g : Received) → slot ss (2 * t) ≡ Some c → slot ss (2 * t + 1) ≡ Some g → same_digest game c g ≡ not (is_of bad t)
 
 -- the next frame is a commitment, as many turns ahead as players commit
 abbrev pub is_commit_next : Game → Reach → Bool

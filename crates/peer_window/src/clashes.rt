@@ -1,10 +1,11 @@
 //! What a frame shows together with the frames of its turn.
 
-ghost use Rattle.std.specs.Prelude.{◌≡◌};
+ghost use Rattle.std.specs.Prelude.{◌≡◌, Some, IsTrue};
+ghost use Rattle.peer_window.specs.declared.received.Received.{Received};
 ghost use Rattle.peer_window.specs.Clashes as C;
 
 use crate::received::{Clash, Received};
-use definitions::{Kind, TurnFrame};
+use definitions::{Kind, Turn, TurnFrame};
 use grid_world::Session;
 use reveal_check::same_digest;
 
@@ -18,6 +19,25 @@ fn lower_entry(one: &Received, other: &Option<Received>) -> u32
     }
 }
 
+/// Whether a reveal has the digest of the different one that is held at its place.
+///
+/// The reveal held opens the commitment of the turn, if that is held too: then the commitment says the digest of both, and only
+/// the new reveal is hashed.
+fn has_digest_of(
+    session: &Session,
+    held: &Received,
+    other: &Option<Received>,
+    rival: &Received,
+) -> bool
+    requires agree { (o : Received) → other.now ≡ Some o → IsTrue (C.same_digest session.now o held.now) }
+    ensures { result ≡ C.same_digest session.now held.now rival.now }
+{
+    match other {
+        None => same_digest(session, &held.frame, &rival.frame),
+        Some(other) => same_digest(session, &other.frame, &rival.frame),
+    }
+}
+
 /// What a frame shows with the different frame that is held at its place, and with the other frame of the turn.
 ///
 /// Two commitments differ in their digests. A reveal with another digest than the reveal held doesn't open the commitment
@@ -28,13 +48,14 @@ pub(crate) fn rival_clash(
     other: &Option<Received>,
     rival: &Received,
 ) -> Clash
+    requires agree { (o : Received) → other.now ≡ Some o → IsTrue (C.same_digest session.now o held.now) }
     ensures { result ≡ C.rival_clash session.now held.now other.now rival.now }
 {
     let turn = rival.frame.turn();
     let (kind, first) = match rival.frame {
         TurnFrame::Commit { .. } => (Kind::TwoCommits, held.entry),
         TurnFrame::Reveal { .. } => {
-            if same_digest(session, &held.frame, &rival.frame) {
+            if has_digest_of(session, held, other, rival) {
                 (Kind::Collision, held.entry)
             } else {
                 (Kind::BadOpening, lower_entry(held, other))
@@ -71,6 +92,16 @@ pub(crate) fn opening_clash(
                 })
             }
         }
+    }
+}
+
+/// Whether there is a clash, and it is one of this turn.
+pub(crate) fn is_of(clash: &Option<Clash>, turn: Turn) -> bool
+    ensures { result ≡ C.is_of clash.now turn }
+{
+    match *clash {
+        None => false,
+        Some(clash) => clash.turn == turn,
     }
 }
 

@@ -7,13 +7,12 @@ ghost use Rattle.definitions.specs.Logs.{player_of};
 ghost use Rattle.peer_window.specs.Slots.{AreSlots, slot};
 ghost use Rattle.peer_window.specs.Steps as W;
 
-use crate::clashes::illegal_clash;
+use crate::clashes::{illegal_clash, is_of};
 use crate::received::{Clash, Received};
 use crate::slots::{commitment_slot, reveal_slot, slot};
-use definitions::{Opening, PlayerId, Track, Turn, TurnFrame};
+use definitions::{Move, PlayerId, Track, Turn, TurnFrame};
 use grid_world::Session;
 use move_rules::Walker;
-use reveal_check::{Verdict, check, frame_digest};
 
 /// How many turns are committed and how many resolved, and the track after these.
 #[derive(Clone, Copy, Debug, PartialEq, Eq)]
@@ -36,31 +35,30 @@ pub(crate) enum Step {
     Illegal(Clash),
 }
 
-/// The step over a reveal, by the commitment that is held of its turn.
-fn reveal_step(
+/// The step over a reveal that opens the commitment held of its turn, if one is held: its move decides.
+fn move_step(
     session: &Session,
     walker: &mut Walker,
     track: &Track,
     before: &Option<Received>,
     reveal: &Received,
-    opening: &Opening,
+    player: PlayerId,
+    mv: &Move,
 ) -> Step
-    requires player { opening.now.player < players_of session.now }
+    requires player { player < players_of session.now }
     requires track { IsTrue (is_open session.now.grid track.now.at) }
-    ensures step { result ≡ W.reveal_step session.now track.now before.now reveal.now opening.now }
+    ensures step { result ≡ W.move_step session.now track.now before.now reveal.now player mv.now }
 {
     let Some(commitment) = before else {
         return Step::Halt;
     };
-    let digest = frame_digest(session, &commitment.frame);
-    match check(walker, session, track, &digest, opening) {
-        Verdict::Good(next) => Step::Resolved(next),
-        Verdict::BadOpening => Step::Halt,
-        Verdict::Illegal(_) => Step::Illegal(illegal_clash(commitment, reveal)),
+    match walker.legal(session, player, track, mv) {
+        Ok(next) => Step::Resolved(next),
+        Err(_) => Step::Illegal(illegal_clash(commitment, reveal)),
     }
 }
 
-/// The step over what stands in a reveal's slot.
+/// The step over what stands in a reveal's slot, where it opens the commitment held of its turn, if one is held.
 fn frame_step(
     session: &Session,
     walker: &mut Walker,
@@ -70,23 +68,12 @@ fn frame_step(
 ) -> Step
     requires player { player_of received.now.frame < players_of session.now }
     requires track { IsTrue (is_open session.now.grid track.now.at) }
-    ensures step { result ≡ W.frame_step session.now track.now before.now received.now received.now.frame }
+    ensures step { result ≡ W.opened_step session.now track.now before.now received.now received.now.frame }
 {
     match received.frame {
         TurnFrame::Commit { .. } => Step::Halt,
-        TurnFrame::Reveal {
-            player,
-            turn,
-            mv,
-            nonce,
-        } => {
-            let opening = Opening {
-                player,
-                turn,
-                mv,
-                nonce,
-            };
-            reveal_step(session, walker, track, before, received, &opening)
+        TurnFrame::Reveal { player, mv, .. } => {
+            move_step(session, walker, track, before, received, player, &mv)
         }
     }
 }
@@ -102,18 +89,25 @@ fn commit_step(slots: &[Option<Received>], turn: Turn) -> Step
 }
 
 /// The step over the reveal of the first turn that isn't resolved.
+///
+/// Nothing is hashed: a reveal opens the commitment held, but in the turn of the bad opening, if there is one.
 fn turn_step(
     session: &Session,
     walker: &mut Walker,
     player: PlayerId,
     slots: &[Option<Received>],
+    bad: &Option<Clash>,
     reach: &Reach,
 ) -> Step
     requires player { player < players_of session.now }
     requires slots { AreSlots player slots.now reach.now.commits reach.now.resolved }
+    requires agree { W.AgreeBut session.now slots.now bad.now }
     requires track { IsTrue (is_open session.now.grid reach.now.track.at) }
     ensures step { result ≡ W.turn_step session.now slots.now reach.now }
 {
+    if is_of(bad, reach.resolved) {
+        return Step::Halt;
+    }
     match slot(slots, reveal_slot(reach.resolved)) {
         None => Step::Halt,
         Some(received) => {
@@ -129,10 +123,12 @@ fn next_step(
     walker: &mut Walker,
     player: PlayerId,
     slots: &[Option<Received>],
+    bad: &Option<Clash>,
     reach: &Reach,
 ) -> Step
     requires player { player < players_of session.now }
     requires slots { AreSlots player slots.now reach.now.commits reach.now.resolved }
+    requires agree { W.AgreeBut session.now slots.now bad.now }
     requires reach { reach.now.resolved ≤ session.now.turns }
     requires track { IsTrue (is_open session.now.grid reach.now.track.at) }
     ensures step { result ≡ W.step_from session.now slots.now reach.now }
@@ -141,7 +137,7 @@ fn next_step(
     if reach.commits < (reach.resolved + session.ahead()).min(session.turns()) {
         commit_step(slots, reach.commits)
     } else {
-        turn_step(session, walker, player, slots, reach)
+        turn_step(session, walker, player, slots, bad, reach)
     }
 }
 
@@ -151,11 +147,13 @@ pub(crate) fn walk(
     walker: &mut Walker,
     player: PlayerId,
     slots: &[Option<Received>],
+    bad: &Option<Clash>,
     from: &Reach,
 ) -> Reach
     requires player { player < players_of session.now }
     requires length { length slots.now ≡ 2 * session.now.turns }
     requires slots { AreSlots player slots.now from.now.commits from.now.resolved }
+    requires agree { W.AgreeBut session.now slots.now bad.now }
     requires reach { W.IsReach session.now player slots.now from.now }
     ensures walked { W.IsWalked session.now player slots.now result }
     ensures slots { AreSlots player slots.now result.commits result.resolved }
@@ -163,7 +161,7 @@ pub(crate) fn walk(
     session.facts();
     let mut reach = *from;
     loop {
-        match next_step(session, walker, player, slots, &reach) {
+        match next_step(session, walker, player, slots, bad, &reach) {
             Step::Committed => {
                 reach = Reach {
                     commits: reach.commits + 1,
@@ -196,15 +194,17 @@ pub(crate) fn illegal_reveal(
     walker: &mut Walker,
     player: PlayerId,
     slots: &[Option<Received>],
+    bad: &Option<Clash>,
     reach: &Reach,
 ) -> Option<Clash>
     requires player { player < players_of session.now }
     requires slots { AreSlots player slots.now reach.now.commits reach.now.resolved }
+    requires agree { W.AgreeBut session.now slots.now bad.now }
     requires reach { W.IsReach session.now player slots.now reach.now }
     ensures { result ≡ W.illegal_at session.now slots.now reach.now }
 {
     session.facts();
-    match turn_step(session, walker, player, slots, reach) {
+    match turn_step(session, walker, player, slots, bad, reach) {
         Step::Committed => None,
         Step::Resolved(_) => None,
         Step::Halt => None,

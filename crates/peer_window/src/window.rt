@@ -106,6 +106,10 @@ fn is_conflict(offer: &Offer) -> bool
 }
 
 /// Puts a frame into its empty slot, and goes on from the next one as far as the frames lead.
+///
+/// One reveal is hashed at most, and only where both frames of the turn are there. What was held makes no clash, so each reveal
+/// opens the commitment of its turn, if both were held; whether the new frame and the other one of its turn agree is found out
+/// first, and tells the walk all that a hash could.
 fn hold(
     session: &Session,
     walker: &mut Walker,
@@ -129,10 +133,11 @@ fn hold(
     let was_next = session.place_of(&received.frame) == next;
     let other = slot(slots, other_slot(&received.frame));
     let at = slot_of(&received.frame);
+    let bad = opening_clash(session, &other, received);
     slots[at as usize] = Some(*received);
-    let reach = walk(session, walker, player, slots, from);
-    let illegal = illegal_reveal(session, walker, player, slots, &reach);
-    let clash = lower_clash(opening_clash(session, &other, received), illegal);
+    let reach = walk(session, walker, player, slots, &bad, from);
+    let illegal = illegal_reveal(session, walker, player, slots, &bad, &reach);
+    let clash = lower_clash(bad, illegal);
     Held {
         reach,
         offer: answer_of(clash, was_next),

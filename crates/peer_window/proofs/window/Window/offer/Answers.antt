@@ -2,7 +2,7 @@ use Rattle.std.proofs.Common.{List, Option, Some, length, set, ap, sym, ◌∙�
 use Rattle.peer_window.specs.declared.received.Received.{Received}
 use Rattle.peer_window.specs.Slots.{slot_of, slot}
 use Rattle.peer_window.specs.Windows.{Seen}
-use Rattle.peer_window.proofs.Offered.{offer_far, offer_frames, offer_new, offer_rival, offer_same, opened, rival_window, within_slots}
+use Rattle.peer_window.proofs.Offered.{offer_far, offer_frames, offer_new, offer_rival, offer_same, opened, others_agree, rival_window, within_slots}
 use Rattle.peer_window.proofs.window.Window.offer.Goals as goal
 
 pub returns-then-is_beyond-clause-answer : goal.returns-then-is_beyond-clause-answer
@@ -57,3 +57,14 @@ hold-held-requires-clause-place c =
     let fits = within_slots c.args.session.now (w.reach.commits + w.reach.resolved) w.slots.items c.args.frame.now c.is_beyond.result o.held.places c.is_beyond.ensures c.if-is_beyond.false in
     let same = ap length c.deref_mut.ensures.value in
     omega arith
+
+pub rival_clash-requires : goal.rival_clash-requires
+rival_clash-requires c =
+    let w = c.self.inside in
+    let still = opened c.args.session.now c.args.self.now w.player w.slots.items w.rival w.closed w.reach c.args.entry c.self.view_is c.requires.window c.requires.open_still c.requires.later c.self.invariant in
+    record {
+      agree = λ o.
+          others_agree c.args.session.now c.args.self.now w.slots.items w.rival w.closed w.reach (record { entry = c.args.entry; frame = c.args.frame.now }) c.in-Some.held c.slot_of-at.result c.slot-other.result o c.facts.ensures still c.slot_of-at.ensures
+          (c.in-Some.ensures ∙ ap (λ (xs : List (Option Received)). slot xs c.slot_of-at.result) c.deref.ensures.value)
+          (c.slot-other.ensures ∙ ap (λ (xs : List (Option Received)). slot xs c.other_slot.result) c.deref-in-Some.ensures.value ∙ ap (slot w.slots.items) c.other_slot.ensures);
+    }
