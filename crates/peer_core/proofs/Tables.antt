@@ -116,7 +116,7 @@ others_chose game me t h m n o a =
     others_same game me h (Chose t m n) o (λ q. refl) (λ q other. known_chose game me q t h m n) (same_clean game (h ++ Chose t m n ∷ []) h (findings_chose game h t m n)) a
 
 -- what a window has of a log, with one frame of its player more or without it
-pub offered_after : (game : Game) (me q : ℕ) (h : List Entry) (f : TurnFrame) (w : Seen) (a : Offer) → w.player ≡ q → w.frames ≡ received_from w.player 0 h → is_logged (answer_of_offer q a) ≡ is_taken_in game me h q f →
+pub offered_after : (game : Game) (me q : ℕ) (h : List Entry) (f : TurnFrame) (w : Seen) (a : Offer) → w.player ≡ q → w.frames ≡ received_from w.player 0 h → is_logged (answer_of_offer a) ≡ is_taken_in game me h q f →
     frames_after w (record { entry = length h; frame = f }) a ≡ received_from w.player 0 (with_got game me h q f)
 offered_after game me q h f w a player frames logged = by_offer a (is_taken_in game me h q f) logged
   where
@@ -124,7 +124,7 @@ offered_after game me q h f w a player frames logged = by_offer a (is_taken_in g
     more =
         ap (λ (rs : List Received). rs ++ record { entry = length h; frame = f } ∷ []) frames ∙ sym (received_one_more w.player h f) ∙ ap (λ k. received_from w.player 0 (h ++ Got k f ∷ [])) player
 
-    by_offer : (a : Offer) (b : Bool) → is_logged (answer_of_offer q a) ≡ b → frames_after w (record { entry = length h; frame = f }) a ≡ received_from w.player 0 (if b then h ++ Got q f ∷ [] else h)
+    by_offer : (a : Offer) (b : Bool) → is_logged (answer_of_offer a) ≡ b → frames_after w (record { entry = length h; frame = f }) a ≡ received_from w.player 0 (if b then h ++ Got q f ∷ [] else h)
     by_offer O.Taken true e = more
     by_offer O.Taken false e = absurd (false≢true (sym e))
     by_offer O.Stashed true e = more
@@ -137,7 +137,7 @@ offered_after game me q h f w a player frames logged = by_offer a (is_taken_in g
     by_offer O.Far false e = frames
 
 -- a window that makes no clash goes on
-closed_after : (game : Game) (me q : ℕ) (h : List Entry) (f : TurnFrame) (a : Offer) (closed : Bool) → answer_of_offer q a ≡ got_answer game me h q f → closed ≡ is_conflict a → is_clean game (with_got game me h q f) ≡ true → closed ≡ false
+closed_after : (game : Game) (me q : ℕ) (h : List Entry) (f : TurnFrame) (a : Offer) (closed : Bool) → answer_of_offer a ≡ got_answer game me h q f → closed ≡ is_conflict a → is_clean game (with_got game me h q f) ≡ true → closed ≡ false
 closed_after game me q h f O.Taken closed e c clean = c
 closed_after game me q h f O.Stashed closed e c clean = c
 closed_after game me q h f O.Same closed e c clean = c
@@ -148,7 +148,7 @@ closed_after game me q h f (O.Conflict x) closed e c clean = absurd (false≢tru
 pub others_offered : (game : Game) (me p : ℕ) (h : List Entry) (f : TurnFrame) (o : Known) (d w : Seen) (a : Offer) (v : View) (cell : Cell) (rule : Standing) → p < players_of game → (p ≡ me → ⊥) → is_clean game h ≡ true →
     is_of_another game me p f ≡ true → length o.rule.cells ≡ players_of game → AreOthers game me h o → a ≡ answer game (get_or o.windows p d) (record { entry = length h; frame = f }) →
     w.frames ≡ frames_after (get_or o.windows p d) (record { entry = length h; frame = f }) a → IsWindow game w → w.player ≡ (get_or o.windows p d).player → w.closed ≡ is_conflict a → v ≡ view_of w → cell ≡ w.track.at →
-    rule ≡ record o.rule { cells = set o.rule.cells p cell } → (answer_of_offer p a ≡ got_answer game me h p f) × AreOthers game me (with_got game me h p f) (record { windows = set o.windows p w; views = set o.views p v; rule = rule })
+    rule ≡ record o.rule { cells = set o.rule.cells p cell } → (answer_of_offer a ≡ got_answer game me h p f) × AreOthers game me (with_got game me h p f) (record { windows = set o.windows p w; views = set o.views p v; rule = rule })
 others_offered game me p h f o d w a v cell rule lt other clean another seen all is frames window player closed view at told = (
   answered,
   record {
@@ -174,10 +174,10 @@ others_offered game me p h f o d w a v cell rule lt other clean another seen all
     another_old : is_of_another game me old.player f ≡ true
     another_old = ap (λ k. is_of_another game me k f) (let i = was in i.player) ∙ another
 
-    answered : answer_of_offer p a ≡ got_answer game me h p f
+    answered : answer_of_offer a ≡ got_answer game me h p f
     answered =
         let i = was in
-        ap (answer_of_offer p) is ∙ ap (λ k. answer_of_offer k (answer game old (record { entry = length h; frame = f }))) (sym i.player) ∙ sym (answers_log game me h old f i.window i.offered clean another_old) ∙
+        ap answer_of_offer is ∙ sym (answers_log game me h old f i.window i.offered clean another_old) ∙
         ap (λ k. got_answer game me h k f) i.player
 
     here : IsWindowOf game me log p w
@@ -293,7 +293,7 @@ others_player game me q i h o d w n m t all lt other e at turns track next =
 pub others_offered_at : (game : Game) (me p i : ℕ) (h : List Entry) (f : TurnFrame) (o : Known) (d w : Seen) (a : Offer) (v : View) (cell : Cell) (rule : Standing) → i ≡ p → p < players_of game → (p ≡ me → ⊥) →
     is_clean game h ≡ true → is_of_another game me p f ≡ true → length o.rule.cells ≡ players_of game → AreOthers game me h o → a ≡ answer game (get_or o.windows i d) (record { entry = length h; frame = f }) →
     w.frames ≡ frames_after (get_or o.windows i d) (record { entry = length h; frame = f }) a → IsWindow game w → w.player ≡ (get_or o.windows i d).player → w.closed ≡ is_conflict a → v ≡ view_of w → cell ≡ w.track.at →
-    rule ≡ record o.rule { cells = set o.rule.cells p cell } → (answer_of_offer p a ≡ got_answer game me h p f) × AreOthers game me (with_got game me h p f) (record { windows = set o.windows i w; views = set o.views i v; rule = rule })
+    rule ≡ record o.rule { cells = set o.rule.cells p cell } → (answer_of_offer a ≡ got_answer game me h p f) × AreOthers game me (with_got game me h p f) (record { windows = set o.windows i w; views = set o.views i v; rule = rule })
 others_offered_at game me p i h f o d w a v cell rule e lt other clean another seen all is frames window player closed view at told =
     let old : ℕ → Seen = λ k. get_or o.windows k d in
     let r : Received = record { entry = length h; frame = f } in
@@ -314,7 +314,7 @@ window_set i ws w d lt = get_or-set_same ws i w d lt
 pub offered_there : (game : Game) (me p i : ℕ) (h : List Entry) (f : TurnFrame) (o : Known) (old w : Seen) (a : Offer) (v : View) (cell : Cell) (rule : Standing) → i ≡ p → is_clean game h ≡ true → is_of_another game me p f ≡ true →
     length o.rule.cells ≡ players_of game → AreOthers game me h o → old ≡ get_or o.windows i old → a ≡ answer game old (record { entry = length h; frame = f }) → w.frames ≡ frames_after old (record { entry = length h; frame = f }) a →
     IsWindow game w → w.player ≡ old.player → w.closed ≡ is_conflict a → v ≡ view_of w → cell ≡ w.track.at → rule ≡ record o.rule { cells = set o.rule.cells p cell } →
-    (answer_of_offer p a ≡ got_answer game me h p f) × AreOthers game me (with_got game me h p f) (record { windows = set o.windows i w; views = set o.views i v; rule = rule })
+    (answer_of_offer a ≡ got_answer game me h p f) × AreOthers game me (with_got game me h p f) (record { windows = set o.windows i w; views = set o.views i v; rule = rule })
 offered_there game me p i h f o old w a v cell rule e clean another seen all there is frames window player closed view at told =
     let from = other_player game me p f another in
     let r : Received = record { entry = length h; frame = f } in

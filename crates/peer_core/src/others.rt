@@ -9,7 +9,7 @@ ghost use Rattle.definitions.specs.Answers.{got_answer, is_of_another};
 ghost use Rattle.definitions.specs.Honest.{IsHonest, made_count};
 ghost use Rattle.definitions.specs.Honest as O;
 ghost use Rattle.definitions.specs.Needs as N;
-ghost use Rattle.peer_window.specs.Logged.{answer_of_offer, finding_of_clash};
+ghost use Rattle.peer_window.specs.Logged.{answer_of_offer};
 ghost use Rattle.wait_rule.specs.Waiting.{no_view};
 ghost use Rattle.peer_core.specs.OwnTracks.{AreOwnTracks};
 ghost use Rattle.peer_core.specs.Others.{AreOthers, AreOpened, AreCleared, view_of};
@@ -18,12 +18,10 @@ ghost use Rattle.peer_core.specs.Views as V;
 
 use crate::stages::next_stage;
 use crate::views::PlayerView;
-use definitions::{
-    Cell, Entry, Finding, GotAnswer, Move, Place, PlayerId, Spot, Track, Turn, TurnFrame,
-};
+use definitions::{Cell, Entry, GotAnswer, Move, Place, PlayerId, Track, Turn, TurnFrame};
 use grid_world::Session;
 use move_rules::Walker;
-use peer_window::{Clash, Offer, Window};
+use peer_window::{Offer, Window};
 use std::alloc::{AllocError, Global};
 use std::marker::Model;
 use wait_rule::{NeedList, Stage, View, WaitRule};
@@ -39,35 +37,16 @@ fn view_of(window: &Window) -> View
     }
 }
 
-/// The finding that a clash of a player's frames is, in a log alone.
-fn finding_of(player: PlayerId, clash: &Clash) -> Finding
-    ensures { result ≡ finding_of_clash player clash.now }
-{
-    Finding {
-        player,
-        turn: clash.turn,
-        kind: clash.kind,
-        first: Spot {
-            log: 0,
-            entry: clash.first,
-        },
-        second: Spot {
-            log: 0,
-            entry: clash.second,
-        },
-    }
-}
-
 /// The answer to a frame that a window's answer is.
-fn answer_of(player: PlayerId, offer: &Offer) -> GotAnswer
-    ensures { result ≡ answer_of_offer player offer.now }
+fn answer_of(offer: &Offer) -> GotAnswer
+    ensures { result ≡ answer_of_offer offer.now }
 {
-    match offer {
+    match *offer {
         Offer::Taken => GotAnswer::Taken,
         Offer::Stashed => GotAnswer::Stashed,
         Offer::Same => GotAnswer::Same,
         Offer::Far => GotAnswer::Far,
-        Offer::Conflict(clash) => GotAnswer::Caught(finding_of(player, clash)),
+        Offer::Conflict(finding) => GotAnswer::Caught(finding),
     }
 }
 
@@ -203,7 +182,7 @@ impl Others {
         self.views[at] = view;
         self.bare[at] = unheld(view);
         self.rule.resolved(from, cell);
-        answer_of(from, &offer)
+        answer_of(&offer)
     }
 
     /// Makes `out` the list of those for whom the owner of the log waits, by rising player.

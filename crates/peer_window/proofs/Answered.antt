@@ -14,7 +14,7 @@ use Rattle.definitions.proofs.Streams.{commit_place-past, reveal_place-past}
 use Rattle.definition_laws.proofs.Alike.{frame_eq_true}
 use Rattle.definition_laws.proofs.Listing.{append_nil}
 use Rattle.peer_window.specs.declared.received.Received.{Received}
-use Rattle.peer_window.specs.declared.received.Clash.{Clash}
+use Rattle.definitions.specs.declared.findings.Finding.{Finding}
 use Rattle.peer_window.specs.declared.received.Offer.{Offer}
 use Rattle.peer_window.specs.declared.received.Offer.TheVariants.{Same, Far}
 use Rattle.peer_window.specs.declared.walk.Reach.{Reach}
@@ -95,10 +95,10 @@ pub frames_joined : (ss : List (Option Received)) (rival : Option Received) (p :
 frames_joined ss rival p r alone lt none later =
     append_nil (in_order (set ss p (Some r))) ∙ in_order_set ss p r lt none later ∙ ap (λ (rs : List Received). rs ++ r ∷ []) (sym (frames_alone ss rival alone))
 
-pub after_new : (w : Seen) (r : Received) (clash : Option Clash) (next : Bool) (a : Offer) → a ≡ new_answer clash next → with_frame w r ≡ frames_after w r a
+pub after_new : (w : Seen) (r : Received) (clash : Option Finding) (next : Bool) (a : Offer) → a ≡ new_answer clash next → with_frame w r ≡ frames_after w r a
 after_new w r clash next a e = go clash next ∙ ap (frames_after w r) (sym e)
   where
-    go : (o : Option Clash) (b : Bool) → with_frame w r ≡ frames_after w r (new_answer o b)
+    go : (o : Option Finding) (b : Bool) → with_frame w r ≡ frames_after w r (new_answer o b)
     go (Some x) b = refl
     go None true = refl
     go None false = refl

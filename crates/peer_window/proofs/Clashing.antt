@@ -21,11 +21,11 @@ use Rattle.move_rules.specs.Verdicts.{judged}
 use Rattle.reveal_check.specs.declared.judging.Verdict.TheVariants as V
 use Rattle.reveal_check.specs.Judgements.{by_rules}
 use Rattle.peer_window.specs.declared.received.Received.{Received}
-use Rattle.peer_window.specs.declared.received.Clash.{Clash}
+use Rattle.definitions.specs.declared.findings.Finding.{Finding}
 use Rattle.peer_window.specs.declared.walk.Reach.{Reach}
 use Rattle.peer_window.specs.declared.walk.Step.{Step}
 use Rattle.peer_window.specs.declared.walk.Step.TheVariants.{Committed, Resolved, Halt, Illegal}
-use Rattle.peer_window.specs.Clashes.{clash_in, first_clash, same_digest}
+use Rattle.peer_window.specs.Clashes.{clash_in, finding_by, first_clash, same_digest}
 use Rattle.peer_window.specs.Steps.{commit_step, illegal_at, illegal_in, judged_step, slot_step, turn_step}
 use Rattle.peer_window.specs.Slots.{in_order, slot}
 use Rattle.peer_window.specs.Windows.{IsHeld}
@@ -40,14 +40,14 @@ halts_apart game track m c g false o h = refl
 halts_apart game track m c g true None h = absurd (cc)
 halts_apart game track m c g true (Some fault) h = absurd (cc)
 
-pub pair_same : (game : Game) (t : ℕ) (c g : Received) → pair_clash game t (Some c) (Some g) ≡ None → same_digest game c g ≡ true
-pair_same game t c g h = go (same_digest game c g) h
+pub pair_same : (game : Game) (q t : ℕ) (c g : Received) → pair_clash game q t (Some c) (Some g) ≡ None → same_digest game c g ≡ true
+pair_same game q t c g h = go (same_digest game c g) h
   where
-    go : (b : Bool) → (if b then None else Some (let k : Clash = record { turn = t; kind = BadOpening; first = min c.entry g.entry; second = max c.entry g.entry } in k)) ≡ None → b ≡ true
+    go : (b : Bool) → (if b then None else Some (finding_by q t BadOpening (min c.entry g.entry) (max c.entry g.entry))) ≡ None → b ≡ true
     go true e = refl
     go false e = absurd (cc)
 
-some_not : (x : Clash) → Some x ≡ None → ⊥
+some_not : (x : Finding) → Some x ≡ None → ⊥
 some_not x h = cc
 
 -- in a window without a clash the next frame's slot is empty
@@ -62,7 +62,7 @@ next_empty game q ss at is h clean = elim (cases_lt at.commits (min (at.resolved
     commits lt None e = e
     commits lt (Some g) e = absurd (never_committed game q ss at is h (by_commit game ss at lt ∙ ap commit_step e))
 
-    nothing : at.resolved < game.turns → option_or (pair_clash game at.resolved (slot ss (2 * at.resolved)) (slot ss (2 * at.resolved + 1))) (end_clash at.resolved at.resolved (illegal_at game ss at)) ≡ None
+    nothing : at.resolved < game.turns → option_or (pair_clash game q at.resolved (slot ss (2 * at.resolved)) (slot ss (2 * at.resolved + 1))) (end_clash at.resolved at.resolved (illegal_at game ss at)) ≡ None
     nothing lt = sym (turn_value game q at.resolved ss at is h) ∙ range_none (clash_in game q (in_order ss)) 0 game.turns at.resolved clean (omega arith) (omega arith)
 
     by_step : min (at.resolved + game.ahead) game.turns ≤ at.commits → (g : Received) (m : Move) (o : Nonce) (c : Received) (d : Digest) → slot ss (2 * at.resolved) ≡ Some c → c.frame ≡ Commit q at.resolved d → at.resolved < game.turns →
@@ -74,7 +74,7 @@ next_empty game q ss at is h clean = elim (cases_lt at.commits (min (at.resolved
     by_step ge g m o c d e f lt i j is_step Halt s =
         let apart = halts_apart game at.track m c g (digest_eq (digest_of game (Reveal q at.resolved m o)) d) (move_fault game q at.track m) (sym is_step ∙ s) in
         let none = (or_none _ _ (nothing lt)).0 in
-        let same = pair_same game at.resolved c g (ap (λ (x : Option Received). pair_clash game at.resolved x (Some g)) (sym e) ∙ ap (pair_clash game at.resolved (slot ss (2 * at.resolved))) (sym i) ∙ none) in
+        let same = pair_same game q at.resolved c g (ap (λ (x : Option Received). pair_clash game q at.resolved x (Some g)) (sym e) ∙ ap (pair_clash game q at.resolved (slot ss (2 * at.resolved))) (sym i) ∙ none) in
         let digests : digest_eq d (digest_of game (Reveal q at.resolved m o)) ≡ true =
         ap (λ (x : TurnFrame). digest_eq (digest_of game x) (digest_of game (Reveal q at.resolved m o))) (sym f) ∙ ap (λ (x : TurnFrame). digest_eq (digest_of game c.frame) (digest_of game x)) (sym j) ∙ same in
         false≢true (sym apart ∙ digest_sym (digest_of game (Reveal q at.resolved m o)) d ∙ digests)

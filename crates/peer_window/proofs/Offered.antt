@@ -14,7 +14,7 @@ use Rattle.definitions.specs.Held.{digest_of, places_in}
 use Rattle.definitions.specs.Answers as A
 use Rattle.grid_world.specs.Sessions.{IsSession}
 use Rattle.peer_window.specs.declared.received.Received.{Received}
-use Rattle.peer_window.specs.declared.received.Clash.{Clash}
+use Rattle.definitions.specs.declared.findings.Finding.{Finding}
 use Rattle.peer_window.specs.declared.received.Offer.{Offer}
 use Rattle.peer_window.specs.declared.received.Offer.TheVariants.{Same, Far, Conflict}
 use Rattle.peer_window.specs.declared.walk.Reach.{Reach}
@@ -111,7 +111,7 @@ offer_new game w ss new rival closed at r place q far a is o place_is test fails
 written_back : (len : ℕ) (ss new : List (Option Received)) → len ≡ length ss → length new ≡ length ss → take len (new ++ drop (length new) ss) ≡ new
 written_back len ss new e f = ap (λ (xs : List (Option Received)). take len (new ++ xs)) (drop_all (length new) ss (omega arith)) ∙ ap (take len) (append-nil new) ∙ take_all len new (omega arith)
 
-pub offer_frames : (game : Game) (w : Seen) (ss new : List (Option Received)) (rival : Option Received) (closed : Bool) (at : Reach) (r : Received) (place count : ℕ) (far : Bool) (a : Offer) (clash : Option Clash) (next : Bool) → IsSession game → IsOpen game w ss rival closed at r.entry →
+pub offer_frames : (game : Game) (w : Seen) (ss new : List (Option Received)) (rival : Option Received) (closed : Bool) (at : Reach) (r : Received) (place count : ℕ) (far : Bool) (a : Offer) (clash : Option Finding) (next : Bool) → IsSession game → IsOpen game w ss rival closed at r.entry →
     count ≡ length ss → place ≡ slot_of r.frame → far ≡ A.is_beyond game (at.commits + at.resolved) r.frame → far ≡ false → None ≡ slot ss place → new ≡ set ss (slot_of r.frame) (Some r) → a ≡ new_answer clash next →
     in_order (take count (new ++ drop (length new) ss)) ++ option_to_list rival ≡ frames_after w r a
 offer_frames game w ss new rival closed at r place count far a clash next is o count_is place_is test fails empty new_is a_is =
@@ -131,26 +131,26 @@ others_agree game w ss rival closed at r h place other o is opened place_is ther
     pair t c g e f =
         let within = some_within ss (2 * t) c e in
         let places = opened.held.places in
-        pair_same game t c g
-        (ap (λ (x : Option Received). pair_clash game t x (Some g)) (sym e) ∙ ap (pair_clash game t (slot ss (2 * t))) (sym f) ∙ pairs_agree game w.player t ss at is opened.held opened.clean (omega arith))
+        pair_same game w.player t c g
+        (ap (λ (x : Option Received). pair_clash game w.player t x (Some g)) (sym e) ∙ ap (pair_clash game w.player t (slot ss (2 * t))) (sym f) ∙ pairs_agree game w.player t ss at is opened.held opened.clean (omega arith))
 
     go : (f : TurnFrame) → slot ss (slot_of f) ≡ Some h → slot ss (other_slot f) ≡ Some o → same_digest game o h ≡ true
     go (Commit p t d) here beside = digest_sym (digest_of game o.frame) (digest_of game h.frame) ∙ pair t h o here beside
     go (Reveal p t m n) here beside = pair t o h beside here
 
 -- beside another frame of its place
-pub offer_rival : (game : Game) (w : Seen) (ss : List (Option Received)) (rival : Option Received) (closed : Bool) (at : Reach) (r h : Received) (place : ℕ) (far same : Bool) (clash : Clash) (other : Option Received) → IsSession game → IsOpen game w ss rival closed at r.entry →
+pub offer_rival : (game : Game) (w : Seen) (ss : List (Option Received)) (rival : Option Received) (closed : Bool) (at : Reach) (r h : Received) (place q : ℕ) (far same : Bool) (clash : Finding) (other : Option Received) → IsSession game → IsOpen game w ss rival closed at r.entry →
     player_of r.frame ≡ w.player → place ≡ slot_of r.frame → far ≡ A.is_beyond game (at.commits + at.resolved) r.frame → far ≡ false → Some h ≡ slot ss place → same ≡ frame_eq h.frame r.frame → same ≡ false →
-    other ≡ slot ss (other_slot r.frame) → clash ≡ rival_clash game h other r → Conflict clash ≡ answer game w r
-offer_rival game w ss rival closed at r h place far same clash other is o player place_is test fails there is_same apart other_is clash_is =
+    other ≡ slot ss (other_slot r.frame) → q ≡ w.player → clash ≡ rival_clash game q h other r → Conflict clash ≡ answer game w r
+offer_rival game w ss rival closed at r h place q far same clash other is o player place_is test fails there is_same apart other_is mine clash_is =
     let lt = within_slots game (at.commits + at.resolved) ss r.frame far o.held.places test fails in
     let here : slot ss (slot_of r.frame) ≡ Some h = ap (slot ss) (sym place_is) ∙ sym there in
     let differ : frame_eq h.frame r.frame ≡ false = sym is_same ∙ apart in
     let found = rival_first_clash game w.player ss at r h is o.held o.clean player lt here differ in
     answer_new game w r (Conflict clash) (far_of game w ss rival closed at r far o test ∙ fails)
     (same_of game w ss rival closed at r false o (same_not_there w.player at.commits at.resolved place ss r.frame o.held.slots place_is (λ g e. let some : Some h ≡ Some g = there ∙ e in let it : h ≡ g = cc in ap (λ (x : Received). frame_eq x.frame r.frame) (sym it) ∙ differ)))
-    (ap (λ (x : Option Clash). new_answer x (A.place_of game r.frame == places_in w.known))
-    (ap (λ (x : Clash). Some x) (clash_is ∙ ap (λ (x : Option Received). rival_clash game h x r) other_is) ∙ found
+    (ap (λ (x : Option Finding). new_answer x (A.place_of game r.frame == places_in w.known))
+    (ap (λ (x : Finding). Some x) (clash_is ∙ ap (λ (n : ℕ). rival_clash game n h other r) mine ∙ ap (λ (x : Option Received). rival_clash game w.player h x r) other_is) ∙ found
     ∙ ap (λ (rs : List Received). first_clash game w.player (rs ++ r ∷ [])) (sym (frames_alone ss rival o.alone) ∙ ap (λ (x : Seen). x.frames) o.view)))
 
 pub rival_window : (game : Game) (w : Seen) (q : ℕ) (ss : List (Option Received)) (rival : Option Received) (closed : Bool) (at : Reach) (r h : Received) (place : ℕ) → IsSession game → IsOpen game w ss rival closed at r.entry → q ≡ w.player →

@@ -14,7 +14,7 @@ use Rattle.definitions.specs.Held.{Known}
 use Rattle.definitions.specs.Findings.{first_pair, kinds}
 use Rattle.definition_laws.proofs.Alike.{digest_eq_same, digest_eq_true}
 use Rattle.peer_window.specs.declared.received.Received.{Received}
-use Rattle.peer_window.specs.declared.received.Clash.{Clash}
+use Rattle.definitions.specs.declared.findings.Finding.{Finding}
 use Rattle.peer_window.specs.Clashes.{clash_among, clash_of, show}
 
 -- no clash among fewer than two
@@ -28,40 +28,40 @@ among_one game q t k x kind = refl
 
 -- among two: by the one test
 pub among_two : (game : Game) (q t : ℕ) (k : Known) (x y : Received) (kind : Kind) (b : Bool) → show game q t k (x ∷ y ∷ []) kind x y ≡ b →
-    clash_among game q t k (x ∷ y ∷ []) kind ≡ (if b then Some (clash_of t kind (x, y)) else None)
+    clash_among game q t k (x ∷ y ∷ []) kind ≡ (if b then Some (clash_of q t kind (x, y)) else None)
 unfolding clash_among first_pair
-among_two game q t k x y kind b e = ap (λ (a : Bool). option_map (clash_of t kind) (option_or (option_map (λ z. (x, z)) (cond a (Some y) None)) None)) e ∙ go b
+among_two game q t k x y kind b e = ap (λ (a : Bool). option_map (clash_of q t kind) (option_or (option_map (λ z. (x, z)) (cond a (Some y) None)) None)) e ∙ go b
   where
-    go : (a : Bool) → option_map (clash_of t kind) (option_or (option_map (λ z. (x, z)) (cond a (Some y) None)) None) ≡ (if a then Some (clash_of t kind (x, y)) else None)
+    go : (a : Bool) → option_map (clash_of q t kind) (option_or (option_map (λ z. (x, z)) (cond a (Some y) None)) None) ≡ (if a then Some (clash_of q t kind (x, y)) else None)
     go true = refl
     go false = refl
 
 -- among three of which the first two show nothing: the first that shows the kind with the last
 pub among_three : (game : Game) (q t : ℕ) (k : Known) (x y z : Received) (kind : Kind) (a b : Bool) → show game q t k (x ∷ y ∷ z ∷ []) kind x y ≡ false →
     show game q t k (x ∷ y ∷ z ∷ []) kind x z ≡ a → show game q t k (x ∷ y ∷ z ∷ []) kind y z ≡ b →
-    clash_among game q t k (x ∷ y ∷ z ∷ []) kind ≡ (if a then Some (clash_of t kind (x, z)) else if b then Some (clash_of t kind (y, z)) else None)
+    clash_among game q t k (x ∷ y ∷ z ∷ []) kind ≡ (if a then Some (clash_of q t kind (x, z)) else if b then Some (clash_of q t kind (y, z)) else None)
 unfolding clash_among first_pair
 among_three game q t k x y z kind a b e f g =
-    ap (λ (c : Bool). option_map (clash_of t kind) (option_or (option_map (λ w. (x, w)) (cond c (Some y) (cond (show game q t k (x ∷ y ∷ z ∷ []) kind x z) (Some z) None)))
+    ap (λ (c : Bool). option_map (clash_of q t kind) (option_or (option_map (λ w. (x, w)) (cond c (Some y) (cond (show game q t k (x ∷ y ∷ z ∷ []) kind x z) (Some z) None)))
     (option_or (option_map (λ w. (y, w)) (cond (show game q t k (x ∷ y ∷ z ∷ []) kind y z) (Some z) None)) None))) e
-    ∙ ap (λ (c : Bool). option_map (clash_of t kind) (option_or (option_map (λ w. (x, w)) (cond c (Some z) None)) (option_or (option_map (λ w. (y, w)) (cond (show game q t k (x ∷ y ∷ z ∷ []) kind y z) (Some z) None)) None))) f
-    ∙ ap (λ (c : Bool). option_map (clash_of t kind) (option_or (option_map (λ w. (x, w)) (cond a (Some z) None)) (option_or (option_map (λ w. (y, w)) (cond c (Some z) None)) None))) g ∙ go a b
+    ∙ ap (λ (c : Bool). option_map (clash_of q t kind) (option_or (option_map (λ w. (x, w)) (cond c (Some z) None)) (option_or (option_map (λ w. (y, w)) (cond (show game q t k (x ∷ y ∷ z ∷ []) kind y z) (Some z) None)) None))) f
+    ∙ ap (λ (c : Bool). option_map (clash_of q t kind) (option_or (option_map (λ w. (x, w)) (cond a (Some z) None)) (option_or (option_map (λ w. (y, w)) (cond c (Some z) None)) None))) g ∙ go a b
   where
-    go : (c d : Bool) → option_map (clash_of t kind) (option_or (option_map (λ w. (x, w)) (cond c (Some z) None)) (option_or (option_map (λ w. (y, w)) (cond d (Some z) None)) None))
-        ≡ (if c then Some (clash_of t kind (x, z)) else if d then Some (clash_of t kind (y, z)) else None)
+    go : (c d : Bool) → option_map (clash_of q t kind) (option_or (option_map (λ w. (x, w)) (cond c (Some z) None)) (option_or (option_map (λ w. (y, w)) (cond d (Some z) None)) None))
+        ≡ (if c then Some (clash_of q t kind (x, z)) else if d then Some (clash_of q t kind (y, z)) else None)
     go true d = refl
     go false true = refl
     go false false = refl
 
 -- the first of the four kinds
-pub kinds_are : (f : Kind → Option Clash) (a b c d : Option Clash) → f TwoCommits ≡ a → f BadOpening ≡ b → f Collision ≡ c → f Illegal ≡ d → first_of f kinds ≡ option_or a (option_or b (option_or c (option_or d None)))
+pub kinds_are : (f : Kind → Option Finding) (a b c d : Option Finding) → f TwoCommits ≡ a → f BadOpening ≡ b → f Collision ≡ c → f Illegal ≡ d → first_of f kinds ≡ option_or a (option_or b (option_or c (option_or d None)))
 kinds_are f a b c d e g h i = rw (e, g, h, i) refl
 
-pub or_none : (a b : Option Clash) → option_or a b ≡ None → (a ≡ None) × (b ≡ None)
+pub or_none : (a b : Option Finding) → option_or a b ≡ None → (a ≡ None) × (b ≡ None)
 or_none None b h = (refl, h)
 or_none (Some x) b h = absurd (let e : Some x ≡ None = h in cc)
 
-pub range_none : (f : ℕ → Option Clash) (a n i : ℕ) → first_of f (range_with_len a n) ≡ None → a ≤ i → i < a + n → f i ≡ None
+pub range_none : (f : ℕ → Option Finding) (a n i : ℕ) → first_of f (range_with_len a n) ≡ None → a ≤ i → i < a + n → f i ≡ None
 range_none f a zero i h le lt = absurd (omega arith)
 range_none f a (suc n) i h le lt =
     let both = or_none (f a) _ h in
@@ -70,11 +70,11 @@ range_none f a (suc n) i h le lt =
       | inr here ↦ let same : a ≡ i = omega arith in ap f (sym same) ∙ both.0
     ]
 
-pub none_range : (f : ℕ → Option Clash) (a n : ℕ) → ((i : ℕ) → a ≤ i → i < a + n → f i ≡ None) → first_of f (range_with_len a n) ≡ None
+pub none_range : (f : ℕ → Option Finding) (a n : ℕ) → ((i : ℕ) → a ≤ i → i < a + n → f i ≡ None) → first_of f (range_with_len a n) ≡ None
 none_range f a zero h = refl
 none_range f a (suc n) h = ap (λ o. option_or o (first_of f (range_with_len (a + 1) n))) (h a (omega arith) (omega arith)) ∙ none_range f (a + 1) n (λ i le lt. h i (omega arith) (omega arith))
 
-pub range_at : (f : ℕ → Option Clash) (a n i : ℕ) (x : Clash) → a ≤ i → i < a + n → ((j : ℕ) → a ≤ j → j < i → f j ≡ None) → f i ≡ Some x → first_of f (range_with_len a n) ≡ Some x
+pub range_at : (f : ℕ → Option Finding) (a n i : ℕ) (x : Finding) → a ≤ i → i < a + n → ((j : ℕ) → a ≤ j → j < i → f j ≡ None) → f i ≡ Some x → first_of f (range_with_len a n) ≡ Some x
 range_at f a zero i x le lt h e = absurd (omega arith)
 range_at f a (suc n) i x le lt h e =
     elim (cases_lt a i) [

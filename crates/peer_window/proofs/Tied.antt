@@ -24,13 +24,12 @@ use Rattle.definition_laws.proofs.Listing.{append_nil}
 use Rattle.definition_laws.specs.First as F
 use Rattle.definition_laws.proofs.FirstFinding.{first_is}
 use Rattle.peer_window.specs.declared.received.Received.{Received}
-use Rattle.peer_window.specs.declared.received.Clash.{Clash}
 use Rattle.peer_window.specs.declared.received.Offer.{Offer}
 use Rattle.peer_window.specs.declared.received.Offer.TheVariants.{Taken, Stashed, Same, Far}
 use Rattle.peer_window.specs.Clashes.{clash_among, clash_in, clash_of, first_clash, is_first, of_turn, show}
 use Rattle.peer_window.specs.Slots.{frames_in}
 use Rattle.peer_window.specs.Windows.{IsWindow, Seen, answer, is_far, is_same, new_answer, with_frame}
-use Rattle.peer_window.specs.Logged.{IsSeenIn, answer_of_offer, finding_of_clash, received_from, received_in}
+use Rattle.peer_window.specs.Logged.{IsSeenIn, answer_of_offer, received_from, received_in}
 
 -- the frames that were got are those that were received
 pub got_received : (q i : ℕ) (h : List Entry) → got_of q h ≡ frames_in (received_from q i h)
@@ -153,16 +152,16 @@ find_map {X} {Y} g p p' (x ∷ xs) h = ap (λ (b : Bool). cond b (Some (g x)) (f
 
 -- the finding of the first pair is the clash of the first pair
 pair_map : (q t : ℕ) (k : Kind) (test : Sighting → Sighting → Bool) (test' : Received → Received → Bool) (rs : List Received) → ((x y : Received) → test (seen x) (seen y) ≡ test' x y) →
-    option_map (finding_of q t k) (first_pair test (map seen rs)) ≡ option_map (finding_of_clash q) (option_map (clash_of t k) (first_pair test' rs))
+    option_map (finding_of q t k) (first_pair test (map seen rs)) ≡ option_map (clash_of q t k) (first_pair test' rs)
 unfolding first_pair seen
 pair_map q t k test test' [] h = refl
 pair_map q t k test test' (x ∷ rs) h =
     ap (λ (o : Option Sighting). option_map (finding_of q t k) (option_or (option_map (λ y. (seen x, y)) o) (first_pair test (map seen rs)))) (find_map seen (test (seen x)) (test' x) rs (h x))
     ∙ go (find (test' x) rs) (pair_map q t k test test' rs h)
   where
-    go : (o : Option Received) → option_map (finding_of q t k) (first_pair test (map seen rs)) ≡ option_map (finding_of_clash q) (option_map (clash_of t k) (first_pair test' rs)) →
+    go : (o : Option Received) → option_map (finding_of q t k) (first_pair test (map seen rs)) ≡ option_map (clash_of q t k) (first_pair test' rs) →
         option_map (finding_of q t k) (option_or (option_map (λ y. (seen x, y)) (option_map seen o)) (first_pair test (map seen rs)))
-        ≡ option_map (finding_of_clash q) (option_map (clash_of t k) (option_or (option_map (λ y. (x, y)) o) (first_pair test' rs)))
+        ≡ option_map (clash_of q t k) (option_or (option_map (λ y. (x, y)) o) (first_pair test' rs))
     go None ih = ih
     go (Some y) ih = refl
 
@@ -191,50 +190,45 @@ shown_is game q t h Illegal a b =
     ∙ ap (λ (c : Bool). (is_first (of_turn t (received_from q 0 h)) a && is_illegal_at game q t (known_to game q (frames_in (received_from q 0 h)) (2 * game.turns)) b.frame) || c) (illegal_is game q t h b a)
 
 finding_is : (game : Game) (q t : ℕ) (h : List Entry) (k : Kind) →
-    finding_at game (h ∷ []) q t k ≡ option_map (finding_of_clash q) (clash_among game q t (known_to game q (frames_in (received_from q 0 h)) (2 * game.turns)) (of_turn t (received_from q 0 h)) k)
+    finding_at game (h ∷ []) q t k ≡ clash_among game q t (known_to game q (frames_in (received_from q 0 h)) (2 * game.turns)) (of_turn t (received_from q 0 h)) k
 unfolding finding_at sightings clash_among
 finding_is game q t h k =
     ap (λ (ss : List Sighting). option_map (finding_of q t k) (first_pair (show_kind game q t (h ∷ []) k) ss)) (append_nil (sightings_from q t 0 0 h) ∙ sightings_received q t 0 h)
     ∙ pair_map q t k (show_kind game q t (h ∷ []) k) (show game q t (known_to game q (frames_in (received_from q 0 h)) (2 * game.turns)) (of_turn t (received_from q 0 h)) k) (of_turn t (received_from q 0 h)) (shown_is game q t h k)
 
-first_map : {X Y Z : Type 0} (g : Y → Z) (f : X → Option Z) (f' : X → Option Y) (xs : List X) → ((x : X) → f x ≡ option_map g (f' x)) → first_of f xs ≡ option_map g (first_of f' xs)
-first_map g f f' [] h = refl
-first_map {X} {Y} {Z} g f f' (x ∷ xs) h = ap (λ o. option_or o (first_of f xs)) (h x) ∙ go (f' x) (first_map g f f' xs h)
-  where
-    go : (o : Option Y) → first_of f xs ≡ option_map g (first_of f' xs) → option_or (option_map g o) (first_of f xs) ≡ option_map g (option_or o (first_of f' xs))
-    go None ih = ih
-    go (Some y) ih = refl
+first_same : {X Y : Type 0} (f g : X → Option Y) (xs : List X) → ((x : X) → f x ≡ g x) → first_of f xs ≡ first_of g xs
+first_same f g [] h = refl
+first_same f g (x ∷ xs) h = ap (λ o. option_or o (first_of f xs)) (h x) ∙ ap (option_or (g x)) (first_same f g xs h)
 
 -- the first finding of the log with the frame
 log_finding : (game : Game) (q : ℕ) (h : List Entry) (f : TurnFrame) → q < players_of game → is_clean game h ≡ true →
-    slice_get (findings game ((h ++ Got q f ∷ []) ∷ [])) 0 ≡ option_map (finding_of_clash q) (first_clash game q (received_from q 0 h ++ record { entry = length h; frame = f } ∷ []))
+    slice_get (findings game ((h ++ Got q f ∷ []) ∷ [])) 0 ≡ first_clash game q (received_from q 0 h ++ record { entry = length h; frame = f } ∷ [])
 unfolding first_clash clash_in
 log_finding game q h f lt clean =
     first_is game q (h ++ Got q f ∷ []) lt (record { before = h; frame = f; clean = clean; stands = refl })
-    ∙ first_map (finding_of_clash q) (F.finding_of_turn game (h ++ Got q f ∷ []) q) (clash_in game q (received_from q 0 (h ++ Got q f ∷ []))) (range_with_len 0 game.turns)
-    (λ t. first_map (finding_of_clash q) (finding_at game ((h ++ Got q f ∷ []) ∷ []) q t) (clash_among game q t (known_to game q (frames_in (received_from q 0 (h ++ Got q f ∷ []))) (2 * game.turns)) (of_turn t (received_from q 0 (h ++ Got q f ∷ [])))) kinds
+    ∙ first_same (F.finding_of_turn game (h ++ Got q f ∷ []) q) (clash_in game q (received_from q 0 (h ++ Got q f ∷ []))) (range_with_len 0 game.turns)
+    (λ t. first_same (finding_at game ((h ++ Got q f ∷ []) ∷ []) q t) (clash_among game q t (known_to game q (frames_in (received_from q 0 (h ++ Got q f ∷ []))) (2 * game.turns)) (of_turn t (received_from q 0 (h ++ Got q f ∷ [])))) kinds
     (finding_is game q t (h ++ Got q f ∷ [])))
-    ∙ ap (λ (rs : List Received). option_map (finding_of_clash q) (first_of (clash_in game q rs) (range_with_len 0 game.turns))) (received_one_more q h f)
+    ∙ ap (λ (rs : List Received). first_of (clash_in game q rs) (range_with_len 0 game.turns)) (received_one_more q h f)
 
-new_is : (game : Game) (q next : ℕ) (fs : List Finding) (f : TurnFrame) (o : Option Clash) (b : Bool) → slice_get fs 0 ≡ option_map (finding_of_clash q) o → (A.place_of game f == next) ≡ b →
-    A.new_answer game next fs f ≡ answer_of_offer q (new_answer o b)
-new_is game q next [] f None b e g = ap (λ (c : Bool). if c then G.Taken else G.Stashed) g ∙ go b
+new_is : (game : Game) (next : ℕ) (fs : List Finding) (f : TurnFrame) (o : Option Finding) (b : Bool) → slice_get fs 0 ≡ o → (A.place_of game f == next) ≡ b → A.new_answer game next fs f ≡ answer_of_offer (new_answer o b)
+new_is game next [] f None b e g = ap (λ (c : Bool). if c then G.Taken else G.Stashed) g ∙ go b
   where
-    go : (c : Bool) → (if c then G.Taken else G.Stashed) ≡ answer_of_offer q (if c then Taken else Stashed)
+    go : (c : Bool) → (if c then G.Taken else G.Stashed) ≡ answer_of_offer (if c then Taken else Stashed)
     go true = refl
     go false = refl
-new_is game q next [] f (Some x) b e g = absurd (let none : None ≡ Some (finding_of_clash q x) = e in cc)
-new_is game q next (y ∷ fs) f None b e g = absurd (let none : Some y ≡ None = e in cc)
-new_is game q next (y ∷ fs) f (Some x) b e g = let same : y ≡ finding_of_clash q x = cc in ap (λ (z : Finding). G.Caught z) same
+new_is game next [] f (Some x) b e g = absurd (let none : None ≡ Some x = e in cc)
+new_is game next (y ∷ fs) f None b e g = absurd (let none : Some y ≡ None = e in cc)
+new_is game next (y ∷ fs) f (Some x) b e g = let same : y ≡ x = cc in ap (λ (z : Finding). G.Caught z) same
 
-by_tests : (q : ℕ) (far same : Bool) (new : Offer) → (if far then G.Far else if same then G.Same else answer_of_offer q new) ≡ answer_of_offer q (if far then Far else if same then Same else new)
-by_tests q true same new = refl
-by_tests q false true new = refl
-by_tests q false false new = refl
+by_tests : (far same : Bool) (new : Offer) → (if far then G.Far else if same then G.Same else answer_of_offer new) ≡ answer_of_offer (if far then Far else if same then Same else new)
+by_tests true same new = refl
+by_tests false true new = refl
+by_tests false false new = refl
 
 -- a window answers as the log does
 pub answers_log : (game : Game) (me : ℕ) (h : List Entry) (w : Seen) (f : TurnFrame) → IsWindow game w → IsSeenIn me h w → is_clean game h ≡ true → is_of_another game me w.player f ≡ true →
-    got_answer game me h w.player f ≡ answer_of_offer w.player (answer game w (record { entry = length h; frame = f }))
+    got_answer game me h w.player f ≡ answer_of_offer (answer game w (record { entry = length h; frame = f }))
 unfolding got_answer A.is_far A.is_same
 answers_log game me h w f window seen_in clean another =
     cond-false (not (is_clean game h)) _ _ (ap not clean) ∙ cond-false (not (is_of_another game me w.player f)) _ _ (ap not another)
@@ -243,6 +237,6 @@ answers_log game me h w f window seen_in clean another =
     ∙ ap (λ (b : Bool). if is_far game w f then G.Far else if b then G.Same else A.new_answer game (places_in w.known) (findings game ((h ++ Got w.player f ∷ []) ∷ [])) f)
     (same_received w.player 0 h f ∙ ap (list_any (λ r. frame_eq r.frame f)) (sym seen_in.frames))
     ∙ ap (λ (a : GotAnswer). if is_far game w f then G.Far else if is_same w f then G.Same else a)
-    (new_is game w.player (places_in w.known) (findings game ((h ++ Got w.player f ∷ []) ∷ [])) f (first_clash game w.player (with_frame w (record { entry = length h; frame = f }))) (A.place_of game f == places_in w.known)
-    (log_finding game w.player h f window.player clean ∙ ap (λ (rs : List Received). option_map (finding_of_clash w.player) (first_clash game w.player (rs ++ record { entry = length h; frame = f } ∷ []))) (sym seen_in.frames)) refl)
-    ∙ by_tests w.player (is_far game w f) (is_same w f) _
+    (new_is game (places_in w.known) (findings game ((h ++ Got w.player f ∷ []) ∷ [])) f (first_clash game w.player (with_frame w (record { entry = length h; frame = f }))) (A.place_of game f == places_in w.known)
+    (log_finding game w.player h f window.player clean ∙ ap (λ (rs : List Received). first_clash game w.player (rs ++ record { entry = length h; frame = f } ∷ [])) (sym seen_in.frames)) refl)
+    ∙ by_tests (is_far game w f) (is_same w f) _

@@ -3,7 +3,6 @@ use Rattle.std.specs.Prelude.{◌≡◌, ℕ, ◌+◌, ◌<◌, List, [], ◌∷
 use Rattle.definitions.specs.declared.frames.TurnFrame.{TurnFrame}
 use Rattle.definitions.specs.declared.logs.Entry.{Entry}
 use Rattle.definitions.specs.declared.logs.Entry.TheVariants.{Chose, Made, Got}
-use Rattle.definitions.specs.declared.findings.Finding.{Finding}
 use Rattle.definitions.specs.declared.answers.GotAnswer.{GotAnswer}
 use Rattle.definitions.specs.declared.answers.GotAnswer.TheVariants as G
 use Rattle.definitions.specs.Lists.{EachIs}
@@ -12,7 +11,6 @@ use Rattle.definitions.specs.Held.{known}
 use Rattle.definitions.specs.Findings.{is_clean}
 use Rattle.definitions.specs.Answers.{got_answer, is_of_another}
 use Rattle.peer_window.specs.declared.received.Received.{Received}
-use Rattle.peer_window.specs.declared.received.Clash.{Clash}
 use Rattle.peer_window.specs.declared.received.Offer.{Offer}
 use Rattle.peer_window.specs.declared.received.Offer.TheVariants.{Taken, Stashed, Same, Far, Conflict}
 use Rattle.peer_window.specs.Windows.{IsWindow, Seen, answer}
@@ -33,17 +31,13 @@ pub record IsSeenIn (me : ℕ) (h : List Entry) (w : Seen) : Type 0 where
   pub other : w.player ≡ me → ⊥
   pub frames : w.frames ≡ received_from w.player 0 h
 
--- the finding in a log alone that a clash of its entries is
-abbrev pub finding_of_clash : ℕ → Clash → Finding
-finding_of_clash q c = record { player = q; turn = c.turn; kind = c.kind; first = record { log = 0; entry = c.first }; second = record { log = 0; entry = c.second } }
-
 -- the answer of the log that a window's answer is
-abbrev pub answer_of_offer : ℕ → Offer → GotAnswer
-answer_of_offer q Taken = G.Taken
-answer_of_offer q Stashed = G.Stashed
-answer_of_offer q Same = G.Same
-answer_of_offer q Far = G.Far
-answer_of_offer q (Conflict c) = G.Caught (finding_of_clash q c)
+abbrev pub answer_of_offer : Offer → GotAnswer
+answer_of_offer Taken = G.Taken
+answer_of_offer Stashed = G.Stashed
+answer_of_offer Same = G.Same
+answer_of_offer Far = G.Far
+answer_of_offer (Conflict f) = G.Caught f
 
 -- a window shows of its player what the log shows
 abbrev pub WindowsShowTheLog : Type 0
@@ -52,7 +46,7 @@ WindowsShowTheLog = (game : Game) (me : ℕ) (h : List Entry) (w : Seen) → IsW
 -- a window answers a frame as the log does, if the log has no finding and the frame's entry is its next
 abbrev pub WindowsAnswerAsTheLog : Type 0
 WindowsAnswerAsTheLog = (game : Game) (me : ℕ) (h : List Entry) (w : Seen) (f : TurnFrame) → IsWindow game w → IsSeenIn me h w →
-    IsTrue (is_clean game h) → IsTrue (is_of_another game me w.player f) → got_answer game me h w.player f ≡ answer_of_offer w.player (answer game w (record { entry = length h; frame = f }))
+    IsTrue (is_clean game h) → IsTrue (is_of_another game me w.player f) → got_answer game me h w.player f ≡ answer_of_offer (answer game w (record { entry = length h; frame = f }))
 
 -- the frames that a log got have numbers below that of its next entry
 abbrev pub ReceivedAreBelow : Type 0

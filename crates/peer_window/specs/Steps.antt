@@ -14,7 +14,7 @@ use Rattle.reveal_check.specs.declared.judging.Verdict.TheVariants as V
 use Rattle.move_rules.specs.Verdicts.{verdict}
 use Rattle.reveal_check.specs.Judgements.{by_rules, judgement}
 use Rattle.peer_window.specs.declared.received.Received.{Received}
-use Rattle.peer_window.specs.declared.received.Clash.{Clash}
+use Rattle.definitions.specs.declared.findings.Finding.{Finding}
 use Rattle.peer_window.specs.declared.walk.Reach.{Reach}
 use Rattle.peer_window.specs.declared.walk.Step.{Step}
 use Rattle.peer_window.specs.declared.walk.Step.TheVariants.{Committed, Resolved, Halt, Illegal}
@@ -56,7 +56,7 @@ opened_step game track before r (Commit p t d) = Halt
 opened_step game track before r (Reveal p t m n) = move_step game track before r p m
 
 -- the commitment and the reveal of a turn have one digest, but in the turn of the bad opening, if there is one
-abbrev pub AgreeBut : Game → List (Option Received) → Option Clash → Type 0
+abbrev pub AgreeBut : Game → List (Option Received) → Option Finding → Type 0
 AgreeBut game ss bad = (t : ℕ) (c g : Received) → slot ss (2 * t) ≡ Some c → slot ss (2 * t + 1) ≡ Some g → same_digest game c g ≡ not (is_of bad t)
 
 -- the next frame is a commitment, as many turns ahead as players commit
@@ -79,14 +79,14 @@ is_stop Halt = true
 is_stop (Illegal clash) = true
 
 -- what a step over an illegal reveal shows
-abbrev pub illegal_in : Step → Option Clash
+abbrev pub illegal_in : Step → Option Finding
 illegal_in Committed = None
 illegal_in (Resolved track) = None
 illegal_in Halt = None
 illegal_in (Illegal clash) = Some clash
 
 -- what the reveal of the first turn that isn't resolved shows, if it is illegal
-abbrev pub illegal_at : Game → List (Option Received) → Reach → Option Clash
+abbrev pub illegal_at : Game → List (Option Received) → Reach → Option Finding
 illegal_at game ss at = illegal_in (turn_step game ss at)
 
 -- so much of the player's stream is there, and leads to this track

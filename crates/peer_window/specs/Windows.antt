@@ -10,7 +10,7 @@ use Rattle.definitions.specs.Held.{Known, known_to, places_in}
 use Rattle.definitions.specs.Answers.{is_beyond, place_of}
 use Rattle.peer_window.specs.declared.received.Received.{Received}
 use Rattle.peer_window.specs.declared.walk.Reach.{Reach}
-use Rattle.peer_window.specs.declared.received.Clash.{Clash}
+use Rattle.definitions.specs.declared.findings.Finding.{Finding}
 use Rattle.peer_window.specs.declared.received.Offer.{Offer}
 use Rattle.peer_window.specs.declared.received.Offer.TheVariants.{Taken, Stashed, Same, Far, Conflict}
 use Rattle.peer_window.specs.Slots.{AreSlots, frames_in, in_order, shown}
@@ -71,7 +71,7 @@ abbrev pub with_frame : Seen → Received → List Received
 with_frame w r = w.frames ++ r ∷ []
 
 -- what becomes of a frame that is new, by the first clash that it makes
-abbrev pub new_answer : Option Clash → Bool → Offer
+abbrev pub new_answer : Option Finding → Bool → Offer
 new_answer (Some clash) next = Conflict clash
 new_answer None next = if next then Taken else Stashed
 

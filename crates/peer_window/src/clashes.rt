@@ -4,8 +4,8 @@ ghost use Rattle.std.specs.Prelude.{◌≡◌, Some, IsTrue};
 ghost use Rattle.peer_window.specs.declared.received.Received.{Received};
 ghost use Rattle.peer_window.specs.Clashes as C;
 
-use crate::received::{Clash, Received};
-use definitions::{Kind, Turn, TurnFrame};
+use crate::received::Received;
+use definitions::{Finding, Kind, PlayerId, Spot, Turn, TurnFrame};
 use grid_world::Session;
 use reveal_check::same_digest;
 
@@ -19,10 +19,29 @@ fn lower_entry(one: &Received, other: &Option<Received>) -> u32
     }
 }
 
+/// What two entries of a log alone show of a player's turn.
+fn finding_by(player: PlayerId, turn: Turn, kind: Kind, first: u32, second: u32) -> Finding
+    ensures { result ≡ C.finding_by player turn kind first second }
+{
+    Finding {
+        player,
+        turn,
+        kind,
+        first: Spot {
+            log: 0,
+            entry: first,
+        },
+        second: Spot {
+            log: 0,
+            entry: second,
+        },
+    }
+}
+
 /// Whether a reveal has the digest of the different one that is held at its place.
 ///
-/// The reveal held opens the commitment of the turn, if that is held too: then the commitment says the digest of both, and only
-/// the new reveal is hashed.
+/// The reveal held opens the commitment of the turn, if that is held too: then the commitment says
+/// its digest, and only the new reveal is hashed.
 fn has_digest_of(
     session: &Session,
     held: &Received,
@@ -44,12 +63,13 @@ fn has_digest_of(
 /// either, so the lower of those two is the first.
 pub(crate) fn rival_clash(
     session: &Session,
+    player: PlayerId,
     held: &Received,
     other: &Option<Received>,
     rival: &Received,
-) -> Clash
+) -> Finding
     requires agree { (o : Received) → other.now ≡ Some o → IsTrue (C.same_digest session.now o held.now) }
-    ensures { result ≡ C.rival_clash session.now held.now other.now rival.now }
+    ensures { result ≡ C.rival_clash session.now player held.now other.now rival.now }
 {
     let turn = rival.frame.turn();
     let (kind, first) = match rival.frame {
@@ -62,21 +82,17 @@ pub(crate) fn rival_clash(
             }
         }
     };
-    Clash {
-        turn,
-        kind,
-        first,
-        second: rival.entry,
-    }
+    finding_by(player, turn, kind, first, rival.entry)
 }
 
 /// What a frame shows with the other frame of its turn: a bad opening where their digests differ.
 pub(crate) fn opening_clash(
     session: &Session,
+    player: PlayerId,
     other: &Option<Received>,
     frame: &Received,
-) -> Option<Clash>
-    ensures { result ≡ C.opening_clash session.now other.now frame.now }
+) -> Option<Finding>
+    ensures { result ≡ C.opening_clash session.now player other.now frame.now }
 {
     match other {
         None => None,
@@ -84,19 +100,15 @@ pub(crate) fn opening_clash(
             if same_digest(session, &other.frame, &frame.frame) {
                 None
             } else {
-                Some(Clash {
-                    turn: frame.frame.turn(),
-                    kind: Kind::BadOpening,
-                    first: other.entry,
-                    second: frame.entry,
-                })
+                let turn = frame.frame.turn();
+                Some(finding_by(player, turn, Kind::BadOpening, other.entry, frame.entry))
             }
         }
     }
 }
 
 /// Whether there is a clash, and it is one of this turn.
-pub(crate) fn is_of(clash: &Option<Clash>, turn: Turn) -> bool
+pub(crate) fn is_of(clash: &Option<Finding>, turn: Turn) -> bool
     ensures { result ≡ C.is_of clash.now turn }
 {
     match *clash {
@@ -106,7 +118,7 @@ pub(crate) fn is_of(clash: &Option<Clash>, turn: Turn) -> bool
 }
 
 /// The first of two clashes, by turn; of one turn, the one that is given first.
-pub(crate) fn lower_clash(one: Option<Clash>, other: Option<Clash>) -> Option<Clash>
+pub(crate) fn lower_clash(one: Option<Finding>, other: Option<Finding>) -> Option<Finding>
     ensures { result ≡ C.lower_clash one other }
 {
     match one {
@@ -125,13 +137,12 @@ pub(crate) fn lower_clash(one: Option<Clash>, other: Option<Clash>) -> Option<Cl
 }
 
 /// The clash of a reveal that opens the commitment held and isn't legal. Either may have come first.
-pub(crate) fn illegal_clash(commitment: &Received, reveal: &Received) -> Clash
+pub(crate) fn illegal_clash(commitment: &Received, reveal: &Received) -> Finding
     ensures { result ≡ C.illegal_clash commitment.now reveal.now }
 {
-    Clash {
-        turn: reveal.frame.turn(),
-        kind: Kind::Illegal,
-        first: commitment.entry.min(reveal.entry),
-        second: commitment.entry.max(reveal.entry),
-    }
+    let player = reveal.frame.player();
+    let turn = reveal.frame.turn();
+    let first = commitment.entry.min(reveal.entry);
+    let second = commitment.entry.max(reveal.entry);
+    finding_by(player, turn, Kind::Illegal, first, second)
 }

@@ -15,6 +15,6 @@ mod slots;
 mod walk;
 mod window;
 
-pub use definitions::{Digest, Kind, Move, PlayerId, Track, Turn, TurnFrame};
-pub use received::{Clash, Offer, Received};
+pub use definitions::{Digest, Finding, Kind, Move, PlayerId, Track, Turn, TurnFrame};
+pub use received::{Offer, Received};
 pub use window::Window;

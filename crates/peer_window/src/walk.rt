@@ -8,9 +8,9 @@ ghost use Rattle.peer_window.specs.Slots.{AreSlots, slot};
 ghost use Rattle.peer_window.specs.Steps as W;
 
 use crate::clashes::{illegal_clash, is_of};
-use crate::received::{Clash, Received};
+use crate::received::Received;
 use crate::slots::{commitment_slot, reveal_slot, slot};
-use definitions::{Move, PlayerId, Track, Turn, TurnFrame};
+use definitions::{Finding, Move, PlayerId, Track, Turn, TurnFrame};
 use grid_world::Session;
 use move_rules::Walker;
 
@@ -32,10 +32,11 @@ pub(crate) enum Step {
     /// Nothing, or a reveal that doesn't open the commitment.
     Halt,
     /// A reveal that opens the commitment and isn't legal.
-    Illegal(Clash),
+    Illegal(Finding),
 }
 
-/// The step over a reveal that opens the commitment held of its turn, if one is held: its move decides.
+/// The step over a reveal that opens the commitment held of its turn, if one is held: its move
+/// decides.
 fn move_step(
     session: &Session,
     walker: &mut Walker,
@@ -58,7 +59,8 @@ fn move_step(
     }
 }
 
-/// The step over what stands in a reveal's slot, where it opens the commitment held of its turn, if one is held.
+/// The step over what stands in a reveal's slot, where it opens the commitment held of its turn, if
+/// one is held.
 fn frame_step(
     session: &Session,
     walker: &mut Walker,
@@ -90,13 +92,14 @@ fn commit_step(slots: &[Option<Received>], turn: Turn) -> Step
 
 /// The step over the reveal of the first turn that isn't resolved.
 ///
-/// Nothing is hashed: a reveal opens the commitment held, but in the turn of the bad opening, if there is one.
+/// Nothing is hashed: a reveal opens the commitment held, but in the turn of the bad opening, if
+/// there is one.
 fn turn_step(
     session: &Session,
     walker: &mut Walker,
     player: PlayerId,
     slots: &[Option<Received>],
-    bad: &Option<Clash>,
+    bad: &Option<Finding>,
     reach: &Reach,
 ) -> Step
     requires player { player < players_of session.now }
@@ -123,7 +126,7 @@ fn next_step(
     walker: &mut Walker,
     player: PlayerId,
     slots: &[Option<Received>],
-    bad: &Option<Clash>,
+    bad: &Option<Finding>,
     reach: &Reach,
 ) -> Step
     requires player { player < players_of session.now }
@@ -147,7 +150,7 @@ pub(crate) fn walk(
     walker: &mut Walker,
     player: PlayerId,
     slots: &[Option<Received>],
-    bad: &Option<Clash>,
+    bad: &Option<Finding>,
     from: &Reach,
 ) -> Reach
     requires player { player < players_of session.now }
@@ -194,9 +197,9 @@ pub(crate) fn illegal_reveal(
     walker: &mut Walker,
     player: PlayerId,
     slots: &[Option<Received>],
-    bad: &Option<Clash>,
+    bad: &Option<Finding>,
     reach: &Reach,
-) -> Option<Clash>
+) -> Option<Finding>
     requires player { player < players_of session.now }
     requires slots { AreSlots player slots.now reach.now.commits reach.now.resolved }
     requires agree { W.AgreeBut session.now slots.now bad.now }

@@ -13,10 +13,10 @@ ghost use Rattle.peer_window.specs.Windows.{IsWindow, IsHeld, answer, frames_aft
 ghost use Rattle.peer_window.specs.Windows as W;
 
 use crate::clashes::{lower_clash, opening_clash, rival_clash};
-use crate::received::{Clash, Offer, Received};
+use crate::received::{Offer, Received};
 use crate::slots::{commitment_slot, other_slot, reveal_slot, slot, slot_of};
 use crate::walk::{Reach, illegal_reveal, walk};
-use definitions::{Digest, FramePlace, Move, Place, PlayerId, Track, Turn, TurnFrame};
+use definitions::{Digest, Finding, FramePlace, Move, Place, PlayerId, Track, Turn, TurnFrame};
 use grid_world::Session;
 use move_rules::{Walker, start_track};
 use std::alloc::{AllocError, Global};
@@ -70,7 +70,7 @@ fn empty(slots: &mut [Option<Received>])
 }
 
 /// The answer to a new frame, by the first clash that it makes, if it makes one.
-fn answer_of(clash: Option<Clash>, was_next: bool) -> Offer
+fn answer_of(clash: Option<Finding>, was_next: bool) -> Offer
     ensures { result ≡ new_answer clash was_next }
 {
     match clash {
@@ -107,9 +107,10 @@ fn is_conflict(offer: &Offer) -> bool
 
 /// Puts a frame into its empty slot, and goes on from the next one as far as the frames lead.
 ///
-/// One reveal is hashed at most, and only where both frames of the turn are there. What was held makes no clash, so each reveal
-/// opens the commitment of its turn, if both were held; whether the new frame and the other one of its turn agree is found out
-/// first, and tells the walk all that a hash could.
+/// One reveal is hashed at most, and only where both frames of the turn are there. What was held
+/// makes no clash, so each reveal opens the commitment of its turn where both were held. Whether
+/// the new frame agrees with the other one of its turn is found out first: that tells the walk all
+/// that hashing could.
 fn hold(
     session: &Session,
     walker: &mut Walker,
@@ -133,7 +134,7 @@ fn hold(
     let was_next = session.place_of(&received.frame) == next;
     let other = slot(slots, other_slot(&received.frame));
     let at = slot_of(&received.frame);
-    let bad = opening_clash(session, &other, received);
+    let bad = opening_clash(session, player, &other, received);
     slots[at as usize] = Some(*received);
     let reach = walk(session, walker, player, slots, &bad, from);
     let illegal = illegal_reveal(session, walker, player, slots, &bad, &reach);
@@ -248,7 +249,7 @@ impl Window {
                 let other = slot(&self.slots, other_slot(frame));
                 self.rival = Some(received);
                 self.closed = true;
-                Offer::Conflict(rival_clash(session, &held, &other, &received))
+                Offer::Conflict(rival_clash(session, self.player, &held, &other, &received))
             }
         }
     }

@@ -38,10 +38,10 @@ pub returns-else-is_frame-clause-answer : goal.returns-else-is_frame-clause-answ
 returns-else-is_frame-clause-answer c =
     let w = c.self.inside in
     let o = opened c.args.session.now c.args.self.now w.player w.slots.items w.rival w.closed w.reach c.args.entry c.self.view_is c.requires.window c.requires.open_still c.requires.later c.self.invariant in
-    offer_rival c.args.session.now c.args.self.now w.slots.items w.rival w.closed w.reach (record { entry = c.args.entry; frame = c.args.frame.now }) c.in-Some.held c.slot_of-at.result c.is_beyond.result c.is_frame.result c.rival_clash.result c.slot-other.result
+    offer_rival c.args.session.now c.args.self.now w.slots.items w.rival w.closed w.reach (record { entry = c.args.entry; frame = c.args.frame.now }) c.in-Some.held c.slot_of-at.result w.player c.is_beyond.result c.is_frame.result c.rival_clash.result c.slot-other.result
     c.facts.ensures o c.requires.player
     c.slot_of-at.ensures c.is_beyond.ensures c.if-is_beyond.false (c.in-Some.ensures ∙ ap (λ (xs : List (Option Received)). slot xs c.slot_of-at.result) c.deref.ensures.value) c.is_frame.ensures c.if-is_frame.false
-    (c.slot-other.ensures ∙ ap (λ (xs : List (Option Received)). slot xs c.other_slot.result) c.deref-in-Some.ensures.value ∙ ap (slot w.slots.items) c.other_slot.ensures) c.rival_clash.ensures
+    (c.slot-other.ensures ∙ ap (λ (xs : List (Option Received)). slot xs c.other_slot.result) c.deref-in-Some.ensures.value ∙ ap (slot w.slots.items) c.other_slot.ensures) (ap (λ (x : Seen). x.player) c.self.view_is) c.rival_clash.ensures
 
 pub returns-else-is_frame-clause-window : goal.returns-else-is_frame-clause-window
 returns-else-is_frame-clause-window c =
