@@ -13,14 +13,10 @@ use Rattle.definitions.proofs.Items.{map_item}
 use Rattle.grid_world.specs.Sessions.{IsSession}
 use Rattle.cell_set.specs.Regions.{Region}
 use Rattle.dilation.specs.declared.growth.Kept.{Kept}
-use Rattle.dilation.specs.Dilated.{Dilated, starts_of, cell_of, kept_of, none_kept, kept_set}
-use Rattle.dilation.specs.Following.{IsKept, AreKept, IsDilated, AreFresh, no_kept}
+use Rattle.dilation.specs.Dilated.{Dilated, starts_of, cell_of, kept_of, none_kept, kept_set, turns_of}
+use Rattle.dilation.specs.Following.{IsKept, AreKept, IsDilated, IsDilationOf, AreFresh, no_kept}
 use Rattle.dilation.proofs.Seats.{first_starts, first_length, start_more, item_read}
 use Rattle.dilation.proofs.Items.{map_set, map_more, item_before, item_last, item_set, item_set_other}
-
--- for how many turns each player was followed
-abbrev pub turns_of : List Kept → List ℕ
-turns_of kept = map (λ k. k.turns) kept
 
 -- the set that was read at a place, by the cell that the list has
 pub kept_here : (game : Game) (cells : List Cell) (kept : List Kept) (q : ℕ) (k : Kept) → IsDilated game cells kept → q < players_of game → k ≡ get_or kept q k → IsKept game q (cell_of cells q) k
@@ -96,35 +92,32 @@ dilated_seen game cells kept i q cell new facts is opens fits =
     })
 
 -- what contracts see of a dilation with these fields
-abbrev pub seen_as : Game → List Cell → List Kept → Dilated
-seen_as game cells kept = record { game = game; cells = cells; kept = turns_of kept }
+abbrev pub seen_as : List Cell → List Kept → Dilated
+seen_as cells kept = record { cells = cells; kept = kept }
 
 turns_set : (kept : List Kept) (i q n : ℕ) (new : Kept) → i ≡ q → new.turns ≡ n → turns_of (slice_set kept i new) ≡ slice_set (turns_of kept) q n
 turns_set kept i q n new is turns =
     map_set (λ k. k.turns) kept i new ∙ ap (λ m. slice_set (turns_of kept) i m) turns ∙ ap (λ m. slice_set (turns_of kept) m n) is
 
-pub seen_grown : (game : Game) (cells : List Cell) (kept : List Kept) (s : Dilated) (i q n : ℕ) (new : Kept) → seen_as game cells kept ≡ s → i ≡ q → new.turns ≡ n →
-    seen_as game cells (slice_set kept i new) ≡ record s { kept = slice_set s.kept q n }
-seen_grown game cells kept s i q n new seen is turns =
-    let at : List ℕ → Dilated = λ ks. record { game = game; cells = cells; kept = ks } in
-    ap at (turns_set kept i q n new is turns) ∙ ap (λ (v : Dilated). record v { kept = slice_set v.kept q n }) seen
+-- the session is the one that it was made for
+pub dilated_inside : (game : Game) (cells : List Cell) (kept : List Kept) (s : Dilated) → seen_as cells kept ≡ s → IsDilationOf game s → IsDilated game cells kept
+dilated_inside game cells kept s seen is = subst (λ (v : Dilated). IsDilationOf game v) (sym seen) is
 
-pub seen_set : (game : Game) (cells : List Cell) (kept : List Kept) (s : Dilated) (i q : ℕ) (cell : Cell) (new : Kept) → seen_as game cells kept ≡ s → i ≡ q → new.turns ≡ 0 →
-    seen_as game (slice_set cells i cell) (slice_set kept i new) ≡ record s { cells = slice_set s.cells q cell; kept = slice_set s.kept q 0 }
-seen_set game cells kept s i q cell new seen is turns =
-    let at : ℕ → List ℕ → Dilated = λ m ks. record { game = game; cells = slice_set cells m cell; kept = ks } in
-    ap (λ m. at m (turns_of (slice_set kept i new))) is ∙ ap (at q) (turns_set kept i q 0 new is turns)
-    ∙ ap (λ (v : Dilated). record v { cells = slice_set v.cells q cell; kept = slice_set v.kept q 0 }) seen
+pub turns_grown : (cells : List Cell) (kept : List Kept) (s : Dilated) (i q n : ℕ) (new : Kept) → seen_as cells kept ≡ s → i ≡ q → new.turns ≡ n → turns_of (slice_set kept i new) ≡ slice_set (turns_of s.kept) q n
+turns_grown cells kept s i q n new seen is turns = turns_set kept i q n new is turns ∙ ap (λ (v : Dilated). slice_set (turns_of v.kept) q n) seen
+
+pub cells_seen : (cells : List Cell) (kept : List Kept) (s : Dilated) (i q : ℕ) (cell : Cell) → seen_as cells kept ≡ s → i ≡ q → slice_set cells i cell ≡ slice_set s.cells q cell
+cells_seen cells kept s i q cell seen is = ap (λ n. slice_set cells n cell) is ∙ ap (λ (v : Dilated). slice_set v.cells q cell) seen
 
 -- the turns that were written are those that are read
-pub turns_grown : (game : Game) (cells : List Cell) (kept : List Kept) (i q n : ℕ) (new : Kept) → IsDilated game cells kept → i ≡ q → q < players_of game → new.turns ≡ n →
+pub turns_read : (game : Game) (cells : List Cell) (kept : List Kept) (i q n : ℕ) (new : Kept) → IsDilated game cells kept → i ≡ q → q < players_of game → new.turns ≡ n →
     kept_of (turns_of (slice_set kept i new)) q ≡ n
-turns_grown game cells kept i q n new facts is lt turns =
+turns_read game cells kept i q n new facts is lt turns =
     ap (λ ks. kept_of ks q) (turns_set kept i q n new is turns) ∙ item_set (turns_of kept) q n 0 (omega (arith, facts.one_each, length-map kept (λ (k : Kept). k.turns)))
 
 -- the set that was read has the cells that the player can be at
-pub kept_set_is : (game : Game) (cells : List Cell) (kept : List Kept) (s : Dilated) (i q : ℕ) (k : Kept) → IsDilated game cells kept → seen_as game cells kept ≡ s → i ≡ q → q < players_of game →
-    k ≡ get_or kept i k → k.reached ≡ kept_set s q
+pub kept_set_is : (game : Game) (cells : List Cell) (kept : List Kept) (s : Dilated) (i q : ℕ) (k : Kept) → IsDilated game cells kept → seen_as cells kept ≡ s → i ≡ q → q < players_of game →
+    k ≡ get_or kept i k → k.reached ≡ kept_set game s q
 kept_set_is game cells kept s i q k facts seen is lt at =
     let here : k ≡ get_or kept q k = at ∙ ap (λ n. get_or kept n k) is in
     let known = kept_here game cells kept q k facts lt here in
@@ -135,7 +128,7 @@ kept_set_is game cells kept s i q k facts seen is lt at =
     ∙ ap (λ h. sized game.grid.width h k.reached.cells) known.followed.size.height
     ∙ ap (sized game.grid.width game.grid.height)
     (known.followed.cells ∙ ap (λ n. reach_of game q n (cell_of cells q ∷ [])) turns)
-    ∙ ap (λ (v : Dilated). kept_set v q) seen
+    ∙ ap (λ (v : Dilated). kept_set game v q) seen
 
 -- one cell and its set more
 kept_more : (game : Game) (n : ℕ) (cells : List Cell) (kept : List Kept) (cell : Cell) (k : Kept) → n ≡ length cells → length kept ≡ length cells → AreKept game cells kept → IsKept game n cell k →
@@ -170,10 +163,10 @@ fresh_more game n kept after k lt fresh new none more =
     }))
 
 -- all stand at their starts
-pub dilated_starts : (game copy : Game) (cells : List Cell) (kept : List Kept) → IsSession game → copy ≡ game → cells ≡ starts_of game → AreFresh game (starts_of game) kept → IsDilated copy cells kept
-dilated_starts game copy cells kept facts same starts fresh =
-    subst (λ (g : Game). IsDilated g cells kept) (sym same) (subst (λ (cs : List Cell). IsDilated game cs kept) (sym starts) (record {
+pub dilated_starts : (game : Game) (cells : List Cell) (kept : List Kept) → IsSession game → cells ≡ starts_of game → AreFresh game (starts_of game) kept → IsDilated game cells kept
+dilated_starts game cells kept facts starts fresh =
+    subst (λ (cs : List Cell). IsDilated game cs kept) (sym starts) (record {
       seen = record { session = facts; one_each = length-map game.seats (λ (s : Seat). s.start); each_open = (each_map (λ c. IsTrue (is_open game.grid c)) (λ (s : Seat). s.start) game.seats).1 facts.starts };
       one_each = fresh.one_each ∙ length-map game.seats (λ (s : Seat). s.start);
       each_kept = fresh.each_kept;
-    }))
+    })

@@ -6,14 +6,18 @@ use Rattle.definitions.specs.World.{Game, players_of, is_open, no_seat}
 use Rattle.definitions.specs.Walk.{reach_of}
 use Rattle.grid_world.specs.Sessions.{IsSession}
 use Rattle.cell_set.specs.Regions.{Region}
+use Rattle.dilation.specs.declared.growth.Kept.{Kept}
 
--- a session, the cell at which each of its players was last seen, and for how many turns each was followed from there
+-- the cell at which each player of a session was last seen, and what is kept of it
 pub record Dilated : Type 0 where
-  pub game : Game
   -- in order of player
   pub cells : List Cell
   -- in order of player
-  pub kept : List ℕ
+  pub kept : List Kept
+
+-- for how many turns each player was followed from its cell
+abbrev pub turns_of : List Kept → List ℕ
+turns_of kept = map (λ k. k.turns) kept
 
 -- the cells at which the players start
 abbrev pub starts_of : Game → List Cell
@@ -32,11 +36,11 @@ abbrev pub none_kept : List Cell → List ℕ
 none_kept cells = map (λ _. 0) cells
 
 -- the set of the cells that the player can be at, so many turns after it was last seen as it was followed
-abbrev pub kept_set : Dilated → ℕ → Region
-kept_set d q = record {
-  width = d.game.grid.width;
-  height = d.game.grid.height;
-  cells = reach_of d.game q (kept_of d.kept q) (cell_of d.cells q ∷ []);
+abbrev pub kept_set : Game → Dilated → ℕ → Region
+kept_set game d q = record {
+  width = game.grid.width;
+  height = game.grid.height;
+  cells = reach_of game q (kept_of (turns_of d.kept) q) (cell_of d.cells q ∷ []);
 }
 
 -- so many growths at most make a set of `kept` turns one of `missed` turns: those that it lacks, or all where it has too many

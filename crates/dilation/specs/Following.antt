@@ -1,12 +1,12 @@
 -- Following: what holds of the sets that are kept of the players.
-use Rattle.std.specs.Prelude.{◌≡◌, ℕ, ◌*◌, ◌<◌, ◌≤◌, true, false, List, [], ◌∷◌, length, map}
+use Rattle.std.specs.Prelude.{◌≡◌, ℕ, ◌*◌, ◌<◌, ◌≤◌, true, false, List, [], ◌∷◌, length}
 use Rattle.definitions.specs.declared.world.Cell.{Cell}
 use Rattle.definitions.specs.Lists.{item_or}
 use Rattle.definitions.specs.World.{Ground, Game, players_of, seat_of}
 use Rattle.definitions.specs.Walk.{stepped, walked}
 use Rattle.cell_set.specs.Regions.{IsSizeOf}
 use Rattle.dilation.specs.declared.growth.Kept.{Kept}
-use Rattle.dilation.specs.Dilated.{AreSeen, cell_of, none_kept}
+use Rattle.dilation.specs.Dilated.{AreSeen, Dilated, cell_of, none_kept, turns_of}
 
 -- the set has the grid's size and the cells to which walks of so many steps lead from this one; where it is called full, a
 -- step more adds none
@@ -34,8 +34,12 @@ pub record IsDilated (game : Game) (cells : List Cell) (kept : List Kept) : Type
   pub one_each : length kept ≡ players_of game
   pub each_kept : AreKept game cells kept
 
+-- the dilation was made for this session
+abbrev pub IsDilationOf : Game → Dilated → Type 0
+IsDilationOf game d = IsDilated game d.cells d.kept
+
 -- each of these cells has a set, which was followed from it for no turn yet
 pub record AreFresh (game : Game) (cells : List Cell) (kept : List Kept) : Type 0 where
   pub one_each : length kept ≡ length cells
   pub each_kept : AreKept game cells kept
-  pub turns : map (λ k. k.turns) kept ≡ none_kept cells
+  pub turns : turns_of kept ≡ none_kept cells

@@ -1,9 +1,9 @@
 //! Where each player was last seen, and where it can be by now.
 
-ghost use Rattle.std.specs.Prelude.{◌≡◌, ◌+◌, ◌<◌, ◌≤◌, IsTrue, IfOk, slice_set};
+ghost use Rattle.std.specs.Prelude.{◌≡◌, ◌+◌, ◌<◌, ◌≤◌, IsTrue, IfOk, length, slice_set};
 ghost use Rattle.definitions.specs.World.{players_of, is_open, seat_of};
-ghost use Rattle.dilation.specs.Dilated.{AreSeen, starts_of, cell_of, kept_of, none_kept, kept_set, most_growths};
-ghost use Rattle.dilation.specs.Following.{AreFresh};
+ghost use Rattle.dilation.specs.Dilated.{starts_of, cell_of, kept_of, none_kept, kept_set, most_growths, turns_of};
+ghost use Rattle.dilation.specs.Following.{AreFresh, IsDilationOf};
 
 use crate::growth::{Kept, begin, follow, keep};
 use crate::steps::Steps;
@@ -17,7 +17,6 @@ use std::sync::ledger::{Blank, Ledger};
 /// The cell at which each player of a session was last seen, and the cells to which each was followed from there.
 #[derive(Drop)]
 pub struct Dilation {
-    session: Session,
     // the cell of each player
     cells: Vec<Cell>,
     // and the set that is kept of it
@@ -25,16 +24,11 @@ pub struct Dilation {
 }
 
 impl Model for Dilation {
-    ghost use Rattle.std.specs.Prelude.{map};
     ghost use Rattle.dilation.specs.Dilated.{Dilated};
 
     ghost Value = { Dilated };
 
-    ghost use Rattle.dilation.specs.Following.{IsDilated};
-
-    ghost view = { λ d. record { game = d.session; cells = d.cells.items; kept = map (λ k. k.turns) d.kept.items } };
-
-    ghost invariant = { λ d. IsDilated d.session d.cells.items d.kept.items };
+    ghost view = { λ d. record { cells = d.cells.items; kept = d.kept.items } };
 }
 
 /// The cells at which the players start.
@@ -60,31 +54,22 @@ fn keep_starts(alloc: Global, session: &Session) -> Result<Vec<Kept>, AllocError
 }
 
 impl Dilation {
-    /// Each player of the session stands at its start, and no one was followed yet. All memory is taken here.
+    /// Each player of the session stands at its start, and no one was followed yet. All memory is taken here. The session is
+    /// not kept: each call is handed the one for which the dilation was made.
     pub fn new(alloc: Global, session: &Session) -> Result<Dilation, AllocError>
-        ensures { IfOk result (λ d. d ≡ record { game = session.now; cells = starts_of session.now; kept = none_kept (starts_of session.now) }) }
+        ensures dilated { IfOk result (IsDilationOf session.now) }
+        ensures seen { IfOk result (λ d. d.cells ≡ starts_of session.now) }
+        ensures kept { IfOk result (λ d. turns_of d.kept ≡ none_kept (starts_of session.now)) }
     {
-        let copy = session.copy(alloc)?;
+        session.facts();
         let cells = starts_of(alloc, session)?;
         let kept = keep_starts(alloc, session)?;
-        session.facts();
-        Ok(Dilation {
-            session: copy,
-            cells,
-            kept,
-        })
-    }
-
-    /// Each player of the session stands on an open cell: nothing but that fact.
-    pub fn facts(&self)
-        ensures { AreSeen self.now.game self.now.cells }
-    {
-        let _ = &self.kept;
+        Ok(Dilation { cells, kept })
     }
 
     /// The cell at which the player was last seen.
     pub fn cell(&self, player: PlayerId) -> Cell
-        requires { player < players_of self.now.game }
+        requires { player < length self.now.cells }
         ensures { result ≡ cell_of self.now.cells player }
     {
         self.cells[usize::from(player)]
@@ -93,75 +78,93 @@ impl Dilation {
     /// For how many turns the player was followed from its cell: 0 where it was seen since, and otherwise what `advance` or
     /// `grow_to` was last asked for.
     pub fn kept(&self, player: PlayerId) -> u32
-        requires { player < players_of self.now.game }
-        ensures { result ≡ kept_of self.now.kept player }
+        requires { player < length self.now.kept }
+        ensures { result ≡ kept_of (turns_of self.now.kept) player }
     {
         self.kept[usize::from(player)].turns
     }
 
     /// The player was seen at this cell, and stands there from now on. To where it was followed from another one is forgotten.
-    pub fn resolved(&mut self, player: PlayerId, cell: Cell)
-        requires player { player < players_of self.old.game }
-        requires open { IsTrue (is_open self.old.game.grid cell) }
-        ensures { self.new ≡ record self.old { cells = slice_set self.old.cells player cell; kept = slice_set self.old.kept player 0 } }
+    pub fn resolved(&mut self, session: &Session, player: PlayerId, cell: Cell)
+        requires dilated { IsDilationOf session.now self.old }
+        requires player { player < players_of session.now }
+        requires open { IsTrue (is_open session.now.grid cell) }
+        ensures dilated { IsDilationOf session.now self.new }
+        ensures seen { self.new.cells ≡ slice_set self.old.cells player cell }
+        ensures kept { turns_of self.new.kept ≡ slice_set (turns_of self.old.kept) player 0 }
     {
         let at = usize::from(player);
         self.cells[at] = cell;
-        begin(&mut self.kept[at], &self.session, player, cell);
+        begin(&mut self.kept[at], session, player, cell);
     }
 
     /// Follows the player, by its own speed, to all cells at which it can be, so many turns after it was seen at its cell. It
     /// goes on from the turns for which the player was followed before, or begins anew where they are too many; and `steps`
     /// counts each time that the set grows by a step. A set that no step makes larger doesn't grow.
-    pub fn advance<L: Ledger>(&mut self, player: PlayerId, missed: u32, steps: &mut Steps<L>)
-        requires player { player < players_of self.old.game }
-        requires missed { missed ≤ self.old.game.turns }
-        ensures kept { self.new ≡ record self.old { kept = slice_set self.old.kept player missed } }
-        ensures turns { kept_of self.new.kept player ≡ missed }
+    pub fn advance<L: Ledger>(
+        &mut self,
+        session: &Session,
+        player: PlayerId,
+        missed: u32,
+        steps: &mut Steps<L>,
+    )
+        requires dilated { IsDilationOf session.now self.old }
+        requires player { player < players_of session.now }
+        requires missed { missed ≤ session.now.turns }
+        ensures dilated { IsDilationOf session.now self.new }
+        ensures seen { self.new.cells ≡ self.old.cells }
+        ensures kept { turns_of self.new.kept ≡ slice_set (turns_of self.old.kept) player missed }
+        ensures turns { kept_of (turns_of self.new.kept) player ≡ missed }
         ensures counted { steps.old ≤ steps.new }
-        ensures cost { steps.new ≤ steps.old + most_growths (seat_of self.old.game player).speed (kept_of self.old.kept player) missed }
+        ensures cost { steps.new ≤ steps.old + most_growths (seat_of session.now player).speed (kept_of (turns_of self.old.kept) player) missed }
     {
         let at = usize::from(player);
         let cell = self.cells[at];
-        follow(
-            &mut self.kept[at],
-            &self.session,
-            player,
-            cell,
-            missed,
-            steps,
-        );
+        follow(&mut self.kept[at], session, player, cell, missed, steps);
     }
 
     /// Advances, and counts in a ledger that no one reads.
-    fn advance_in<L: Ledger>(&mut self, player: PlayerId, missed: u32, blank: Blank)
+    fn advance_in<L: Ledger>(
+        &mut self,
+        session: &Session,
+        player: PlayerId,
+        missed: u32,
+        blank: Blank,
+    )
         requires name { blank.name ≡ L.name }
         requires parts { blank.parts ≡ L.parts }
         requires some { 0 < blank.parts }
-        requires player { player < players_of self.old.game }
-        requires missed { missed ≤ self.old.game.turns }
-        ensures kept { self.new ≡ record self.old { kept = slice_set self.old.kept player missed } }
-        ensures turns { kept_of self.new.kept player ≡ missed }
+        requires dilated { IsDilationOf session.now self.old }
+        requires player { player < players_of session.now }
+        requires missed { missed ≤ session.now.turns }
+        ensures dilated { IsDilationOf session.now self.new }
+        ensures seen { self.new.cells ≡ self.old.cells }
+        ensures kept { turns_of self.new.kept ≡ slice_set (turns_of self.old.kept) player missed }
+        ensures turns { kept_of (turns_of self.new.kept) player ≡ missed }
     {
         let mut steps = Steps::<L>::new(blank);
-        self.advance(player, missed, &mut steps);
+        self.advance(session, player, missed, &mut steps);
     }
 
     /// Advances where nothing is counted.
-    pub fn grow_to(&mut self, player: PlayerId, missed: u32)
-        requires player { player < players_of self.old.game }
-        requires missed { missed ≤ self.old.game.turns }
-        ensures kept { self.new ≡ record self.old { kept = slice_set self.old.kept player missed } }
-        ensures turns { kept_of self.new.kept player ≡ missed }
+    pub fn grow_to(&mut self, session: &Session, player: PlayerId, missed: u32)
+        requires dilated { IsDilationOf session.now self.old }
+        requires player { player < players_of session.now }
+        requires missed { missed ≤ session.now.turns }
+        ensures dilated { IsDilationOf session.now self.new }
+        ensures seen { self.new.cells ≡ self.old.cells }
+        ensures kept { turns_of self.new.kept ≡ slice_set (turns_of self.old.kept) player missed }
+        ensures turns { kept_of (turns_of self.new.kept) player ≡ missed }
     {
-        self.advance_in::<Brand>(player, missed, Blank::new(1));
+        self.advance_in::<Brand>(session, player, missed, Blank::new(1));
     }
 
     /// The cells to which the player was followed: those at which it can be, so many turns after it was last seen as `kept`
     /// tells.
-    pub fn reached(&self, player: PlayerId) -> &CellSet
-        requires { player < players_of self.now.game }
-        ensures { result.now ≡ kept_set self.now player }
+    pub fn reached(&self, _session: &Session, player: PlayerId) -> &CellSet
+        requires dilated { IsDilationOf _session.now self.now }
+        requires player { player < players_of _session.now }
+        ensures { result.now ≡ kept_set _session.now self.now player }
     {
         &self.kept[usize::from(player)].reached
     }

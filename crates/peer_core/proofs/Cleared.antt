@@ -14,7 +14,8 @@ use Rattle.dilation.proofs.Items.{item_set, item_set_other}
 use Rattle.peer_window.specs.Windows.{Seen, IsWindow}
 use Rattle.wait_rule.specs.declared.views.View.{View}
 use Rattle.wait_rule.specs.Waiting.{no_view}
-use Rattle.wait_rule.specs.Shown.{Standing}
+use Rattle.wait_rule.specs.declared.meeting.Meeting.{Meeting}
+use Rattle.wait_rule.specs.Spheres.{IsMeeting, cells_in}
 use Rattle.wait_rule.proofs.ForPeers.{last_cells_start}
 use Rattle.peer_core.specs.Others.{Known, AreOthers, AreCleared, IsOpened}
 use Rattle.peer_core.proofs.Tables.{opened_of, opened_view}
@@ -24,7 +25,7 @@ pub cleared_none : (game : Game) (me : ℕ) (h : List Entry) (o : Known) → Are
 cleared_none game me h o a = record {
   count = a.count;
   count_views = a.count_views;
-  game_is = a.game_is;
+  rule_is = a.rule_is;
   windows = λ q d lt other. let i = a.each q d lt other in i.window;
   players = λ q d lt other. let i = a.each q d lt other in i.player;
   opened = λ q d lt other. absurd (omega arith);
@@ -37,7 +38,7 @@ pub cleared_own : (game : Game) (me n : ℕ) (o : Known) → n ≡ me → AreCle
 cleared_own game me n o e c = record {
   count = c.count;
   count_views = c.count_views;
-  game_is = c.game_is;
+  rule_is = c.rule_is;
   windows = c.windows;
   players = c.players;
   opened = λ q d lt other. c.opened q d (omega (arith, other)) other;
@@ -49,15 +50,15 @@ start_is : (game : Game) (q : ℕ) → q < players_of game → (seat_of game q).
 start_is game q lt = sym (map_item (λ (s : Seat). s.start) game.seats q no_seat no_seat.start lt)
 
 -- one player more is forgotten
-pub cleared_one : (game : Game) (me p i : ℕ) (o : Known) (old w : Seen) (v : View) (cell : Cell) (rule : Standing) → i ≡ p → p < players_of game → p ≢ me → length o.rule.cells ≡ players_of game →
+pub cleared_one : (game : Game) (me p i : ℕ) (o : Known) (old w : Seen) (v : View) (cell : Cell) (rule : Meeting) → i ≡ p → p < players_of game → p ≢ me → length (cells_in o.rule) ≡ players_of game →
     AreCleared game me p o → old ≡ get_or o.windows i old → IsWindow game w → w.player ≡ old.player → w.frames ≡ [] → w.closed ≡ false → v ≡ no_view → cell ≡ (seat_of game p).start →
-    rule ≡ record o.rule { cells = set o.rule.cells p cell } → AreCleared game me (p + 1) (record { windows = set o.windows i w; views = set o.views i v; rule = rule })
-cleared_one game me p i o old w v cell rule e lt apart seen c there window player frames closed view at told =
+    IsMeeting game rule → cells_in rule ≡ set (cells_in o.rule) p cell → AreCleared game me (p + 1) (record { windows = set o.windows i w; views = set o.views i v; rule = rule })
+cleared_one game me p i o old w v cell rule e lt apart seen c there window player frames closed view at made told =
     let Are : ℕ → Type 0 = λ k. AreCleared game me (p + 1) (record { windows = set o.windows k w; views = set o.views k v; rule = rule }) in
     subst Are (sym e) (record {
       count = length-set o.windows p w ∙ c.count;
       count_views = length-set o.views p v ∙ c.count_views;
-      game_is = ap (λ (s : Standing). s.game) told ∙ c.game_is;
+      rule_is = made;
       windows = λ q d l other. elim (cases_eq q p) [
         | inl same ↦ subst (IsWindow game) (sym (here q d same)) window
         | inr differs ↦ subst (IsWindow game) (sym (get_or-set_other o.windows p q w d differs)) (c.windows q d l other)
@@ -74,9 +75,9 @@ cleared_one game me p i o old w v cell rule e lt apart seen c there window playe
         | inl same ↦ ap (λ k. get_or (set o.views p v) k x) same ∙ get_or-set_same o.views p v x (omega (arith, c.count_views)) ∙ view
         | inr differs ↦ get_or-set_other o.views p q v x differs ∙ c.blank q x (omega (arith, differs)) other
       ];
-      cells = λ q l other. ap (λ (s : Standing). cell_of s.cells q) told ∙ (elim (cases_eq q p) [
-        | inl same ↦ ap (cell_of (set o.rule.cells p cell)) same ∙ item_set o.rule.cells p cell no_seat.start (omega (arith, seen)) ∙ at ∙ start_is game p lt ∙ ap (cell_of (starts_of game)) (sym same)
-        | inr differs ↦ item_set_other o.rule.cells p q cell no_seat.start differs ∙ c.cells q (omega (arith, differs)) other
+      cells = λ q l other. ap (λ (cs : List Cell). cell_of cs q) told ∙ (elim (cases_eq q p) [
+        | inl same ↦ ap (cell_of (set (cells_in o.rule) p cell)) same ∙ item_set (cells_in o.rule) p cell no_seat.start (omega (arith, seen)) ∙ at ∙ start_is game p lt ∙ ap (cell_of (starts_of game)) (sym same)
+        | inr differs ↦ item_set_other (cells_in o.rule) p q cell no_seat.start differs ∙ c.cells q (omega (arith, differs)) other
       ]);
     })
   where
@@ -94,6 +95,6 @@ cleared_all game me n o le c = record {
   each = λ q d lt other. opened_of game me q (get_or o.windows q d) other (c.opened q d (omega arith) other);
   count_views = c.count_views;
   views_are = λ q d x lt other. c.blank q x (omega arith) other ∙ opened_view game me q (get_or o.windows q d) other (c.opened q d (omega arith) other);
-  game_is = c.game_is;
+  rule_is = c.rule_is;
   cells_are = λ q lt other. c.cells q (omega arith) other ∙ last_cells_start game me [] (λ k apart. ap (λ (x : Shown). x.moves) (known_without_got game me k [] apart refl)) q lt other;
 }

@@ -1,6 +1,6 @@
 -- Tables: what a peer keeps of the other players, as the log grows.
 use Rattle.std.proofs.Common.{◌≡◌, ℕ, ◌+◌, ◌<◌, List, [], ◌∷◌, ◌++◌, refl, Bool, true, false, sym, ◌∙◌, ap, subst, arith, length, get_or, set, length-set, get_or-set_same, get_or-set_other, replicate}
-use Rattle.std.specs.Prelude.{◌==◌, if◌then◌else◌}
+use Rattle.std.specs.Prelude.{◌*◌, ◌==◌, if◌then◌else◌}
 use Rattle.std.proofs.lemmas.List.{get_or-replicate, length-replicate}
 use Rattle.std.proofs.lemmas.Bool.{eqb-true, eqb-false, ne_eqb, false≢true}
 use Rattle.definitions.specs.declared.world.Cell.{Cell}
@@ -27,20 +27,23 @@ use Rattle.grid_world.specs.Sessions.{IsSession}
 use Rattle.peer_window.specs.declared.received.Received.{Received}
 use Rattle.peer_window.specs.declared.received.Offer.{Offer}
 use Rattle.peer_window.specs.declared.received.Offer.TheVariants as O
+use Rattle.peer_window.specs.Slots.{frames_in}
 use Rattle.peer_window.specs.Windows.{Seen, IsWindow, answer, frames_after, is_conflict}
 use Rattle.peer_window.specs.Logged.{answer_of_offer, received_from, received_in}
 use Rattle.peer_window.proofs.Tied.{shows_log, received_below, received_one_more, received_another, answers_log}
 use Rattle.dilation.specs.Dilated.{starts_of}
 use Rattle.wait_rule.specs.declared.views.View.{View}
 use Rattle.wait_rule.specs.Waiting.{no_view}
-use Rattle.wait_rule.specs.Shown.{Standing, AreViews, AreLastCells, IsView}
+use Rattle.wait_rule.specs.declared.meeting.Meeting.{Meeting}
+use Rattle.wait_rule.specs.Spheres.{IsMeeting, cells_in}
+use Rattle.wait_rule.specs.Shown.{AreViews, AreLastCells, IsView}
 use Rattle.wait_rule.proofs.ForPeers.{last_cells_start, last_cells_set, last_cells_same}
 use Rattle.peer_core.specs.declared.views.PlayerView.{PlayerView}
 use Rattle.peer_core.specs.Answers.{is_logged}
 use Rattle.peer_core.specs.Views.{player_view, with_got}
 use Rattle.peer_core.specs.Others.{Known, AreOthers, AreOpened, IsOpened, IsWindowOf, view_of}
 use Rattle.peer_core.proofs.Answering.{logged_is, caught_dirty}
-use Rattle.definition_laws.proofs.Tracks.{known_open}
+use Rattle.definition_laws.proofs.Tracks.{known_to_open}
 use Rattle.definition_laws.proofs.Room.{other_player}
 use Rattle.grid_world.proofs.Facts.{seat_open}
 
@@ -70,16 +73,16 @@ opened_view game me q w other o =
     ap of_known (sym none)
 
 -- nothing came yet
-pub others_new : (game : Game) (me : ℕ) (ws : List Seen) (vs : List View) (rule : Standing) → AreOpened game ws → vs ≡ replicate (players_of game) no_view → rule ≡ record { game = game; cells = starts_of game } →
+pub others_new : (game : Game) (me : ℕ) (ws : List Seen) (vs : List View) (rule : Meeting) → AreOpened game ws → vs ≡ replicate (players_of game) no_view → IsMeeting game rule → cells_in rule ≡ starts_of game →
     AreOthers game me [] (record { windows = ws; views = vs; rule = rule })
 unfolding got_of
-others_new game me ws vs rule o v r = record {
+others_new game me ws vs rule o v made at = record {
   count = o.count;
   each = λ q d lt other. opened_of game me q (get_or ws q d) other (o.each q d lt);
   count_views = ap (λ (xs : List View). length xs) v ∙ length-replicate (players_of game) no_view;
   views_are = λ q d x lt other. ap (λ (xs : List View). get_or xs q x) v ∙ get_or-replicate (players_of game) q no_view x lt ∙ opened_view game me q (get_or ws q d) other (o.each q d lt);
-  game_is = ap (λ (s : Standing). s.game) r;
-  cells_are = subst (λ (s : Standing). AreLastCells game me [] s.cells) (sym r) (last_cells_start game me [] (λ q other. ap (λ (k : Shown). k.moves) (known_without_got game me q [] other refl)));
+  rule_is = made;
+  cells_are = subst (λ (cs : List Cell). AreLastCells game me [] cs) (sym at) (last_cells_start game me [] (λ q other. ap (λ (k : Shown). k.moves) (known_without_got game me q [] other refl)));
 }
 
 -- an entry that brought nothing changes nothing of the tables
@@ -90,8 +93,8 @@ others_same game me h e o none same clean a = record {
   each = λ q d lt other. window q (get_or o.windows q d) (a.each q d lt other);
   count_views = a.count_views;
   views_are = a.views_are;
-  game_is = a.game_is;
-  cells_are = last_cells_same game me h (h ++ e ∷ []) o.rule.cells a.cells_are (λ q other. ap (λ (k : Shown). (track_after game q k.moves).at) (same q other));
+  rule_is = a.rule_is;
+  cells_are = last_cells_same game me h (h ++ e ∷ []) (cells_in o.rule) a.cells_are (λ q other. ap (λ (k : Shown). (track_after game q k.moves).at) (same q other));
 }
   where
     window : (q : ℕ) (w : Seen) → IsWindowOf game me h q w → IsWindowOf game me (h ++ e ∷ []) q w
@@ -145,20 +148,20 @@ closed_after game me q h f O.Far closed e c clean = c
 closed_after game me q h f (O.Conflict x) closed e c clean = absurd (false≢true (sym (caught_dirty game me h q f _ (sym e)) ∙ clean))
 
 -- the tables after a frame of a player was offered
-pub others_offered : (game : Game) (me p : ℕ) (h : List Entry) (f : TurnFrame) (o : Known) (d w : Seen) (a : Offer) (v : View) (cell : Cell) (rule : Standing) → p < players_of game → (p ≡ me → ⊥) → is_clean game h ≡ true →
-    is_of_another game me p f ≡ true → length o.rule.cells ≡ players_of game → AreOthers game me h o → a ≡ answer game (get_or o.windows p d) (record { entry = length h; frame = f }) →
+pub others_offered : (game : Game) (me p : ℕ) (h : List Entry) (f : TurnFrame) (o : Known) (d w : Seen) (a : Offer) (v : View) (cell : Cell) (rule : Meeting) → p < players_of game → (p ≡ me → ⊥) → is_clean game h ≡ true →
+    is_of_another game me p f ≡ true → length (cells_in o.rule) ≡ players_of game → AreOthers game me h o → a ≡ answer game (get_or o.windows p d) (record { entry = length h; frame = f }) →
     w.frames ≡ frames_after (get_or o.windows p d) (record { entry = length h; frame = f }) a → IsWindow game w → w.player ≡ (get_or o.windows p d).player → w.closed ≡ is_conflict a → v ≡ view_of w → cell ≡ w.track.at →
-    rule ≡ record o.rule { cells = set o.rule.cells p cell } → (answer_of_offer a ≡ got_answer game me h p f) × AreOthers game me (with_got game me h p f) (record { windows = set o.windows p w; views = set o.views p v; rule = rule })
-others_offered game me p h f o d w a v cell rule lt other clean another seen all is frames window player closed view at told = (
+    IsMeeting game rule → cells_in rule ≡ set (cells_in o.rule) p cell → (answer_of_offer a ≡ got_answer game me h p f) × AreOthers game me (with_got game me h p f) (record { windows = set o.windows p w; views = set o.views p v; rule = rule })
+others_offered game me p h f o d w a v cell rule lt other clean another seen all is frames window player closed view at made told = (
   answered,
   record {
     count = length-set o.windows p w ∙ all.count;
     each = λ q e l apart. window_by q e l apart (q == p) refl;
     count_views = length-set o.views p v ∙ all.count_views;
     views_are = λ q e x l apart. view_by q e x l apart (q == p) refl;
-    game_is = ap (λ (s : Standing). s.game) told ∙ all.game_is;
-    cells_are = subst (λ (s : Standing). AreLastCells game me log s.cells) (sym told)
-        (last_cells_set game me h log o.rule.cells p cell all.cells_are seen lt (at ∙ ap (λ t. t.at) (window_track game me p log w here)) (λ q differs apart. ap (λ (k : Shown). (track_after game q k.moves).at) (known_other q differs)));
+    rule_is = made;
+    cells_are = subst (λ (cs : List Cell). AreLastCells game me log cs) (sym told)
+        (last_cells_set game me h log (cells_in o.rule) p cell all.cells_are seen lt (at ∙ ap (λ t. t.at) (window_track game me p log w here)) (λ q differs apart. ap (λ (k : Shown). (track_after game q k.moves).at) (known_other q differs)));
   },
 )
   where
@@ -236,10 +239,21 @@ others_offered game me p h f o d w a v cell rule lt other clean another seen all
         let differs : q ≡ p → ⊥ = eqb-false q p t in
         get_or-set_other o.views p q v x differs ∙ all.views_are q e x l apart ∙ ap view_of (sym (get_or-set_other o.windows p q w e differs))
 
--- where the player of a window that is offered a frame stands is open
-pub cell_open : (game : Game) (me q : ℕ) (h : List Entry) (w : Seen) → IsSession game → q < players_of game → IsWindowOf game me h q w → is_open game.grid w.track.at ≡ true
-cell_open game me q h w is lt o =
-    subst (λ t. is_open game.grid t.at ≡ true) (sym (window_track game me q h w o)) (known_open game me q h (seat_open game q is lt))
+-- where a window's player stands is open
+window_open : (game : Game) (w : Seen) → IsSession game → IsWindow game w → is_open game.grid w.track.at ≡ true
+window_open game w is i =
+    ap (λ (t : Track). is_open game.grid t.at) (i.track ∙ ap (λ (k : Shown). track_after game w.player k.moves) i.known) ∙ known_to_open game w.player (2 * game.turns) (frames_in w.frames) (seat_open game w.player is i.player)
+
+-- the rule was asked, by which no player was seen elsewhere
+pub others_asked : (game : Game) (me : ℕ) (h : List Entry) (o : Known) (rule : Meeting) → AreOthers game me h o → IsMeeting game rule → cells_in rule ≡ cells_in o.rule → AreOthers game me h (record { windows = o.windows; views = o.views; rule = rule })
+others_asked game me h o rule a made stay = record {
+  count = a.count;
+  each = a.each;
+  count_views = a.count_views;
+  views_are = a.views_are;
+  rule_is = made;
+  cells_are = subst (λ (cs : List Cell). AreLastCells game me h cs) (sym stay) a.cells_are;
+}
 
 -- the views are those of the log
 pub others_views : (game : Game) (me : ℕ) (h : List Entry) (o : Known) → AreOthers game me h o → AreViews game me h o.views
@@ -290,15 +304,15 @@ others_player game me q i h o d w n m t all lt other e at turns track next =
     ap with_turns turns ∙ ap with_track track ∙ ap with_next next ∙ window_view game me q h w of
 
 -- an offer to the window at a place of the table
-pub others_offered_at : (game : Game) (me p i : ℕ) (h : List Entry) (f : TurnFrame) (o : Known) (d w : Seen) (a : Offer) (v : View) (cell : Cell) (rule : Standing) → i ≡ p → p < players_of game → (p ≡ me → ⊥) →
-    is_clean game h ≡ true → is_of_another game me p f ≡ true → length o.rule.cells ≡ players_of game → AreOthers game me h o → a ≡ answer game (get_or o.windows i d) (record { entry = length h; frame = f }) →
+pub others_offered_at : (game : Game) (me p i : ℕ) (h : List Entry) (f : TurnFrame) (o : Known) (d w : Seen) (a : Offer) (v : View) (cell : Cell) (rule : Meeting) → i ≡ p → p < players_of game → (p ≡ me → ⊥) →
+    is_clean game h ≡ true → is_of_another game me p f ≡ true → length (cells_in o.rule) ≡ players_of game → AreOthers game me h o → a ≡ answer game (get_or o.windows i d) (record { entry = length h; frame = f }) →
     w.frames ≡ frames_after (get_or o.windows i d) (record { entry = length h; frame = f }) a → IsWindow game w → w.player ≡ (get_or o.windows i d).player → w.closed ≡ is_conflict a → v ≡ view_of w → cell ≡ w.track.at →
-    rule ≡ record o.rule { cells = set o.rule.cells p cell } → (answer_of_offer a ≡ got_answer game me h p f) × AreOthers game me (with_got game me h p f) (record { windows = set o.windows i w; views = set o.views i v; rule = rule })
-others_offered_at game me p i h f o d w a v cell rule e lt other clean another seen all is frames window player closed view at told =
+    IsMeeting game rule → cells_in rule ≡ set (cells_in o.rule) p cell → (answer_of_offer a ≡ got_answer game me h p f) × AreOthers game me (with_got game me h p f) (record { windows = set o.windows i w; views = set o.views i v; rule = rule })
+others_offered_at game me p i h f o d w a v cell rule e lt other clean another seen all is frames window player closed view at made told =
     let old : ℕ → Seen = λ k. get_or o.windows k d in
     let r : Received = record { entry = length h; frame = f } in
     let got = others_offered game me p h f o d w a v cell rule lt other clean another seen all (is ∙ ap (λ k. answer game (old k) r) e) (frames ∙ ap (λ k. frames_after (old k) r a) e) window
-    (player ∙ ap (λ k. (old k).player) e) closed view at told in
+    (player ∙ ap (λ k. (old k).player) e) closed view at made told in
     let Are : ℕ → Type 0 = λ k. AreOthers game me (with_got game me h p f) (record { windows = set o.windows k w; views = set o.views k v; rule = rule }) in
     (got.0, subst Are (sym e) got.1)
 
@@ -311,25 +325,15 @@ pub window_set : (i : ℕ) (ws : List Seen) (w d : Seen) → i < length ws → g
 window_set i ws w d lt = get_or-set_same ws i w d lt
 
 -- an offer to the window that was found at a place of the table
-pub offered_there : (game : Game) (me p i : ℕ) (h : List Entry) (f : TurnFrame) (o : Known) (old w : Seen) (a : Offer) (v : View) (cell : Cell) (rule : Standing) → i ≡ p → is_clean game h ≡ true → is_of_another game me p f ≡ true →
-    length o.rule.cells ≡ players_of game → AreOthers game me h o → old ≡ get_or o.windows i old → a ≡ answer game old (record { entry = length h; frame = f }) → w.frames ≡ frames_after old (record { entry = length h; frame = f }) a →
-    IsWindow game w → w.player ≡ old.player → w.closed ≡ is_conflict a → v ≡ view_of w → cell ≡ w.track.at → rule ≡ record o.rule { cells = set o.rule.cells p cell } →
+pub offered_there : (game : Game) (me p i : ℕ) (h : List Entry) (f : TurnFrame) (o : Known) (old w : Seen) (a : Offer) (v : View) (cell : Cell) (rule : Meeting) → i ≡ p → is_clean game h ≡ true → is_of_another game me p f ≡ true →
+    length (cells_in o.rule) ≡ players_of game → AreOthers game me h o → old ≡ get_or o.windows i old → a ≡ answer game old (record { entry = length h; frame = f }) → w.frames ≡ frames_after old (record { entry = length h; frame = f }) a →
+    IsWindow game w → w.player ≡ old.player → w.closed ≡ is_conflict a → v ≡ view_of w → cell ≡ w.track.at → IsMeeting game rule → cells_in rule ≡ set (cells_in o.rule) p cell →
     (answer_of_offer a ≡ got_answer game me h p f) × AreOthers game me (with_got game me h p f) (record { windows = set o.windows i w; views = set o.views i v; rule = rule })
-offered_there game me p i h f o old w a v cell rule e clean another seen all there is frames window player closed view at told =
+offered_there game me p i h f o old w a v cell rule e clean another seen all there is frames window player closed view at made told =
     let from = other_player game me p f another in
     let r : Received = record { entry = length h; frame = f } in
     others_offered_at game me p i h f o old w a v cell rule e from.0 from.1 clean another seen all (is ∙ ap (λ (x : Seen). answer game x r) there) (frames ∙ ap (λ (x : Seen). frames_after x r a) there) window
-    (player ∙ ap (λ (x : Seen). x.player) there) closed view at told
-
--- where the player stands after the offer is open
-pub offered_open : (game : Game) (me p i : ℕ) (h : List Entry) (f : TurnFrame) (o : Known) (old w x : Seen) (a : Offer) (t : Track) → IsSession game → i ≡ p → is_clean game h ≡ true → is_of_another game me p f ≡ true →
-    length o.rule.cells ≡ players_of game → AreOthers game me h o → old ≡ get_or o.windows i old → a ≡ answer game old (record { entry = length h; frame = f }) → w.frames ≡ frames_after old (record { entry = length h; frame = f }) a →
-    IsWindow game w → w.player ≡ old.player → w.closed ≡ is_conflict a → x ≡ get_or (set o.windows i w) i x → t ≡ x.track → is_open game.grid t.at ≡ true
-offered_open game me p i h f o old w x a t is e clean another seen all there answered frames window player closed read track =
-    let from = other_player game me p f another in
-    let got = offered_there game me p i h f o old w a (view_of w) w.track.at (record o.rule { cells = set o.rule.cells p w.track.at }) e clean another seen all there answered frames window player closed refl refl refl in
-    let shows = window_at game me p i (with_got game me h p f) (record { windows = set o.windows i w; views = set o.views i (view_of w); rule = record o.rule { cells = set o.rule.cells p w.track.at } }) x e from.0 from.1 got.1 in
-    subst (λ (k : Track). is_open game.grid k.at ≡ true) (sym (track ∙ ap (λ (k : Seen). k.track) read)) (cell_open game me p (with_got game me h p f) (get_or (set o.windows i w) i x) is from.0 shows)
+    (player ∙ ap (λ (x : Seen). x.player) there) closed view at made told
 
 -- what is read at the place of the window after the offer is that window
 pub offered_read : (game : Game) (me p i : ℕ) (h : List Entry) (f : TurnFrame) (o : Known) (w x : Seen) → i ≡ p → is_of_another game me p f ≡ true → AreOthers game me h o → x ≡ get_or (set o.windows i w) i x → x ≡ w
@@ -338,3 +342,10 @@ offered_read game me p i h f o w x e another all read =
     let lt = from.0 in
     let count = all.count in
     read ∙ window_set i o.windows w x (omega arith)
+
+-- where the player stands after the offer is open
+pub offered_open : (game : Game) (me p i : ℕ) (h : List Entry) (f : TurnFrame) (o : Known) (w x : Seen) (t : Track) → IsSession game → i ≡ p → is_of_another game me p f ≡ true → AreOthers game me h o → IsWindow game w →
+    x ≡ get_or (set o.windows i w) i x → t ≡ x.track → is_open game.grid t.at ≡ true
+offered_open game me p i h f o w x t is e another all window read track =
+    let same : x ≡ w = offered_read game me p i h f o w x e another all read in
+    subst (λ (k : Track). is_open game.grid k.at ≡ true) (sym (track ∙ ap (λ (k : Seen). k.track) same)) (window_open game w is window)

@@ -35,7 +35,7 @@ pub(crate) fn follow(
     requires others { AreOthers session.now me entries.now others.old }
     requires counting { IsCounting session.now me entries.now settling.old }
     ensures needs { needs.new ≡ N.needs session.now me entries.now }
-    ensures others { others.new ≡ others.old }
+    ensures others { AreOthers session.now me entries.now others.new }
     ensures counted { IsCounted session.now me entries.now settling.new }
 {
     others.find_needs(session, me, entries, made, tracks, needs);

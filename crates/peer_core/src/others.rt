@@ -136,12 +136,11 @@ impl Others {
         ensures cleared { AreCleared session.now _me (player + 1) self.new }
     {
         session.facts();
-        self.rule.facts();
         let at = usize::from(player);
         self.windows[at].clear(session);
         self.views[at] = BLANK;
         self.bare[at] = BLANK;
-        self.rule.resolved(player, session.start(player));
+        self.rule.resolved(session, player, session.start(player));
     }
 
     /// Forgets all that came, in the room that it had: the tables are as `new` gives them.
@@ -174,14 +173,13 @@ impl Others {
         ensures others { AreOthers session.now _me (V.with_got session.now _me entries.now from frame.now) self.new }
     {
         session.facts();
-        self.rule.facts();
         let at = usize::from(from);
         let offer = self.windows[at].offer(session, walker, frame, entries.len() as u32);
         let view = view_of(&self.windows[at]);
         let cell = self.windows[at].track().at;
         self.views[at] = view;
         self.bare[at] = unheld(view);
-        self.rule.resolved(from, cell);
+        self.rule.resolved(session, from, cell);
         answer_of(&offer)
     }
 
@@ -201,7 +199,7 @@ impl Others {
         requires tracks { AreOwnTracks session.now me entries.now tracks.now }
         requires others { AreOthers session.now me entries.now self.old }
         ensures needs { out.new ≡ N.needs session.now me entries.now }
-        ensures others { self.new ≡ self.old }
+        ensures others { AreOthers session.now me entries.now self.new }
     {
         let stage = next_stage(session, me, entries, made, tracks);
         self.rule
@@ -224,7 +222,7 @@ impl Others {
         requires at { at ≡ cell_before session.now me _entries.now me turn }
         requires open { IsTrue (is_open session.now.grid at) }
         ensures lets { result ≡ list_all (O.lets_commit session.now me _entries.now turn) (O.others session.now me) }
-        ensures others { self.new ≡ self.old }
+        ensures others { AreOthers session.now me _entries.now self.new }
     {
         // as if its commitment weren't held, each player that isn't resolved in the turn and meets the owner keeps it waiting
         let stage = Stage::Reveal { turn, at };

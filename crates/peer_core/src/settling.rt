@@ -136,7 +136,7 @@ fn is_settled(
     requires at { at ≡ cell_before session.now me entries.now me turn }
     requires open { IsTrue (is_open session.now.grid at) }
     ensures settled { result ≡ D.is_settled session.now me entries.now turn }
-    ensures others { others.new ≡ others.old }
+    ensures others { AreOthers session.now me entries.now others.new }
 {
     session.facts();
     if waits_for(session, made, turn) {
@@ -167,7 +167,7 @@ pub(crate) fn settle(
     requires no_needs { no_needs ≡ is_empty (N.needs session.now me entries.now) }
     requires counting { IsCounting session.now me entries.now settling.old }
     ensures counted { IsCounted session.now me entries.now settling.new }
-    ensures others { others.new ≡ others.old }
+    ensures others { AreOthers session.now me entries.now others.new }
 {
     session.facts();
     let revealed = session.reveals_below(made);

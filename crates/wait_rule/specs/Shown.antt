@@ -17,12 +17,6 @@ use Rattle.wait_rule.specs.declared.views.Stage.{Stage}
 use Rattle.wait_rule.specs.declared.views.Stage.TheVariants.{Commit, Reveal, After}
 use Rattle.wait_rule.specs.Waiting.{no_view}
 
--- a session, and the cell at which each of its players was last seen
-pub record Standing : Type 0 where
-  pub game : Game
-  -- in order of player
-  pub cells : List Cell
-
 -- this is what the owner's log shows of player q
 pub record IsView (game : Game) (me : ℕ) (h : List Entry) (q : ℕ) (v : View) : Type 0 where
   pub resolved_is : v.resolved ≡ resolved_count game me h q

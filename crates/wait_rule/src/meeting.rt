@@ -85,8 +85,10 @@ fn meets(meeting: &mut Meeting, session: &Session, q: PlayerId, missed: u32) -> 
         (D.sphere_of session.now q (reach_of session.now q missed (cell_of meeting.old.dilation.cells q ∷ []))) }
 {
     session.facts();
-    meeting.dilation.grow_to(q, missed + 1);
-    meeting.theirs.copy_from(meeting.dilation.reached(q));
+    meeting.dilation.grow_to(session, q, missed + 1);
+    meeting
+        .theirs
+        .copy_from(meeting.dilation.reached(session, q));
     grow_strike(&mut meeting.theirs, session, q);
     meeting.own.meets(&meeting.theirs)
 }

@@ -4,11 +4,11 @@ ghost use Rattle.std.specs.Prelude.{◌≡◌, ◌≢◌, ◌<◌, ◌≤◌, �
 ghost use Rattle.definitions.specs.declared.logs.Entry.{Entry};
 ghost use Rattle.definitions.specs.World.{players_of, is_open};
 ghost use Rattle.definitions.specs.Needs as N;
-ghost use Rattle.dilation.specs.Dilated.{AreSeen, starts_of, cell_of};
+ghost use Rattle.dilation.specs.Dilated.{starts_of, cell_of};
 ghost use Rattle.wait_rule.specs.Waiting as W;
 ghost use Rattle.wait_rule.specs.Waiting.{IsStage};
 ghost use Rattle.wait_rule.specs.Shown.{AreViews, AreLastCells, IsStageOf};
-ghost use Rattle.wait_rule.specs.Spheres.{IsMeeting, IsSight, Stays};
+ghost use Rattle.wait_rule.specs.Spheres.{IsMeeting, IsSight, Stays, cells_in};
 
 use crate::meeting::{Meeting, hinders, look_from};
 use crate::needs::NeedList;
@@ -28,14 +28,11 @@ pub struct WaitRule {
 }
 
 impl Model for WaitRule {
-    ghost use Rattle.wait_rule.specs.Shown.{Standing};
-    ghost use Rattle.wait_rule.specs.Spheres.{IsMeeting};
+    ghost use Rattle.wait_rule.specs.declared.meeting.Meeting.{Meeting};
 
-    ghost Value = { Standing };
+    ghost Value = { Meeting };
 
-    ghost view = { λ r. record { game = r.meeting.dilation.game; cells = r.meeting.dilation.cells } };
-
-    ghost invariant = { λ r. IsMeeting r.meeting.dilation.game r.meeting };
+    ghost view = { λ r. r.meeting };
 }
 
 /// Whether the next own frame waits for anyone at all: the commitments to the first turns don't.
@@ -120,9 +117,11 @@ fn add_needs(
 }
 
 impl WaitRule {
-    /// The rule for this session, each of whose players stands at its start.
+    /// The rule for this session, each of whose players stands at its start. The session is not kept: each call is handed the one
+    /// for which the rule was made.
     pub fn new(alloc: Global, session: &Session) -> Result<WaitRule, AllocError>
-        ensures { IfOk result (λ r. r ≡ record { game = session.now; cells = starts_of session.now }) }
+        ensures rule { IfOk result (IsMeeting session.now) }
+        ensures cells { IfOk result (λ r. cells_in r ≡ starts_of session.now) }
     {
         let dilation = Dilation::new(alloc, session)?;
         let grid = session.grid();
@@ -138,22 +137,17 @@ impl WaitRule {
         })
     }
 
-    /// Each player of the session stands on an open cell: nothing but that fact.
-    pub fn facts(&self)
-        ensures { AreSeen self.now.game self.now.cells }
-    {
-        self.meeting.dilation.facts();
-    }
-
     /// A turn of the player is resolved, which led it to this cell.
-    pub fn resolved(&mut self, player: PlayerId, cell: Cell)
-        requires player { player < players_of self.old.game }
-        requires open { IsTrue (is_open self.old.game.grid cell) }
-        ensures { self.new ≡ record self.old { cells = slice_set self.old.cells player cell } }
+    pub fn resolved(&mut self, session: &Session, player: PlayerId, cell: Cell)
+        requires rule { IsMeeting session.now self.old }
+        requires player { player < players_of session.now }
+        requires open { IsTrue (is_open session.now.grid cell) }
+        ensures rule { IsMeeting session.now self.new }
+        ensures cells { cells_in self.new ≡ slice_set (cells_in self.old) player cell }
     {
         // what can be reached from the cell where it stood already is still right
         if self.meeting.dilation.cell(player) != cell {
-            self.meeting.dilation.resolved(player, cell);
+            self.meeting.dilation.resolved(session, player, cell);
         }
     }
 
@@ -168,13 +162,14 @@ impl WaitRule {
         views: &[View],
         out: &mut NeedList,
     )
-        requires session { session.now ≡ self.old.game }
+        requires rule { IsMeeting session.now self.old }
         requires player { me < players_of session.now }
         requires stage { IsStage session.now stage }
         requires views { length views.now ≡ players_of session.now }
-        ensures stays { self.new ≡ self.old }
-        ensures computed { out.new ≡ W.needs_of session.now me stage views.now self.old.cells }
-        ensures needs { (h : List Entry) → AreViews session.now me h views.now → AreLastCells session.now me h self.old.cells
+        ensures rule { IsMeeting session.now self.new }
+        ensures cells { cells_in self.new ≡ cells_in self.old }
+        ensures computed { out.new ≡ W.needs_of session.now me stage views.now (cells_in self.old) }
+        ensures needs { (h : List Entry) → AreViews session.now me h views.now → AreLastCells session.now me h (cells_in self.old)
             → IsStageOf session.now me h stage → out.new ≡ N.needs session.now me h }
     {
         out.clear();

@@ -1,5 +1,5 @@
 use Rattle.dilation.proofs.Reached.{dilated_starts}
 use Rattle.dilation.proofs.standing.Dilation.new.Goals as goal
 
-pub invariant_of-result : goal.invariant_of-result
-invariant_of-result c = dilated_starts c.args.session.now _ _ _ c.facts.ensures c.in_ok-copy.ensures c.in_ok-cells.ensures c.in_ok-kept.ensures
+pub returns-clause-dilated : goal.returns-clause-dilated
+returns-clause-dilated c = dilated_starts c.args.session.now _ _ c.facts.ensures c.in_ok-cells.ensures c.in_ok-kept.ensures

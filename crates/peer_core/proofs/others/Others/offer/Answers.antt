@@ -1,6 +1,7 @@
-use Rattle.std.proofs.Common.{◌≡◌, ◌∙◌, ◌<◌, ap, length, refl, subst, sym, true}
+use Rattle.std.proofs.Common.{◌≡◌, ◌∙◌, ◌<◌, ap, length, refl, subst, sym}
 use Rattle.definitions.specs.Lists.{EachIs}
-use Rattle.definitions.specs.World.{Game, players_of, is_open}
+use Rattle.definitions.specs.World.{players_of}
+use Rattle.wait_rule.specs.Spheres.{cells_in}
 use Rattle.definitions.specs.declared.world.Track.{Track}
 use Rattle.peer_window.specs.Windows.{Seen}
 use Rattle.peer_core.specs.Others.{Known, AreOthers, view_of}
@@ -21,31 +22,36 @@ offer-offer-requires-clause-later c =
     let Below : Seen → Type 0 = λ w. EachIs (λ r. r.entry < length c.args.entries.now) w.frames in
     subst Below (sym c.index_mut.ensures.value) (offered_below c.args.session.now c.args._me c.args.from c.args.entries.now _ at)
 
+pub resolved-requires-clause-rule : goal.resolved-requires-clause-rule
+resolved-requires-clause-rule c =
+    let IsKnown : Known → Type 0 = λ o. AreOthers c.args.session.now c.args._me c.args.entries.now o in
+    let all = subst IsKnown (sym c.self.view_is) c.requires.others in all.rule_is
+
 pub resolved-requires-clause-open : goal.resolved-requires-clause-open
 resolved-requires-clause-open c =
     let IsKnown : Known → Type 0 = λ o. AreOthers c.args.session.now c.args._me c.args.entries.now o in
     let all = subst IsKnown (sym c.self.view_is) c.requires.others in
-    let seen : length c.self.inside.rule.cells ≡ players_of c.args.session.now = c.facts-2.ensures.one_each ∙ ap (λ (g : Game). players_of g) all.game_is in
-    let IsOpen : Game → Type 0 = λ g. is_open g.grid c.track.result.at ≡ true in
-    subst IsOpen (sym all.game_is) (offered_open c.args.session.now c.args._me c.args.from c.from-at.result c.args.entries.now c.args.frame.now _ c.index_mut.result.now c.offer-offer.new.self c.index-2.result.now c.offer-offer.result c.track.result
-    c.facts.ensures c.from-at.ensures c.requires.clean c.requires.from seen all c.index_mut.ensures.value c.offer-offer.ensures.answer c.offer-offer.ensures.frames c.offer-offer.ensures.window c.offer-offer.ensures.player
-    c.offer-offer.ensures.closed c.index-2.ensures c.track.ensures)
+    offered_open c.args.session.now c.args._me c.args.from c.from-at.result c.args.entries.now c.args.frame.now _ c.offer-offer.new.self c.index-2.result.now c.track.result c.facts.ensures c.from-at.ensures c.requires.from all
+    c.offer-offer.ensures.window c.index-2.ensures c.track.ensures
 
 pub returns-clause-answer : goal.returns-clause-answer
 returns-clause-answer c =
     let IsKnown : Known → Type 0 = λ o. AreOthers c.args.session.now c.args._me c.args.entries.now o in
     let all = subst IsKnown (sym c.self.view_is) c.requires.others in
-    let seen : length c.self.inside.rule.cells ≡ players_of c.args.session.now = c.facts-2.ensures.one_each ∙ ap (λ (g : Game). players_of g) all.game_is in
+    let seen : length (cells_in c.self.inside.rule) ≡ players_of c.args.session.now = all.rule_is.dilated.seen.one_each in
+    let second : c.index-2.result.now ≡ c.offer-offer.new.self
+    = offered_read c.args.session.now c.args._me c.args.from c.from-at.result c.args.entries.now c.args.frame.now _ c.offer-offer.new.self c.index-2.result.now c.from-at.ensures c.requires.from all c.index-2.ensures in
+    let track : c.track.result ≡ c.offer-offer.new.self.track = c.track.ensures ∙ ap (λ (x : Seen). x.track) second in
     let got = offered_there c.args.session.now c.args._me c.args.from c.from-at.result c.args.entries.now c.args.frame.now _ c.index_mut.result.now c.offer-offer.new.self c.offer-offer.result
-    (view_of c.offer-offer.new.self) _ _ c.from-at.ensures c.requires.clean c.requires.from seen all c.index_mut.ensures.value c.offer-offer.ensures.answer c.offer-offer.ensures.frames c.offer-offer.ensures.window
-    c.offer-offer.ensures.player c.offer-offer.ensures.closed refl refl refl in
+    (view_of c.offer-offer.new.self) c.track.result.at c.resolved.new.self c.from-at.ensures c.requires.clean c.requires.from seen all c.index_mut.ensures.value c.offer-offer.ensures.answer c.offer-offer.ensures.frames c.offer-offer.ensures.window
+    c.offer-offer.ensures.player c.offer-offer.ensures.closed refl (ap (λ (t : Track). t.at) track) c.resolved.ensures.rule c.resolved.ensures.cells in
     c.answer_of.ensures ∙ got.0
 
 pub returns-clause-others : goal.returns-clause-others
 returns-clause-others c =
     let IsKnown : Known → Type 0 = λ o. AreOthers c.args.session.now c.args._me c.args.entries.now o in
     let all = subst IsKnown (sym c.self.view_is) c.requires.others in
-    let seen : length c.self.inside.rule.cells ≡ players_of c.args.session.now = c.facts-2.ensures.one_each ∙ ap (λ (g : Game). players_of g) all.game_is in
+    let seen : length (cells_in c.self.inside.rule) ≡ players_of c.args.session.now = all.rule_is.dilated.seen.one_each in
     let first : c.index.result.now ≡ c.offer-offer.new.self
     = offered_read c.args.session.now c.args._me c.args.from c.from-at.result c.args.entries.now c.args.frame.now _ c.offer-offer.new.self c.index.result.now c.from-at.ensures c.requires.from all c.index.ensures in
     let second : c.index-2.result.now ≡ c.offer-offer.new.self
@@ -54,4 +60,4 @@ returns-clause-others c =
     let track : c.track.result ≡ c.offer-offer.new.self.track = c.track.ensures ∙ ap (λ (x : Seen). x.track) second in
     (offered_there c.args.session.now c.args._me c.args.from c.from-at.result c.args.entries.now c.args.frame.now _ c.index_mut.result.now c.offer-offer.new.self c.offer-offer.result
     c.view_of-view.result c.track.result.at c.resolved.new.self c.from-at.ensures c.requires.clean c.requires.from seen all c.index_mut.ensures.value c.offer-offer.ensures.answer c.offer-offer.ensures.frames
-    c.offer-offer.ensures.window c.offer-offer.ensures.player c.offer-offer.ensures.closed view (ap (λ (t : Track). t.at) track) c.resolved.ensures).1
+    c.offer-offer.ensures.window c.offer-offer.ensures.player c.offer-offer.ensures.closed view (ap (λ (t : Track). t.at) track) c.resolved.ensures.rule c.resolved.ensures.cells).1

@@ -6,14 +6,13 @@ use Rattle.definitions.specs.declared.logs.Entry.TheVariants.{Chose}
 use Rattle.definitions.specs.Honest.{IsHonest, made_count}
 use Rattle.definitions.specs.Logs.{chosen}
 use Rattle.definitions.specs.Needs.{needs}
-use Rattle.peer_core.specs.Inside.{IsPeer}
-use Rattle.peer_core.specs.Others.{Known, AreOthers}
+use Rattle.peer_core.specs.Others.{AreOthers}
 use Rattle.peer_core.proofs.Tables.{others_chose}
 use Rattle.peer_core.specs.OwnTracks.{AreOwnTracks}
 use Rattle.grid_world.proofs.Reveals.{ahead_least}
 use Rattle.peer_core.specs.Settling.{IsCounted, IsCounting}
 use Rattle.peer_core.proofs.Counted.{counting_on}
-use Rattle.peer_core.proofs.Peers.{chosen_chose, entry_room, may_inside, legal_inside, track_inside, choice_honest, choice_room, frames_chose, tracks_chose, peer_chose}
+use Rattle.peer_core.proofs.Peers.{chosen_chose, entry_room, may_inside, legal_inside, track_inside, choice_honest, choice_room, frames_chose, tracks_chose, peer_chose, peer_kept}
 use Rattle.peer_core.proofs.peer.Peer.add_choice.Goals as goal
 
 pub add-requires : goal.add-requires
@@ -103,12 +102,13 @@ invariant_of-self c =
     let turn : c.len-turn.result ≡ length (chosen c.self.inside.me c.self.inside.entries.items) = count ∙ ap (λ (os : List Opening). length os) inv.openings_are in
     let honest = choice_honest c.self.inside.session c.self.inside.me c.self.inside.entries.items c.len-turn.result c.args.mv c.args.nonce c.facts.ensures inv.honest
     (may_inside _ _ c.self.view_is c.requires.chooses) (legal_inside _ _ _ c.self.view_is c.requires.legal) turn in
-    let IsKnown : Known → Type 0 = λ o. IsPeer c.self.inside.session c.self.inside.me c.add.new.list.items c.add-2.new.list.items c.self.inside.frames.items c.add-3.new.list.items
-    o c.self.inside.found c.follow.new.needs in
+    let AreAt : List Entry → Type 0 = λ h. AreOthers c.self.inside.session c.self.inside.me h c.follow.new.others in
     let rooms = c.self.invariant.1 in (
-      subst IsKnown (sym c.follow.ensures.others) (peer_chose c.self.inside.session c.self.inside.me c.self.inside.entries.items _ _ _ _ _ _ _ _ _ _ c.len-turn.result c.args.mv c.args.nonce c.args.track c.facts.ensures inv honest
+      peer_kept c.self.inside.session c.self.inside.me c.add.new.list.items c.add-2.new.list.items c.self.inside.frames.items c.add-3.new.list.items c.self.inside.others c.follow.new.others c.self.inside.found c.follow.new.needs c.facts.ensures
+          (peer_chose c.self.inside.session c.self.inside.me c.self.inside.entries.items _ _ _ _ _ _ _ _ _ _ c.len-turn.result c.args.mv c.args.nonce c.args.track c.facts.ensures inv honest
           (track_inside _ _ _ _ c.self.view_is c.requires.track) c.add.ensures.items c.add-2.ensures.items c.add-3.ensures.items
-          (c.follow.ensures.needs ∙ ap (λ (h : List Entry). needs c.self.inside.session c.self.inside.me h) c.as_slice.ensures.value)),
+          (c.follow.ensures.needs ∙ ap (λ (h : List Entry). needs c.self.inside.session c.self.inside.me h) c.as_slice.ensures.value))
+          (subst AreAt c.as_slice.ensures.value c.follow.ensures.others),
       record {
         entries_fit = omega (arith, rooms.entries_fit, c.add.ensures.capacity);
         openings_fit = omega (arith, rooms.openings_fit, c.add-2.ensures.capacity);

@@ -8,7 +8,7 @@ use Rattle.definitions.specs.Needs.{needs}
 use Rattle.definition_laws.specs.First.{finding_of_log}
 use Rattle.definition_laws.proofs.Replied.{log_stays_honest}
 use Rattle.peer_core.specs.OwnTracks.{AreOwnTracks}
-use Rattle.peer_core.specs.Others.{Known, AreOthers}
+use Rattle.peer_core.specs.Others.{AreOthers}
 use Rattle.peer_core.proofs.Answering.{logged_none, caught_first}
 use Rattle.definitions.specs.Logs.{chosen}
 use Rattle.grid_world.proofs.Reveals.{ahead_least}
@@ -80,14 +80,12 @@ invariant_of-self c =
     let logged = sym c.is_logged.ensures ∙ c.if-is_logged.true in
     let answer = answer_by c.self.inside.session c.self.inside.me c.args.from c.self.inside.entries.items c.as_slice.result.now c.args.frame.now c.offer-answer.result c.as_slice.ensures.value c.offer-answer.ensures.answer in
     let none = logged_none c.self.inside.session c.self.inside.me c.self.inside.entries.items c.args.from c.args.frame.now c.offer-answer.result answer logged in
-    let all = others_logged c.self.inside.session c.self.inside.me c.args.from c.self.inside.entries.items c.as_slice.result.now c.add.new.list.items c.args.frame.now c.offer-answer.result c.offer-answer.new.self
-    c.as_slice.ensures.value answer logged c.add.ensures.items c.offer-answer.ensures.others in
-    let Are : Known → Type 0 = λ o. AreOthers c.self.inside.session c.self.inside.me c.add.new.list.items o in
+    let AreAt : List Entry → Type 0 = λ h. AreOthers c.self.inside.session c.self.inside.me h c.follow.new.others in
     let first = c.caught_in-self-inside.ensures ∙ caught_first c.self.inside.session c.self.inside.me c.self.inside.entries.items c.args.from c.args.frame.now c.offer-answer.result answer logged ∙
     ap (λ (h : List Entry). finding_of_log c.self.inside.session h) (sym c.add.ensures.items) in (
       peer_got c.self.inside.session c.self.inside.me c.args.from c.self.inside.entries.items c.add.new.list.items c.args.frame.now c.self.inside.openings.items c.self.inside.frames.items c.self.inside.tracks.items
           c.self.inside.others c.follow.new.others c.self.inside.found c.caught_in-self-inside.result c.self.inside.needs c.follow.new.needs c.facts.ensures inv none
-          c.add.ensures.items (subst Are (sym c.follow.ensures.others) all) first
+          c.add.ensures.items (subst AreAt c.as_slice-then-is_logged.ensures.value c.follow.ensures.others) first
           (c.follow.ensures.needs ∙ ap (λ (h : List Entry). needs c.self.inside.session c.self.inside.me h) c.as_slice-then-is_logged.ensures.value),
       record {
         entries_fit = omega (arith, rooms.entries_fit, c.add.ensures.capacity);

@@ -7,7 +7,7 @@ use Rattle.definitions.specs.Honest.{IsHonest}
 use Rattle.definitions.specs.Logs.{chosen}
 use Rattle.definitions.specs.Needs.{needs}
 use Rattle.peer_core.specs.OwnTracks.{AreOwnTracks}
-use Rattle.peer_core.specs.Others.{Known, AreOthers}
+use Rattle.peer_core.specs.Others.{AreOthers}
 use Rattle.peer_core.specs.Settling.{IsCounted}
 use Rattle.peer_core.proofs.Counted.{chosen_few}
 use Rattle.peer_core.proofs.FirstEntries.{counting_none, first_chosen, first_count, first_honest, first_own_tracks, peer_first, unmade_inside, within_inside}
@@ -80,9 +80,8 @@ invariant_of-self c =
     let count = c.count_chosen-chosen.ensures ∙ ap (λ (h : List Entry). length (chosen c.self.inside.me h)) log in
     let len : c.len.result ≡ length c.self.inside.entries.items = search rules in
     let lt = within_inside c.args.self.now _ c.args.keep c.len.result c.self.view_is c.requires.few len c.if-keep-len.false in
-    let Are : Known → Type 0 = λ o. AreOthers c.self.inside.session c.self.inside.me c.as_slice-entries.result.now o in
     let AreAt : List Entry → Type 0 = λ h. AreOthers c.self.inside.session c.self.inside.me h c.follow.new.others in
-    let all = subst AreAt c.as_slice-entries.ensures.value (subst Are (sym c.follow.ensures.others) c.hear_all.ensures.others) in (
+    let all = subst AreAt c.as_slice-entries.ensures.value c.follow.ensures.others in (
       peer_first c.self.inside.session c.self.inside.me c.args.keep c.count_chosen-chosen.result c.self.inside.entries.items c.truncate.new.self.items c.self.inside.openings.items c.truncate-2.new.self.items
           c.self.inside.frames.items c.self.inside.tracks.items c.truncate-3.new.self.items c.self.inside.others c.follow.new.others c.self.inside.found c.self.inside.needs c.follow.new.needs blank c.facts.ensures inv lt
           (unmade_inside c.args.self.now _ c.args.keep c.self.view_is c.requires.unmade) c.truncate.ensures.items count c.truncate-2.ensures.items c.truncate-3.ensures.items all

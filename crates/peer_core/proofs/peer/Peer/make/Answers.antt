@@ -8,14 +8,13 @@ use Rattle.definitions.specs.Honest.{IsHonest, made_count}
 use Rattle.definitions.specs.Logs.{chosen, made}
 use Rattle.definitions.specs.Advance.{next_made}
 use Rattle.definitions.specs.Needs.{needs}
-use Rattle.peer_core.specs.Inside.{IsPeer}
-use Rattle.peer_core.specs.Others.{Known, AreOthers}
+use Rattle.peer_core.specs.Others.{AreOthers}
 use Rattle.peer_core.proofs.Tables.{others_made}
 use Rattle.peer_core.specs.OwnTracks.{AreOwnTracks}
 use Rattle.grid_world.proofs.Reveals.{ahead_least}
 use Rattle.peer_core.specs.Settling.{IsCounted, IsCounting}
 use Rattle.peer_core.proofs.Counted.{counting_on}
-use Rattle.peer_core.proofs.Peers.{chosen_made, entry_room, next_inside, next_room, next_honest, frames_made, tracks_made, peer_made}
+use Rattle.peer_core.proofs.Peers.{chosen_made, entry_room, next_inside, next_room, next_honest, frames_made, tracks_made, peer_made, peer_kept}
 use Rattle.peer_core.proofs.peer.Peer.make.Goals as goal
 
 pub add-requires : goal.add-requires
@@ -83,11 +82,12 @@ pub invariant_of-self : goal.invariant_of-self
 invariant_of-self c =
     let next : next_made c.self.inside.session c.self.inside.me c.self.inside.entries.items ≡ Some c.args.frame = next_inside _ _ _ c.self.view_is c.requires in
     let inv = c.self.invariant.0 in
-    let IsKnown : Known → Type 0 = λ o. IsPeer c.self.inside.session c.self.inside.me c.add.new.list.items c.self.inside.openings.items c.add-2.new.list.items c.self.inside.tracks.items
-    o c.self.inside.found c.follow.new.needs in
+    let AreAt : List Entry → Type 0 = λ h. AreOthers c.self.inside.session c.self.inside.me h c.follow.new.others in
     let rooms = c.self.invariant.1 in (
-      subst IsKnown (sym c.follow.ensures.others) (peer_made _ _ _ _ _ _ _ _ _ _ _ _ c.args.frame c.facts.ensures inv next c.add.ensures.items c.add-2.ensures.items
-          (c.follow.ensures.needs ∙ ap (λ (h : List Entry). needs c.self.inside.session c.self.inside.me h) c.as_slice.ensures.value)),
+      peer_kept c.self.inside.session c.self.inside.me c.add.new.list.items c.self.inside.openings.items c.add-2.new.list.items c.self.inside.tracks.items c.self.inside.others c.follow.new.others c.self.inside.found c.follow.new.needs c.facts.ensures
+          (peer_made _ _ _ _ _ _ _ _ _ _ _ _ c.args.frame c.facts.ensures inv next c.add.ensures.items c.add-2.ensures.items
+          (c.follow.ensures.needs ∙ ap (λ (h : List Entry). needs c.self.inside.session c.self.inside.me h) c.as_slice.ensures.value))
+          (subst AreAt c.as_slice.ensures.value c.follow.ensures.others),
       record {
         entries_fit = omega (arith, rooms.entries_fit, c.add.ensures.capacity);
         openings_fit = rooms.openings_fit;
