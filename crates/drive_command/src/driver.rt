@@ -20,34 +20,19 @@ use crate::readers::{READERS, Readers, last_reader};
 use crate::{DriveLine, read_line};
 use definitions::limits::{LONGEST_LINE, LONGEST_PIECE, MOST_LINES};
 use definitions::{GotAnswer, Move, Nonce, OwnFault, PlayerId, TurnFrame};
-use peer_core::{Peer, is_logged};
+use peer_core::Peer;
 use std::marker::Model;
 use wire_frames::{FedWhat, Frame};
 
 /// Lets the peer's player choose, and then makes what the peer may make by itself. A choice that is refused changes nothing.
-fn choose_and_advance(peer: &mut Peer, mv: Move, nonce: Nonce) -> Option<OwnFault>
+fn choose(peer: &mut Peer, mv: Move, nonce: Nonce) -> Option<OwnFault>
     ensures fault { result ≡ choice_fault peer.old.game peer.old.me peer.old.entries mv }
     ensures after { peer.new ≡ record peer.old { entries = after_choice peer.old.game peer.old.me peer.old.entries mv nonce } }
 {
-    match peer.choose(mv, nonce) {
+    match peer.choose_and_advance(mv, nonce) {
         Err(fault) => Some(fault),
-        Ok(()) => {
-            peer.advance();
-            None
-        }
+        Ok(()) => None,
     }
-}
-
-/// Hands a frame to the peer, and then makes what the peer may make by itself. A frame that is refused changes nothing.
-fn receive_and_advance(peer: &mut Peer, from: PlayerId, frame: &TurnFrame) -> GotAnswer
-    ensures answer { result ≡ got_answer peer.old.game peer.old.me peer.old.entries from frame.now }
-    ensures after { peer.new ≡ record peer.old { entries = after_got peer.old.game peer.old.me peer.old.entries from frame.now } }
-{
-    let answer = peer.got(from, frame);
-    if is_logged(&answer) {
-        peer.advance();
-    }
-    answer
 }
 
 /// A peer, readers of the bytes that come from the players, and the number of the script's lines so far, at most `MOST_LINES`.
@@ -131,7 +116,7 @@ impl Driver {
     {
         let turn = self.peer.choice().turn;
         let entries = self.peer.entries().len();
-        let fault = choose_and_advance(&mut self.peer, mv, nonce);
+        let fault = choose(&mut self.peer, mv, nonce);
         Answered::Choice {
             turn,
             fault,
@@ -148,7 +133,7 @@ impl Driver {
     {
         let place = self.peer.session().place_of(frame);
         let entries = self.peer.entries().len();
-        let answer = receive_and_advance(&mut self.peer, from, frame);
+        let answer = self.peer.got_and_advance(from, frame);
         Reply {
             place,
             answer,

@@ -18,6 +18,7 @@ mod room;
 mod sending;
 mod settling;
 mod stages;
+mod stepping;
 mod views;
 
 pub use answers::is_logged;

@@ -10,7 +10,7 @@ ghost use Rattle.schedule.specs.Seats as P;
 use crate::steps::StepAnswer;
 use definitions::{Move, Nonce, PlayerId, TurnFrame};
 use grid_world::Session;
-use peer_core::{Cut, Peer, is_logged};
+use peer_core::{Cut, Peer};
 use std::alloc::{AllocError, Global};
 
 /// Lets the peer's player choose, and then makes what the peer may make by itself. A choice that is refused changes nothing.
@@ -19,12 +19,9 @@ fn choose_now(peer: &mut Peer, mv: Move, nonce: Nonce) -> StepAnswer
     ensures after { peer.new ≡ record peer.old { entries = D.after_choice peer.old.game peer.old.me peer.old.entries mv nonce } }
 {
     let turn = peer.choice().turn;
-    match peer.choose(mv, nonce) {
+    match peer.choose_and_advance(mv, nonce) {
         Err(fault) => StepAnswer::Refused(fault),
-        Ok(()) => {
-            peer.advance();
-            StepAnswer::Chosen(turn)
-        }
+        Ok(()) => StepAnswer::Chosen(turn),
     }
 }
 
@@ -33,10 +30,7 @@ fn hear_now(peer: &mut Peer, from: PlayerId, frame: &TurnFrame) -> StepAnswer
     ensures answer { result ≡ StepAnswer.Got (got_answer peer.old.game peer.old.me peer.old.entries from frame.now) }
     ensures after { peer.new ≡ record peer.old { entries = D.after_got peer.old.game peer.old.me peer.old.entries from frame.now } }
 {
-    let answer = peer.got(from, frame);
-    if is_logged(&answer) {
-        peer.advance();
-    }
+    let answer = peer.got_and_advance(from, frame);
     StepAnswer::Got(answer)
 }
 
