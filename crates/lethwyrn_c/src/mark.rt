@@ -1,6 +1,7 @@
 //! How far the bytes of a log go.
 
 ghost use Rattle.std.specs.Prelude.{◌≡◌, ℕ, List, ◌+◌, ◌*◌, ◌≤◌, ◌<◌, ◌^◌, ◌⊎◌, take, length};
+ghost use Rattle.definitions.specs.declared.logs.Entry.{Entry};
 ghost use Rattle.session_log.specs.Writing.{fresh, written, after};
 ghost use Rattle.lethwyrn_c.specs.Fronts.{GoesOn, StandsAt};
 
@@ -42,6 +43,20 @@ impl Mark {
             mark.add(entry, &mut [0; 96]);
         }
         mark
+    }
+
+    /// The same front once more. Nothing is hashed for it.
+    pub(crate) fn copy(&self) -> Mark
+        ensures entries { result.entries ≡ self.now.entries }
+        ensures stands { (id : List ℕ) (me : ℕ) (es : List Entry) → StandsAt id me es self.now.entries self.now.writer self.now.bytes →
+            StandsAt id me es result.entries result.writer result.bytes }
+    {
+        let writer = self.writer.copy();
+        Mark {
+            writer,
+            entries: self.entries,
+            bytes: self.bytes,
+        }
     }
 
     /// Goes on by this entry, which is the next one: writes its bytes and says how many they are.

@@ -76,7 +76,7 @@ impl Seat {
     {
         let entries = peer.entries();
         let given = Mark::behind(peer.session(), peer.me(), entries);
-        let ahead = Mark::behind(peer.session(), peer.me(), entries);
+        let ahead = given.copy();
         let stored = entries.len();
         Seat {
             peer,

@@ -74,6 +74,17 @@ impl LogWriter {
         }
     }
 
+    /// A second writer behind the same entries. Nothing is hashed for it.
+    pub fn copy(&self) -> LogWriter
+        ensures { result ≡ self.now }
+    {
+        LogWriter {
+            owner: self.owner,
+            begun: self.begun,
+            chain: self.chain,
+        }
+    }
+
     /// Writes the next entry of the log to the front of `out`, in front of the first one the owner's byte, and says how
     /// many bytes there are. The bytes of `out` behind them are left open.
     pub fn put(&mut self, entry: &Entry, out: &mut [u8; 96]) -> usize
