@@ -1,0 +1,9 @@
+mod Finds
+mod Frames
+mod Speakers
+mod Hearing
+mod Giving
+mod Owns
+mod Steps
+mod Bytes
+pub mod Given

@@ -1,0 +1,9 @@
+//! Laws of histories, by their items alone: functions that do nothing, whose clauses are proved.
+
+ghost use Rattle.loop_laws.specs.Laws.{FramesAreGiven};
+
+/// The bytes given on a socket are a front of frames that are spelled one after the other: an own HELLO, then WANT frames and own frames of the
+/// log, in the order of their places. None but the HELLO is given before a HELLO came on the socket with the pass that is wanted of its player.
+pub fn frames_are_given()
+    ensures { FramesAreGiven }
+{}
