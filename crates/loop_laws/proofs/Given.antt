@@ -40,11 +40,11 @@ use Rattle.loop_laws.proofs.Steps.{facts_after, links_after, line_after, line_ow
 
 -- ---- behind one more item
 
-record At (s : Setting) (n : ℕ) (v : View) (facts : Facts) : Type 0 where
-  setting : v.setting ≡ s
-  links : Linked (λ link. Has s.roster.links link) v.table.seats
-  line : IfLine (Told s (safe_frames v) facts) (line_in n v.table.lines)
-  said : Said s (safe_frames v) facts
+pub record At (s : Setting) (n : ℕ) (v : View) (facts : Facts) : Type 0 where
+  pub setting : v.setting ≡ s
+  pub links : Linked (λ link. Has s.roster.links link) v.table.seats
+  pub line : IfLine (Told s (safe_frames v) facts) (line_in n v.table.lines)
+  pub said : Said s (safe_frames v) facts
 
 at_after : (n : ℕ) (v : View) (facts : Facts) (item : Item) → is_allowed v item ≡ true → (is_opening item n ≡ true → facts ≡ no_facts) → Differ v.table.lines → At v.setting n v facts →
     At v.setting n (after v item) (facts_after n facts item)
@@ -167,11 +167,11 @@ still_none items v n facts (Failed call) h each f e = refl
 
 -- ---- the whole history
 
-record Knows (s : Setting) (n : ℕ) (items : List Item) : Type 0 where
-  told : IsTold items (view_of s items)
-  empty : standing_in items n ≡ Fresh → facts_in n items ≡ no_facts
-  at : At s n (view_of s items) (facts_in n items)
-  synced : SyncedSo s.game.id s.me (view_of s items) (synced_in items)
+pub record Knows (s : Setting) (n : ℕ) (items : List Item) : Type 0 where
+  pub told : IsTold items (view_of s items)
+  pub empty : standing_in items n ≡ Fresh → facts_in n items ≡ no_facts
+  pub at : At s n (view_of s items) (facts_in n items)
+  pub synced : SyncedSo s.game.id s.me (view_of s items) (synced_in items)
 
 -- so it is behind a view of the items
 record KnowsIn (s : Setting) (n : ℕ) (items : List Item) (v : View) (facts : Facts) (log : Log) : Type 0 where
@@ -236,10 +236,14 @@ knows_none s n = record {
   synced = (kept_bytes_are_the_log s [] refl, le_refl 0);
 }
 
+-- so it is behind each history
+pub knows_in : (s : Setting) (n : ℕ) (items : List Item) → SocketsAreNew items → IsHistory s items → Knows s n items
+knows_in s n items new h = knows_all s n [] items h new (knows_none s n)
+
 pub frames_are_given : FramesAreGiven
 frames_are_given s items n new h =
     let v = view_of s items in
-    let k = knows_all s n [] items h new (knows_none s n) in
+    let k = knows_in s n items new h in
     let said = k.at.said in
     record {
       log = take v.synced v.kept;

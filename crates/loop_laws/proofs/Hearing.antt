@@ -26,7 +26,7 @@ use Rattle.loop_laws.proofs.Finds.{line_in, IfLine, on_line, line_mapped, ousted
 use Rattle.loop_laws.proofs.Frames.{asked_last}
 use Rattle.loop_laws.proofs.Speakers.{Facts, Told, with_came, told_doomed, told_passed, told_refused, told_moved, told_named}
 
-moved_keeps : (place : ℕ) (l : Line) → (moved_to place l).socket ≡ l.socket
+pub moved_keeps : (place : ℕ) (l : Line) → (moved_to place l).socket ≡ l.socket
 moved_keeps place l = go l.sending
   where
     go : (o : Option ℕ) → (moved_to place (record l { sending = o })).socket ≡ l.socket

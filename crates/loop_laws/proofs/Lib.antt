@@ -7,3 +7,5 @@ mod Owns
 mod Steps
 mod Bytes
 pub mod Given
+mod Waiting
+mod Handled

@@ -279,7 +279,7 @@ told_read s own facts l count g k = go l.name refl
       spoken = k.spoken;
     }
 
-read_keeps : (count : ℕ) (g : Given) (l : Line) → (read_on count g l).socket ≡ l.socket
+pub read_keeps : (count : ℕ) (g : Given) (l : Line) → (read_on count g l).socket ≡ l.socket
 read_keeps count g l = go l.name
   where
     go : (o : Option ℕ) → (record (counted_on o count l) { reader = g.reader }).socket ≡ l.socket

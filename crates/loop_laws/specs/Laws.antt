@@ -1,16 +1,19 @@
 -- Laws: what each history says, by its items alone.
-use Rattle.std.specs.Prelude.{◌≡◌, ℕ, List, ◌++◌, flat_map}
+use Rattle.std.specs.Prelude.{◌≡◌, ℕ, List, [], ◌∷◌, ◌++◌, flat_map}
+use Rattle.definitions.specs.Lists.{EachIs}
 use Rattle.definitions.specs.declared.logs.Entry.{Entry}
 use Rattle.definitions.specs.Logs.{made}
 use Rattle.wire_frames.specs.declared.frames.Frame.{Frame}
+use Rattle.wire_frames.specs.declared.frames.Frame.TheVariants.{Hello}
 use Rattle.wire_frames.specs.Spelling.{spelling}
 use Rattle.session_log.specs.Spelling.{log_bytes}
-use Rattle.socket_station.specs.Items.{Item}
-use Rattle.socket_station.specs.Moved.{given_in, synced_in}
+use Rattle.socket_station.specs.Items.{Item, Took}
+use Rattle.socket_station.specs.Moved.{given_in, kept_in, synced_in}
 use Rattle.loop_rules.specs.Settings.{Setting}
 use Rattle.loop_rules.specs.Histories.{IsHistory}
 use Rattle.loop_laws.specs.Sockets.{SocketsAreNew, came_on, dialled_for}
 use Rattle.loop_laws.specs.Speaking.{Speaks}
+use Rattle.loop_laws.specs.Handling.{GoesOn, Handles, turns_of}
 
 -- The bytes given on the socket are the first ones of these frames' spellings, one after the other, where the own frames are those of the log that
 -- was kept and then synced.
@@ -26,3 +29,20 @@ pub record GivesFrames (s : Setting) (items : List Item) (socket : ℕ) : Type 0
 -- in each history frames alone are given, on each socket, as they may be given there
 abbrev pub FramesAreGiven : Type 0
 FramesAreGiven = (s : Setting) (items : List Item) (socket : ℕ) → SocketsAreNew items → IsHistory s items → GivesFrames s items socket
+
+-- The bytes that were taken on the player's socket bring these frames behind those that came before, and the entries that were kept behind them handle
+-- those of turns.
+pub record HandlesFrames (s : Setting) (before : List Item) (socket q : ℕ) (bytes : List ℕ) (between : List Item) : Type 0 where
+  pub frames : List Frame
+  pub log : List Entry
+  pub added : List Entry
+  pub came : came_on socket (before ++ Took socket bytes ∷ []) ≡ came_on socket before ++ frames
+  pub kept : kept_in before ≡ log_bytes s.game.id s.me log
+  pub kept_then : kept_in (before ++ Took socket bytes ∷ between) ≡ log_bytes s.game.id s.me (log ++ added)
+  pub handles : Handles s.game s.me q log (turns_of q frames) added
+
+-- Where a HELLO of the player came first on a socket, and then bytes are taken there, their frames are handled before the loop takes further bytes or polls.
+abbrev pub FramesAreHandled : Type 0
+FramesAreHandled = (s : Setting) (before between more : List Item) (socket q : ℕ) (bytes : List ℕ) (last : Item) (id pass : List ℕ) (next : ℕ) (rest : List Frame) →
+    SocketsAreNew (before ++ Took socket bytes ∷ (between ++ last ∷ more)) → IsHistory s (before ++ Took socket bytes ∷ (between ++ last ∷ more)) →
+    came_on socket before ≡ Hello id q pass next ∷ rest → EachIs (λ item. GoesOn item → ⊥) between → GoesOn last → HandlesFrames s before socket q bytes between

@@ -1,3 +1,4 @@
 pub mod Sockets
 pub mod Speaking
+pub mod Handling
 pub mod Laws

@@ -1,9 +1,15 @@
 //! Laws of histories, by their items alone: functions that do nothing, whose clauses are proved.
 
-ghost use Rattle.loop_laws.specs.Laws.{FramesAreGiven};
+ghost use Rattle.loop_laws.specs.Laws.{FramesAreGiven, FramesAreHandled};
 
 /// The bytes given on a socket are a front of frames that are spelled one after the other: an own HELLO, then WANT frames and own frames of the
 /// log, in the order of their places. None but the HELLO is given before a HELLO came on the socket with the pass that is wanted of its player.
 pub fn frames_are_given()
     ensures { FramesAreGiven }
+{}
+
+/// Each frame that comes on a named socket is handled, in its order, before the loop takes further bytes or polls: one that is new to the log at its
+/// turn is logged as received, as long as the log has no finding and no keep fails.
+pub fn frames_are_handled()
+    ensures { FramesAreHandled }
 {}
