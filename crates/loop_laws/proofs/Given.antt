@@ -74,7 +74,7 @@ opened_fresh standing (Opened m ∷ list) n new e = go (m == n) refl e (opened_f
 opened_fresh standing (Seems m ∷ list) n new e = opened_fresh standing list n new e
 
 -- what an item opens was never used
-opening_fresh : (items : List Item) (item : Item) (n : ℕ) → OpensNew items item → is_opening item n ≡ true → standing_in items n ≡ Fresh
+pub opening_fresh : (items : List Item) (item : Item) (n : ℕ) → OpensNew items item → is_opening item n ≡ true → standing_in items n ≡ Fresh
 opening_fresh items (LogBegun name) n new e = absurd (false≢true e)
 opening_fresh items (Listening addr) n new e = absurd (false≢true e)
 opening_fresh items (Dialled m q addr) n new e = ap (standing_in items) (sym (eqb-true m n e)) ∙ new
@@ -100,7 +100,7 @@ closed_not : Closed ≡ Fresh → ⊥
 closed_not e = cc
 
 -- what was never used was not before the item either
-fresh_before : (n : ℕ) (old : Standing) (item : Item) → standing_after n old item ≡ Fresh → old ≡ Fresh
+pub fresh_before : (n : ℕ) (old : Standing) (item : Item) → standing_after n old item ≡ Fresh → old ≡ Fresh
 fresh_before n old (LogBegun name) e = e
 fresh_before n old (Listening addr) e = e
 fresh_before n old (Dialled m q addr) e = (fresh_if (m == n) Open old open_not e).1
@@ -123,7 +123,7 @@ fresh_before n old (Failed (KeepCall bytes)) e = e
 fresh_before n old (Failed SyncCall) e = e
 
 -- the line that is found stands as the items say
-used_line : (items : List Item) (m : ℕ) (ls : List Line) (l : Line) → EachIs (LineStands items) ls → line_in m ls ≡ Some l → standing_in items m ≡ Fresh → ⊥
+pub used_line : (items : List Item) (m : ℕ) (ls : List Line) (l : Line) → EachIs (LineStands items) ls → line_in m ls ≡ Some l → standing_in items m ≡ Fresh → ⊥
 used_line items m [] l each e f = cc
 used_line items m (x ∷ ls) l each e f = go (x.socket == m) refl e (λ w. used_line items m ls l each.1 w f)
   where
@@ -131,11 +131,11 @@ used_line items m (x ∷ ls) l each e f = go (x.socket == m) refl e (λ w. used_
     go true q w more = each.0.used (ap (standing_in items) (eqb-true x.socket m q) ∙ f)
     go false q w more = more w
 
-reads_line : (v : View) (o : Option Line) → may_read_line v o ≡ true → (l : Line) × (o ≡ Some l)
+pub reads_line : (v : View) (o : Option Line) → may_read_line v o ≡ true → (l : Line) × (o ≡ Some l)
 reads_line v None h = absurd (false≢true h)
 reads_line v (Some l) h = (l, refl)
 
-writes_line : (v : View) (o : Option Line) → may_write_line v o ≡ true → (l : Line) × (o ≡ Some l)
+pub writes_line : (v : View) (o : Option Line) → may_write_line v o ≡ true → (l : Line) × (o ≡ Some l)
 writes_line v None h = absurd (false≢true h)
 writes_line v (Some l) h = (l, refl)
 

@@ -331,7 +331,7 @@ module _ (s : Setting) (front : List Item) (n q : ℕ) (bytes : List ℕ) (id pa
       ap (λ (b : Bool). (if b then with_taken facts bytes else facts).came) (eq-eqb n n refl) ∙ ap (λ (x : List Frame). x ++ news) (facts_came n front)
 
 -- the sockets of fewer items are new
-fewer_new : (items more : List Item) → SocketsAreNew (items ++ more) → SocketsAreNew items
+pub fewer_new : (items more : List Item) → SocketsAreNew (items ++ more) → SocketsAreNew items
 fewer_new items more new front rest item e = new front (rest ++ more) item (ap (λ (x : List Item). x ++ more) e ∙ append_assoc front (item ∷ rest) more)
 
 pub frames_are_handled : FramesAreHandled

@@ -22,7 +22,7 @@ use Rattle.loop_rules.specs.Tables.{Table, line_of, seat_of, in_seats, at_line, 
 use Rattle.loop_rules.specs.Hearing.{Hearer, ousted, lets_seat_name, names, with_name_free, named, heard_first, obeyed, arrived, heard_named, heard_by, heard_on, heard, heard_all}
 use Rattle.loop_rules.specs.Laws.{IsWanted}
 use Rattle.loop_laws.specs.Speaking.{IsAsked}
-use Rattle.loop_laws.proofs.Finds.{line_in, IfLine, on_line, line_mapped, ousted_keeps, if_own, if_other, if_ousted}
+use Rattle.loop_laws.proofs.Finds.{line_in, IfLine, on_line, line_mapped, ousted_keeps, if_own, if_other, if_either, if_ousted}
 use Rattle.loop_laws.proofs.Frames.{asked_last}
 use Rattle.loop_laws.proofs.Speakers.{Facts, Told, with_came, told_doomed, told_passed, told_refused, told_moved, told_named}
 
@@ -105,30 +105,29 @@ module _ (L : Link → Type 0) (h : Hearer) (m : ℕ) where
       let w = links_each t g.frames k in
       table_if Links g.reader.bad (at_line m doomed u) u (λ y. w) w
 
--- ---- frames on another socket
+-- ---- what holds of the line, whatever comes
 
-module _ (P : Line → Type 0) (dooms : (l : Line) → P l → P (doomed l)) (h : Hearer) (n m : ℕ) (other : (n == m) ≡ false) where
+-- it stays behind each change that a frame makes
+module _ (P : Line → Type 0) (h : Hearer) (n m : ℕ) (dooms : (l : Line) → P l → P (doomed l)) (at_doomed : (t : Table) → IfLine P (line_in n t.lines) → IfLine P (line_in n (at_line m doomed t).lines))
+    (at_moved : (place : ℕ) (t : Table) → IfLine P (line_in n t.lines) → IfLine P (line_in n (at_line m (moved_to place) t).lines))
+    (at_named : (q from next : ℕ) (t : Table) → IfLine P (line_in n t.lines) → IfLine P (line_in n (at_line m (named_line q from next) t).lines)) where
   abbrev Stays : Table → Type 0
   Stays t = IfLine P (line_in n t.lines)
-
-  stays_at : (change : Line → Line) (t : Table) → ((l : Line) → (change l).socket ≡ l.socket) → Stays t → Stays (at_line m change t)
-  stays_at change t k p = if_other P n m change t.lines other (λ l e. k l) p
 
   stays_first : (t : Table) (l : Line) (f : Frame) → Stays t → Stays (heard_first h t m l f)
   stays_first t l (Hello id q pass from) p =
       table_if Stays (names h t l id q pass) (named h t m l q from) (at_line m doomed t)
-      (λ y. stays_at (named_line q from (h.next q)) (with_name_free q t) (λ k. refl) (if_ousted P n q t.lines dooms p)) (stays_at doomed t (λ k. refl) p)
-  stays_first t l (Turn f) p = stays_at doomed t (λ k. refl) p
-  stays_first t l (Want place) p = stays_at doomed t (λ k. refl) p
+      (λ y. at_named q from (h.next q) (with_name_free q t) (if_ousted P n q t.lines dooms p)) (at_doomed t p)
+  stays_first t l (Turn f) p = at_doomed t p
+  stays_first t l (Want place) p = at_doomed t p
 
   stays_obeyed : (t : Table) (q place : ℕ) (o : Option Seat) → Stays t → Stays (obeyed t m q place o)
   stays_obeyed t q place None p = p
-  stays_obeyed t q place (Some c) p =
-      table_if Stays (may_want c) (at_seat q obeys (at_line m (moved_to place) t)) t (λ y. stays_at (moved_to place) t (moved_keeps place) p) p
+  stays_obeyed t q place (Some c) p = table_if Stays (may_want c) (at_seat q obeys (at_line m (moved_to place) t)) t (λ y. at_moved place t p) p
 
   stays_named : (t : Table) (q : ℕ) (f : Frame) → Stays t → Stays (heard_named t m q f)
-  stays_named t q (Hello id r pass from) p = stays_at doomed t (λ k. refl) p
-  stays_named t q (Turn f) p = table_if Stays (player_of f == q) (arrived t q f) (at_line m doomed t) (λ y. p) (stays_at doomed t (λ k. refl) p)
+  stays_named t q (Hello id r pass from) p = at_doomed t p
+  stays_named t q (Turn f) p = table_if Stays (player_of f == q) (arrived t q f) (at_line m doomed t) (λ y. p) (at_doomed t p)
   stays_named t q (Want place) p = stays_obeyed t q place (seat_of t q) p
 
   stays_by : (t : Table) (l : Line) (o : Option ℕ) (f : Frame) → Stays t → Stays (heard_by h t m l o f)
@@ -147,7 +146,21 @@ module _ (P : Line → Type 0) (dooms : (l : Line) → P l → P (doomed l)) (h 
   stays_all g t p =
       let u = fold (heard h m) t g.frames in
       let w = stays_each t g.frames p in
-      table_if Stays g.reader.bad (at_line m doomed u) u (λ y. stays_at doomed u (λ k. refl) w) w
+      table_if Stays g.reader.bad (at_line m doomed u) u (λ y. at_doomed u w) w
+
+-- the frames come on another socket
+pub other_stays : (P : Line → Type 0) (h : Hearer) (n m : ℕ) (other : (n == m) ≡ false) (dooms : (l : Line) → P l → P (doomed l)) (g : Given) (t : Table) →
+    IfLine P (line_in n t.lines) → IfLine P (line_in n (heard_all h m g t).lines)
+other_stays P h n m other dooms g t p =
+    stays_all P h n m dooms (λ u x. if_other P n m doomed u.lines other (λ l e. refl) x) (λ place u x. if_other P n m (moved_to place) u.lines other (λ l e. moved_keeps place l) x)
+    (λ q from next u x. if_other P n m (named_line q from next) u.lines other (λ l e. refl) x) g t p
+
+-- what no change of a line touches stays on any socket
+pub any_stays : (P : Line → Type 0) (h : Hearer) (n m : ℕ) (dooms : (l : Line) → P l → P (doomed l)) (moves : (place : ℕ) (l : Line) → P l → P (moved_to place l))
+    (names : (q from next : ℕ) (l : Line) → P l → P (named_line q from next l)) (g : Given) (t : Table) → IfLine P (line_in n t.lines) → IfLine P (line_in n (heard_all h m g t).lines)
+any_stays P h n m dooms moves names g t p =
+    stays_all P h n m dooms (λ u x. if_either P n m doomed u.lines (λ l. refl) dooms x) (λ place u x. if_either P n m (moved_to place) u.lines (moved_keeps place) (moves place) x)
+    (λ q from next u x. if_either P n m (named_line q from next) u.lines (λ l. refl) (names q from next) x) g t p
 
 -- ---- frames on the socket itself
 

@@ -9,3 +9,4 @@ mod Bytes
 pub mod Given
 mod Waiting
 mod Handled
+mod Marks

@@ -36,7 +36,7 @@ use Rattle.loop_rules.specs.Told.{Differ}
 use Rattle.loop_laws.proofs.Finds.{line_in, IfLine, if_own, if_other, if_either, if_more, if_open}
 use Rattle.loop_laws.proofs.Speakers.{Facts, no_facts, Told, Said, More, told_more, told_marked, said_more}
 use Rattle.loop_laws.proofs.Frames.{OwnMore, asked_more, named_more}
-use Rattle.loop_laws.proofs.Hearing.{Linked, links_mapped, links_at, links_all, stays_all, so_all}
+use Rattle.loop_laws.proofs.Hearing.{Linked, links_mapped, links_at, links_all, other_stays, so_all}
 use Rattle.loop_laws.proofs.Giving.{links_gave, other_gave, own_gave, said_gave, with_given}
 use Rattle.loop_laws.proofs.Speakers.{told_doomed, with_came}
 
@@ -106,7 +106,7 @@ asks_link place c = go (is_asked c.asks place)
 links_sorted : (L : Link → Type 0) (arrivals : List Arrival) (v : View) → Linked L v.table.seats → Linked L (sorted arrivals v).table.seats
 links_sorted L arrivals v k = sorted_table (λ t. Linked L t.seats) (λ t w x. x) (λ t q place x. links_at L q (asks place) t.seats (asks_link place) x) arrivals v k
 
-line_sorted : (P : Line → Type 0) (n : ℕ) (arrivals : List Arrival) (v : View) → IfLine P (line_in n v.table.lines) → IfLine P (line_in n (sorted arrivals v).table.lines)
+pub line_sorted : (P : Line → Type 0) (n : ℕ) (arrivals : List Arrival) (v : View) → IfLine P (line_in n v.table.lines) → IfLine P (line_in n (sorted arrivals v).table.lines)
 line_sorted P n arrivals v p = sorted_table (λ t. IfLine P (line_in n t.lines)) (λ t w x. x) (λ t q place x. x) arrivals v p
 
 -- ---- the players' links
@@ -237,14 +237,14 @@ module _ (s : Setting) (own : List TurnFrame) (facts : Facts) (n : ℕ) where
 
 -- ---- bytes that come
 
-flip : (m n : ℕ) → (m == n) ≡ false → (n == m) ≡ false
+pub flip : (m n : ℕ) → (m == n) ≡ false → (n == m) ≡ false
 flip m n e = go (n == m) refl
   where
     go : (b : Bool) → (n == m) ≡ b → b ≡ false
     go true x = sym (eq-eqb m n (sym (eqb-true n m x))) ∙ e
     go false x = refl
 
-counted_lines : (P : Line → Type 0) (n : ℕ) (o : Option ℕ) (count : ℕ) (t : Table) → IfLine P (line_in n t.lines) → IfLine P (line_in n (counted o count t).lines)
+pub counted_lines : (P : Line → Type 0) (n : ℕ) (o : Option ℕ) (count : ℕ) (t : Table) → IfLine P (line_in n t.lines) → IfLine P (line_in n (counted o count t).lines)
 counted_lines P n None count t p = p
 counted_lines P n (Some q) count t p = p
 
@@ -293,7 +293,7 @@ other_took s own facts n m v bytes None other p = p
 other_took s own facts n m v bytes (Some l) other p =
     let g = given_of l.reader bytes in
     let t = at_line m (read_on (length bytes) g) v.table in
-    stays_all (Told s own facts) (λ x k. told_doomed s own facts x k) (hearer_of v) n m other g (counted l.name (length bytes) t)
+    other_stays (Told s own facts) (hearer_of v) n m other (λ x k. told_doomed s own facts x k) g (counted l.name (length bytes) t)
     (counted_lines (Told s own facts) n l.name (length bytes) t (if_other (Told s own facts) n m (read_on (length bytes) g) v.table.lines other (λ x e. read_keeps (length bytes) g x) p))
 
 -- on the socket itself

@@ -7,13 +7,14 @@ use Rattle.wire_frames.specs.declared.frames.Frame.{Frame}
 use Rattle.wire_frames.specs.declared.frames.Frame.TheVariants.{Hello}
 use Rattle.wire_frames.specs.Spelling.{spelling}
 use Rattle.session_log.specs.Spelling.{log_bytes}
-use Rattle.socket_station.specs.Items.{Item, Took}
+use Rattle.socket_station.specs.Items.{Item, Took, ReadNotYet, WriteNotYet}
 use Rattle.socket_station.specs.Moved.{given_in, kept_in, synced_in}
 use Rattle.loop_rules.specs.Settings.{Setting}
 use Rattle.loop_rules.specs.Histories.{IsHistory}
 use Rattle.loop_laws.specs.Sockets.{SocketsAreNew, came_on, dialled_for}
 use Rattle.loop_laws.specs.Speaking.{Speaks}
 use Rattle.loop_laws.specs.Handling.{GoesOn, Handles, turns_of}
+use Rattle.loop_laws.specs.Listing.{IsRead, IsWrite, Lists, SomeIs}
 
 -- The bytes given on the socket are the first ones of these frames' spellings, one after the other, where the own frames are those of the log that
 -- was kept and then synced.
@@ -46,3 +47,13 @@ abbrev pub FramesAreHandled : Type 0
 FramesAreHandled = (s : Setting) (before between more : List Item) (socket q : ℕ) (bytes : List ℕ) (last : Item) (id pass : List ℕ) (next : ℕ) (rest : List Frame) →
     SocketsAreNew (before ++ Took socket bytes ∷ (between ++ last ∷ more)) → IsHistory s (before ++ Took socket bytes ∷ (between ++ last ∷ more)) →
     came_on socket before ≡ Hello id q pass next ∷ rest → EachIs (λ item. GoesOn item → ⊥) between → GoesOn last → HandlesFrames s before socket q bytes between
+
+-- between a read that found nothing and the next read of the socket a poll listed it
+abbrev pub ReadsAreListed : Type 0
+ReadsAreListed = (s : Setting) (before between more : List Item) (socket : ℕ) (next : Item) → SocketsAreNew (before ++ ReadNotYet socket ∷ (between ++ next ∷ more)) →
+    IsHistory s (before ++ ReadNotYet socket ∷ (between ++ next ∷ more)) → IsRead socket next → SomeIs (Lists socket) between
+
+-- and so it is between a write that was refused and the next write
+abbrev pub WritesAreListed : Type 0
+WritesAreListed = (s : Setting) (before between more : List Item) (socket : ℕ) (next : Item) → SocketsAreNew (before ++ WriteNotYet socket ∷ (between ++ next ∷ more)) →
+    IsHistory s (before ++ WriteNotYet socket ∷ (between ++ next ∷ more)) → IsWrite socket next → SomeIs (Lists socket) between

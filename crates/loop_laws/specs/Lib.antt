@@ -1,4 +1,5 @@
 pub mod Sockets
 pub mod Speaking
 pub mod Handling
+pub mod Listing
 pub mod Laws

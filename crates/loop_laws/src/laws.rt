@@ -1,6 +1,6 @@
 //! Laws of histories, by their items alone: functions that do nothing, whose clauses are proved.
 
-ghost use Rattle.loop_laws.specs.Laws.{FramesAreGiven, FramesAreHandled};
+ghost use Rattle.loop_laws.specs.Laws.{FramesAreGiven, FramesAreHandled, ReadsAreListed, WritesAreListed};
 
 /// The bytes given on a socket are a front of frames that are spelled one after the other: an own HELLO, then WANT frames and own frames of the
 /// log, in the order of their places. None but the HELLO is given before a HELLO came on the socket with the pass that is wanted of its player.
@@ -12,4 +12,11 @@ pub fn frames_are_given()
 /// turn is logged as received, as long as the log has no finding and no keep fails.
 pub fn frames_are_handled()
     ensures { FramesAreHandled }
+{}
+
+/// A socket of which a read found nothing is read again only after a poll listed it. So it is of a socket to which a write was refused, and the next
+/// write.
+pub fn sockets_are_listed()
+    ensures reads { ReadsAreListed }
+    ensures writes { WritesAreListed }
 {}
