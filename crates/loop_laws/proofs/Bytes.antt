@@ -18,7 +18,7 @@ abbrev pub facts_in : (socket : ℕ) → List Item → Facts
 facts_in n items = fold (facts_after n) no_facts items
 
 -- the pieces of bytes that were taken on the socket
-abbrev piece_at : (socket : ℕ) → Item → List (List ℕ)
+abbrev pub piece_at : (socket : ℕ) → Item → List (List ℕ)
 piece_at n (Took m bytes) = if m == n then bytes ∷ [] else []
 piece_at n _ = []
 
@@ -53,7 +53,7 @@ over_append r (x ∷ xs) ys =
     ap (λ (z : List Frame). g.frames ++ z) (over_append g.reader xs ys) ∙ sym (append_assoc g.frames (given_over g.reader xs).frames (given_over (given_over g.reader xs).reader ys).frames)
 
 -- what one item adds
-abbrev Adds : (socket : ℕ) → Facts → Item → (after : Facts) → Type 0
+abbrev pub Adds : (socket : ℕ) → Facts → Item → (after : Facts) → Type 0
 Adds n facts item after =
     (after.given ≡ facts.given ++ gave_at n item) × (after.dialled ≡ facts.dialled ++ dialled_at n item) × (after.came ≡ facts.came ++ (given_over facts.reader (piece_at n item)).frames) ×
     (after.reader ≡ (given_over facts.reader (piece_at n item)).reader)
@@ -61,7 +61,7 @@ Adds n facts item after =
 adds_none : (facts : Facts) → (facts.given ≡ facts.given ++ []) × (facts.dialled ≡ facts.dialled ++ []) × (facts.came ≡ facts.came ++ []) × (facts.reader ≡ facts.reader)
 adds_none facts = (sym (append-nil facts.given), sym (append-nil facts.dialled), sym (append-nil facts.came), refl)
 
-adds : (n : ℕ) (facts : Facts) (item : Item) → Adds n facts item (facts_after n facts item)
+pub adds : (n : ℕ) (facts : Facts) (item : Item) → Adds n facts item (facts_after n facts item)
 adds n facts (Gave m bytes) = go (m == n)
   where
     go : (b : Bool) → let after = if b then with_given facts (facts.given ++ bytes) else facts in

@@ -1,5 +1,5 @@
 -- Giving: what is known of a line stays known as bytes are given on its socket.
-use Rattle.std.proofs.Common.{◌≡◌, ◌⊎◌, inl, inr, ℕ, zero, suc, ◌+◌, Bool, true, false, refl, sym, ap, subst, ◌∙◌, List, [], ◌∷◌, ◌++◌, append_assoc, append-nil, take-append-drop}
+use Rattle.std.proofs.Common.{◌≡◌, ◌⊎◌, inl, inr, max, arith, ℕ, zero, suc, ◌+◌, Bool, true, false, refl, sym, ap, subst, ◌∙◌, List, [], ◌∷◌, ◌++◌, append_assoc, append-nil, take-append-drop}
 use Rattle.std.specs.Prelude.{Option, Some, None, ◌==◌, nat_lt, length, drop, take, slice_get, unwrap_or, flat_map, if◌then◌else◌}
 use Rattle.std.proofs.lemmas.Bool.{and_parts, false≢true}
 use Rattle.std.proofs.lemmas.List.Concat.{flat_map-append}
@@ -22,6 +22,7 @@ use Rattle.loop_rules.specs.Tables.{Table, seat_by, in_lines, in_seats, desk_of,
 use Rattle.loop_rules.specs.After.{own_at, gave_on, gave_with, gave_by}
 use Rattle.loop_rules.specs.Rules.{due_at, is_front}
 use Rattle.loop_rules.proofs.Alike.{keeps_gave}
+use Rattle.loop_laws.specs.Counting.{IsWhollyGiven}
 use Rattle.loop_laws.specs.Speaking.{IsNamed, IsAsked}
 use Rattle.loop_laws.proofs.Finds.{line_in, line_is, IfLine, if_own, if_other}
 use Rattle.loop_laws.proofs.Frames.{Goes, goes_want, goes_turn}
@@ -286,6 +287,118 @@ told_gave s own facts d bytes linked whose player h k = told_marked s own all e.
         (subst (λ (x : List ℕ). Part s own all d.line (drop (length bytes) x)) same
         (going s own facts d.line bytes (λ x. let z : b ∷ rest ≡ [] = sym same ∙ x in cc) (ap (is_front bytes) same ∙ f) k))
 
+-- ---- what counts as given behind it
+
+-- the own frame at the place stands among these frames
+abbrev HasTurn : (own : List TurnFrame) → List Frame → (place : ℕ) → Type 0
+HasTurn own fs place = (f : TurnFrame) × (front : List Frame) × (back : List Frame) × (fs ≡ front ++ Turn f ∷ back) × (slice_get own place ≡ Some f)
+
+has_behind : (own : List TurnFrame) (g : Frame) (fs : List Frame) (place : ℕ) → HasTurn own fs place → HasTurn own (g ∷ fs) place
+has_behind own g fs place h = (h.0, g ∷ h.1, h.2, ap (λ (x : List Frame). g ∷ x) h.3, h.4)
+
+goes_has : (own : List TurnFrame) (came : List Frame) (next : Option ℕ) (fs : List Frame) (last : Option ℕ) (place : ℕ) → last ≡ Some (place + 1) → Goes own came next fs last →
+    (next ≡ Some (place + 1)) ⊎ HasTurn own fs place
+goes_has own came next [] last place e g = inl (g ∙ e)
+goes_has own came next (Hello id q pass from ∷ more) last place e g = absurd g
+goes_has own came next (Want p ∷ more) last place e g = elim (goes_has own came next more last place e g) [ inl x ↦ inl x | inr x ↦ inr (has_behind own (Want p) more place x) ]
+goes_has own came next (Turn f ∷ more) last place e g = elim (goes_has own came (Some (g.0 + 1)) more last place e g.3) [
+  | inl x ↦ inr (f, [], more, refl, subst (λ (n : ℕ). slice_get own n ≡ Some f) (some_same g.0 place x) g.1)
+  | inr x ↦ inr (has_behind own (Turn f) more place x)
+]
+  where
+    some_same : (a b : ℕ) → Some (a + 1) ≡ Some (b + 1) → a ≡ b
+    some_same a b x = let y : a + 1 ≡ b + 1 = cc in omega (arith, y)
+
+not_none : (place : ℕ) → None ≡ Some (place + 1) → ⊥
+not_none place e = cc
+
+not_nil : (front back : List Frame) (f : Frame) → [] ≡ front ++ f ∷ back → ⊥
+not_nil [] back f e = cc
+not_nil (g ∷ front) back f e = cc
+
+-- an own frame is given only where a player is named
+spoken_has : (s : Setting) (own : List TurnFrame) (dialled : List ℕ) (came : List Frame) (unsent : List ℕ) (hello name by : Option ℕ) (frames : List Frame) (last : Option ℕ) (place : ℕ) → last ≡ Some (place + 1) →
+    SpokenSo s own dialled came unsent hello name by frames last → HasTurn own frames place × ((q : ℕ) × IsNamed s came q)
+spoken_has s own dialled came unsent hello name by [] last place e k = absurd (not_none place (sym k.1 ∙ e))
+spoken_has s own dialled came unsent hello name by (f ∷ more) last place e k = elim (goes_has own came None more last place e k.2) [
+  | inl x ↦ absurd (not_none place x)
+  | inr x ↦ (
+    has_behind own f more place x,
+    elim k.3 [
+      | inl none ↦ absurd (not_nil x.1 x.2 (Turn x.0) (sym none ∙ x.3))
+      | inr named ↦ named
+    ],
+  )
+]
+
+-- the count stays, or an own frame was wholly given
+abbrev pub Counts : Setting → (own : List TurnFrame) → (came : List Frame) → (given : List ℕ) → (old new : ℕ) → Type 0
+Counts s own came given old new = (new ≡ old) ⊎ ((place : ℕ) × (new ≡ max old (place + 1)) × IsWhollyGiven own given place × ((q : ℕ) × IsNamed s came q))
+
+ended_count : (s : Setting) (own : List TurnFrame) (facts : Facts) (d : Desk) (left : List ℕ) (o : Option ℕ) → d.line.sending ≡ o → left ≡ [] → Part s own facts d.line left →
+    Counts s own facts.came facts.given d.seat.given (ended_with o (record d { line = record d.line { unsent = left } })).seat.given
+ended_count s own facts d left None e none k = inl refl
+ended_count s own facts d left (Some place) e none k =
+    let last = subst (λ (x : Option ℕ). CursorSo facts.came d.line.name k.last x d.line.cursor) e k.cursor in
+    let has = spoken_has s own facts.dialled facts.came left d.line.hello d.line.name d.line.dialled k.frames k.last place last k.spoken in
+    let whole : facts.given ≡ flat_map spelling k.frames = sym (append-nil facts.given) ∙ ap (λ (x : List ℕ). facts.given ++ x) (sym none) ∙ k.given in
+    inr (
+      place,
+      refl,
+      record {
+        frame = has.0.0;
+        stands = has.0.4;
+        front = has.0.1;
+        back = has.0.2;
+        rest = [];
+        spelled = whole ∙ ap (λ (x : List Frame). flat_map spelling x) has.0.3 ∙ sym (append-nil (flat_map spelling (has.0.1 ++ Turn has.0.0 ∷ has.0.2)));
+      },
+      has.1,
+    )
+
+left_count : (s : Setting) (own : List TurnFrame) (facts : Facts) (d : Desk) (left : List ℕ) → Part s own facts d.line left → Counts s own facts.came facts.given d.seat.given (left_with left d).seat.given
+left_count s own facts d left k = go (is_empty left) refl
+  where
+    e : Desk
+    e = record d { line = record d.line { unsent = left } }
+
+    empty_is : (xs : List ℕ) → is_empty xs ≡ true → xs ≡ []
+    empty_is [] w = refl
+    empty_is (x ∷ xs) w = absurd (false≢true w)
+
+    go : (b : Bool) → is_empty left ≡ b → Counts s own facts.came facts.given d.seat.given (if b then ended_with d.line.sending e else e).seat.given
+    go true w = ended_count s own facts d left d.line.sending refl (empty_is left w) k
+    go false w = inl refl
+
+marked_count : (due : Due) (d : Desk) → (marked due d).seat.given ≡ d.seat.given
+marked_count U.Nothing d = refl
+marked_count (U.Hello next) d = refl
+marked_count (U.Want place) d = refl
+marked_count (U.Own f) d = refl
+
+count_gave : (s : Setting) (own : List TurnFrame) (facts : Facts) (d : Desk) (bytes : List ℕ) → Has s.roster.links d.seat.link → Has facts.dialled d.seat.link.player ⊎ IsNamed s facts.came d.seat.link.player →
+    (d.line.name ≡ None → d.line.dialled ≡ None → ⊥) → is_front bytes (due_at (speaker_of s) (own_at own d.line) (Some d)) ≡ true → Told s own facts d.line →
+    Counts s own facts.came (facts.given ++ bytes) d.seat.given (gave_on (speaker_of s) (own_at own d.line) (length bytes) d).seat.given
+count_gave s own facts d bytes linked whose player h k = go d.line.unsent refl h
+  where
+    all : Facts
+    all = with_given facts (facts.given ++ bytes)
+
+    o : Option TurnFrame
+    o = own_at own d.line
+
+    go : (u : List ℕ) → d.line.unsent ≡ u → is_front bytes (if is_empty u then spelled (frame_due (speaker_of s) o d) else u) ≡ true →
+        Counts s own all.came all.given d.seat.given (left_with (drop (length bytes) (if is_empty u then spelled (frame_due (speaker_of s) o d) else u)) (if is_empty u then marked (due_on o d) d else d)).seat.given
+    go [] same f =
+        let left = drop (length bytes) (spelled (frame_due (speaker_of s) o d)) in
+        subst (λ (x : ℕ). Counts s own all.came all.given x (left_with left (marked (due_on o d) d)).seat.given) (marked_count (due_on o d) d)
+        (left_count s own all (marked (due_on o d) d) left
+        (begin_due s own facts d linked whose player k bytes same (due_on o d) (due_is d.line.hello d.line.name (slice_get d.seat.asks.due 0) o) f))
+    go (b ∷ rest) same f =
+        left_count s own all d (drop (length bytes) (b ∷ rest))
+        (subst (λ (x : List ℕ). Part s own all d.line (drop (length bytes) x)) same
+        (going s own facts d.line bytes (λ x. let z : b ∷ rest ≡ [] = sym same ∙ x in cc) (ap (is_front bytes) same ∙ f) k))
+
 -- ---- in a table
 
 -- the seat beside a line is its player's
@@ -370,3 +483,12 @@ said_gave s own facts bytes t l (Some c) links f h k =
     let d : Desk = record { line = l; seat = c } in
     let w = whose_seat s facts.dialled facts.came t c l.name l.dialled links k.named k.by f in
     told_said s own (with_given facts (facts.given ++ bytes)) (gave_on (speaker_of s) (own_at own l) (length bytes) d).line (told_gave s own facts d bytes w.0 w.1 w.2 h k)
+
+-- the count of the seat beside the line
+pub count_desk : (s : Setting) (own : List TurnFrame) (facts : Facts) (bytes : List ℕ) (t : Table) (l : Line) (c : Seat) → Linked (λ link. Has s.roster.links link) t.seats →
+    seat_by t (player_of l) ≡ Some c → is_front bytes (due_at (speaker_of s) (own_at own l) (desk_with l (Some c))) ≡ true → Told s own facts l →
+    Counts s own facts.came (facts.given ++ bytes) c.given (gave_on (speaker_of s) (own_at own l) (length bytes) (record { line = l; seat = c })).seat.given
+count_desk s own facts bytes t l c links f h k =
+    let d : Desk = record { line = l; seat = c } in
+    let w = whose_seat s facts.dialled facts.came t c l.name l.dialled links k.named k.by f in
+    count_gave s own facts d bytes w.0 w.1 w.2 h k

@@ -265,7 +265,7 @@ running_later Running e = tt
 running_later KeepFault e = absurd (false≢true e)
 running_later PollFault e = absurd (false≢true e)
 
-right_line : (is_open is_wrong is_full : Bool) → is_open ≡ true → not (is_open && (is_wrong || is_full)) ≡ true → is_wrong ≡ false
+pub right_line : (is_open is_wrong is_full : Bool) → is_open ≡ true → not (is_open && (is_wrong || is_full)) ≡ true → is_wrong ≡ false
 right_line true true full o e = absurd (false≢true e)
 right_line true false full o e = refl
 right_line false wrong full o e = absurd (false≢true o)

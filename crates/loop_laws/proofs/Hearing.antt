@@ -173,13 +173,13 @@ not_ousted q l e = ap (λ (o : Option ℕ). if l.is_open && is_player o q then d
     go false = refl
 
 module _ (s : Setting) (own : List TurnFrame) (facts : Facts) (h : Hearer) (n : ℕ) (same_id : h.id ≡ s.game.id) where
-  abbrev L : Link → Type 0
+  abbrev pub L : Link → Type 0
   L link = Has s.roster.links link
 
-  abbrev Knows : List Frame → Line → Type 0
+  abbrev pub Knows : List Frame → Line → Type 0
   Knows came l = Told s own (with_came facts came) l
 
-  abbrev So : List Frame → Table → Type 0
+  abbrev pub So : List Frame → Table → Type 0
   So came t = IfLine (Knows came) (line_in n t.lines)
 
   so_doomed : (came : List Frame) (f : Frame) (t : Table) → So came t → So (came ++ f ∷ []) (at_line n doomed t)
@@ -192,7 +192,7 @@ module _ (s : Setting) (own : List TurnFrame) (facts : Facts) (h : Hearer) (n : 
       subst (IfLine (Knows (came ++ f ∷ []))) (sym e) (told_passed s own (with_came facts came) f l k (subst (IfLine (Knows came)) e p))
 
   -- the pass that a player's seat lets name a socket is the one that the roster wants
-  is_wanted : (t : Table) (q : ℕ) (pass : List ℕ) (o : Option Seat) → Linked L t.seats → seat_of t q ≡ o → lets_seat_name o pass ≡ true → IsWanted s.roster q pass
+  pub is_wanted : (t : Table) (q : ℕ) (pass : List ℕ) (o : Option Seat) → Linked L t.seats → seat_of t q ≡ o → lets_seat_name o pass ≡ true → IsWanted s.roster q pass
   is_wanted t q pass None k e y = absurd (false≢true y)
   is_wanted t q pass (Some c) k e y =
       let found = seat_is L q t.seats c k e in
@@ -246,7 +246,7 @@ module _ (s : Setting) (own : List TurnFrame) (facts : Facts) (h : Hearer) (n : 
   so_right came t l f true e w k p = so_passed came f t l e (λ x y. false≢true (sym y ∙ w)) p
   so_right came t l f false e w k p = so_by came t l l.name f e refl w k p
 
-  so_on : (came : List Frame) (t : Table) (f : Frame) (o : Option Line) → line_in n t.lines ≡ o → Linked L t.seats → So came t → So (came ++ f ∷ []) (heard_on h t n f o)
+  pub so_on : (came : List Frame) (t : Table) (f : Frame) (o : Option Line) → line_in n t.lines ≡ o → Linked L t.seats → So came t → So (came ++ f ∷ []) (heard_on h t n f o)
   so_on came t f None e k p = subst (IfLine (Knows (came ++ f ∷ []))) (sym e) tt
   so_on came t f (Some l) e k p = so_right came t l f l.is_wrong e refl k p
 

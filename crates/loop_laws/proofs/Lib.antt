@@ -10,3 +10,4 @@ pub mod Given
 mod Waiting
 mod Handled
 mod Marks
+mod Counted

@@ -86,7 +86,7 @@ passed_table P v a k p = go (is_far v.setting.game v.setting.me v.kept a.player 
     go false = p
 
 -- what holds of a table, whatever waits and whoever is to be asked, holds behind it
-sorted_table : (P : Table → Type 0) → ((t : Table) (waiting : List Arrival) → P t → P (record t { waiting = waiting })) → ((t : Table) (q place : ℕ) → P t → P (at_seat q (asks place) t)) →
+pub sorted_table : (P : Table → Type 0) → ((t : Table) (waiting : List Arrival) → P t → P (record t { waiting = waiting })) → ((t : Table) (q place : ℕ) → P t → P (at_seat q (asks place) t)) →
     (arrivals : List Arrival) (v : View) → P v.table → P (sorted arrivals v).table
 sorted_table P w k [] v p = w v.table [] p
 sorted_table P w k (a ∷ more) v p = go (not (is_clean v.setting.game v.kept)) (is_new_to v a) (sorted_table P w k more (passed v a) (passed_table P v a (λ place x. k v.table a.player place x) p))
@@ -96,7 +96,7 @@ sorted_table P w k (a ∷ more) v p = go (not (is_clean v.setting.game v.kept)) 
     go false true x = w v.table (a ∷ more) p
     go false false x = x
 
-asks_link : (place : ℕ) (c : Seat) → (asks place c).link ≡ c.link
+pub asks_link : (place : ℕ) (c : Seat) → (asks place c).link ≡ c.link
 asks_link place c = go (is_asked c.asks place)
   where
     go : (b : Bool) → (if b then c else is_asked_for place c).link ≡ c.link
@@ -111,7 +111,7 @@ line_sorted P n arrivals v p = sorted_table (λ t. IfLine P (line_in n t.lines))
 
 -- ---- the players' links
 
-links_counted : (L : Link → Type 0) (o : Option ℕ) (count : ℕ) (t : Table) → Linked L t.seats → Linked L (counted o count t).seats
+pub links_counted : (L : Link → Type 0) (o : Option ℕ) (count : ℕ) (t : Table) → Linked L t.seats → Linked L (counted o count t).seats
 links_counted L None count t k = k
 links_counted L (Some q) count t k = links_at L q (spends count) t.seats (λ c. refl) k
 
@@ -248,7 +248,7 @@ pub counted_lines : (P : Line → Type 0) (n : ℕ) (o : Option ℕ) (count : �
 counted_lines P n None count t p = p
 counted_lines P n (Some q) count t p = p
 
-told_read : (s : Setting) (own : List TurnFrame) (facts : Facts) (l : Line) (count : ℕ) (g : Given) → Told s own facts l → Told s own (record facts { reader = g.reader }) (read_on count g l)
+pub told_read : (s : Setting) (own : List TurnFrame) (facts : Facts) (l : Line) (count : ℕ) (g : Given) → Told s own facts l → Told s own (record facts { reader = g.reader }) (read_on count g l)
 told_read s own facts l count g k = go l.name refl
   where
     go : (o : Option ℕ) → l.name ≡ o → Told s own (record facts { reader = g.reader }) (record (counted_on o count l) { reader = g.reader })

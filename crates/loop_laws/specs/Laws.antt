@@ -1,5 +1,5 @@
 -- Laws: what each history says, by its items alone.
-use Rattle.std.specs.Prelude.{◌≡◌, ℕ, List, [], ◌∷◌, ◌++◌, flat_map}
+use Rattle.std.specs.Prelude.{◌≡◌, ◌⊎◌, ℕ, List, [], ◌∷◌, ◌++◌, Some, flat_map}
 use Rattle.definitions.specs.Lists.{EachIs}
 use Rattle.definitions.specs.declared.logs.Entry.{Entry}
 use Rattle.definitions.specs.Logs.{made}
@@ -9,11 +9,15 @@ use Rattle.wire_frames.specs.Spelling.{spelling}
 use Rattle.session_log.specs.Spelling.{log_bytes}
 use Rattle.socket_station.specs.Items.{Item, Took, ReadNotYet, WriteNotYet}
 use Rattle.socket_station.specs.Moved.{given_in, kept_in, synced_in}
+use Rattle.socket_lines.specs.declared.seat.Seat.{Seat}
 use Rattle.loop_rules.specs.Settings.{Setting}
+use Rattle.loop_rules.specs.Tables.{seat_of}
+use Rattle.loop_rules.specs.After.{view_of}
 use Rattle.loop_rules.specs.Histories.{IsHistory}
 use Rattle.loop_laws.specs.Sockets.{SocketsAreNew, came_on, dialled_for}
 use Rattle.loop_laws.specs.Speaking.{Speaks}
 use Rattle.loop_laws.specs.Handling.{GoesOn, Handles, turns_of}
+use Rattle.loop_laws.specs.Counting.{IsReachedOn}
 use Rattle.loop_laws.specs.Listing.{IsRead, IsWrite, Lists, SomeIs}
 
 -- The bytes given on the socket are the first ones of these frames' spellings, one after the other, where the own frames are those of the log that
@@ -57,3 +61,13 @@ ReadsAreListed = (s : Setting) (before between more : List Item) (socket : ℕ) 
 abbrev pub WritesAreListed : Type 0
 WritesAreListed = (s : Setting) (before between more : List Item) (socket : ℕ) (next : Item) → SocketsAreNew (before ++ WriteNotYet socket ∷ (between ++ next ∷ more)) →
     IsHistory s (before ++ WriteNotYet socket ∷ (between ++ next ∷ more)) → IsWrite socket next → SomeIs (Lists socket) between
+
+-- The count is none, or it was reached on a socket of the player.
+pub record CountIsReached (s : Setting) (items : List Item) (q count : ℕ) : Type 0 where
+  pub log : List Entry
+  pub synced : synced_in items ≡ log_bytes s.game.id s.me log
+  pub reached : (count ≡ 0) ⊎ ((socket : ℕ) × IsReachedOn s (made log) (came_on socket items) (given_in socket items) q count)
+
+-- The loop counts own frames as given to a player up to a place for which this one asked, or up to one that was wholly given to it.
+abbrev pub CountsAreReached : Type 0
+CountsAreReached = (s : Setting) (items : List Item) (q : ℕ) (c : Seat) → SocketsAreNew items → IsHistory s items → seat_of (view_of s items).table q ≡ Some c → CountIsReached s items q c.given

@@ -2,4 +2,5 @@ pub mod Sockets
 pub mod Speaking
 pub mod Handling
 pub mod Listing
+pub mod Counting
 pub mod Laws

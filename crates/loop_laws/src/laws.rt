@@ -1,6 +1,6 @@
 //! Laws of histories, by their items alone: functions that do nothing, whose clauses are proved.
 
-ghost use Rattle.loop_laws.specs.Laws.{FramesAreGiven, FramesAreHandled, ReadsAreListed, WritesAreListed};
+ghost use Rattle.loop_laws.specs.Laws.{FramesAreGiven, FramesAreHandled, ReadsAreListed, WritesAreListed, CountsAreReached};
 
 /// The bytes given on a socket are a front of frames that are spelled one after the other: an own HELLO, then WANT frames and own frames of the
 /// log, in the order of their places. None but the HELLO is given before a HELLO came on the socket with the pass that is wanted of its player.
@@ -19,4 +19,10 @@ pub fn frames_are_handled()
 pub fn sockets_are_listed()
     ensures reads { ReadsAreListed }
     ensures writes { WritesAreListed }
+{}
+
+/// The own frames that count as given to a player are those below a place that it asked for, or up to one that was wholly given to it, each on a
+/// socket that its pass had named. `Loop::given` answers by this count.
+pub fn counts_are_reached()
+    ensures { CountsAreReached }
 {}
