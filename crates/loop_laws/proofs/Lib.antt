@@ -11,3 +11,4 @@ mod Waiting
 mod Handled
 mod Marks
 mod Counted
+mod Computed

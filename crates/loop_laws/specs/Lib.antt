@@ -4,3 +4,4 @@ pub mod Handling
 pub mod Listing
 pub mod Counting
 pub mod Laws
+pub mod Worked
