@@ -11,4 +11,5 @@ mod Waiting
 mod Handled
 mod Marks
 mod Counted
+mod Paid
 mod Computed

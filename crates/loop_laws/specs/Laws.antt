@@ -1,5 +1,5 @@
 -- Laws: what each history says, by its items alone.
-use Rattle.std.specs.Prelude.{◌≡◌, ◌⊎◌, ℕ, List, [], ◌∷◌, ◌++◌, Some, flat_map}
+use Rattle.std.specs.Prelude.{◌≡◌, ◌⊎◌, ◌<◌, ℕ, length, List, [], ◌∷◌, ◌++◌, Some, flat_map}
 use Rattle.definitions.specs.Lists.{EachIs}
 use Rattle.definitions.specs.declared.logs.Entry.{Entry}
 use Rattle.definitions.specs.Logs.{made}
@@ -7,7 +7,7 @@ use Rattle.wire_frames.specs.declared.frames.Frame.{Frame}
 use Rattle.wire_frames.specs.declared.frames.Frame.TheVariants.{Hello}
 use Rattle.wire_frames.specs.Spelling.{spelling}
 use Rattle.session_log.specs.Spelling.{log_bytes}
-use Rattle.socket_station.specs.Items.{Item, Took, ReadNotYet, WriteNotYet}
+use Rattle.socket_station.specs.Items.{Item, Took, Gave, ReadNotYet, Synced, WriteNotYet}
 use Rattle.socket_station.specs.Moved.{given_in, kept_in, synced_in}
 use Rattle.socket_lines.specs.declared.seat.Seat.{Seat}
 use Rattle.loop_rules.specs.Settings.{Setting}
@@ -19,6 +19,7 @@ use Rattle.loop_laws.specs.Speaking.{Speaks}
 use Rattle.loop_laws.specs.Handling.{GoesOn, Handles, turns_of}
 use Rattle.loop_laws.specs.Counting.{IsReachedOn}
 use Rattle.loop_laws.specs.Listing.{IsRead, IsWrite, Lists, SomeIs}
+use Rattle.loop_laws.specs.Paying.{Closes, IsKept, Touches}
 
 -- The bytes given on the socket are the first ones of these frames' spellings, one after the other, where the own frames are those of the log that
 -- was kept and then synced.
@@ -71,3 +72,19 @@ pub record CountIsReached (s : Setting) (items : List Item) (q count : ℕ) : Ty
 -- The loop counts own frames as given to a player up to a place for which this one asked, or up to one that was wholly given to it.
 abbrev pub CountsAreReached : Type 0
 CountsAreReached = (s : Setting) (items : List Item) (q : ℕ) (c : Seat) → SocketsAreNew items → IsHistory s items → seat_of (view_of s items).table q ≡ Some c → CountIsReached s items q c.given
+
+-- where bytes are taken, or given, there is one at least
+abbrev pub TakesHaveBytes : Type 0
+TakesHaveBytes = (s : Setting) (before more : List Item) (socket : ℕ) (bytes : List ℕ) → IsHistory s (before ++ Took socket bytes ∷ more) → 0 < length bytes
+
+abbrev pub GivesHaveBytes : Type 0
+GivesHaveBytes = (s : Setting) (before more : List Item) (socket : ℕ) (bytes : List ℕ) → IsHistory s (before ++ Gave socket bytes ∷ more) → 0 < length bytes
+
+-- between two syncs an entry is kept
+abbrev pub SyncsHaveEntries : Type 0
+SyncsHaveEntries = (s : Setting) (before between more : List Item) → IsHistory s (before ++ Synced ∷ (between ++ Synced ∷ more)) → SomeIs IsKept between
+
+-- behind the end of a socket nothing is done with it
+abbrev pub ClosingsAreLast : Type 0
+ClosingsAreLast = (s : Setting) (before between more : List Item) (socket : ℕ) (item next : Item) → SocketsAreNew (before ++ item ∷ (between ++ next ∷ more)) →
+    IsHistory s (before ++ item ∷ (between ++ next ∷ more)) → Closes socket item → Touches socket next → ⊥

@@ -1,5 +1,5 @@
 -- Worked histories: what a match of two says by its items alone.
-use Rattle.std.specs.Prelude.{◌≡◌, ℕ, List, [], ◌∷◌, ◌++◌, Some, flat_map, option_map}
+use Rattle.std.specs.Prelude.{◌≡◌, List, [], ◌∷◌, ◌++◌, Some, flat_map, option_map}
 use Rattle.wire_frames.specs.declared.frames.Frame.TheVariants.{Hello, Turn, Want}
 use Rattle.wire_frames.specs.Spelling.{spelling}
 use Rattle.definition_laws.specs.Rows.{commit_by, reveal_by}

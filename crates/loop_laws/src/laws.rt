@@ -1,6 +1,6 @@
 //! Laws of histories, by their items alone: functions that do nothing, whose clauses are proved.
 
-ghost use Rattle.loop_laws.specs.Laws.{FramesAreGiven, FramesAreHandled, ReadsAreListed, WritesAreListed, CountsAreReached};
+ghost use Rattle.loop_laws.specs.Laws.{FramesAreGiven, FramesAreHandled, ReadsAreListed, WritesAreListed, CountsAreReached, TakesHaveBytes, GivesHaveBytes, SyncsHaveEntries, ClosingsAreLast};
 
 /// The bytes given on a socket are a front of frames that are spelled one after the other: an own HELLO, then WANT frames and own frames of the
 /// log, in the order of their places. None but the HELLO is given before a HELLO came on the socket with the pass that is wanted of its player.
@@ -25,4 +25,14 @@ pub fn sockets_are_listed()
 /// socket that its pass had named. `Loop::given` answers by this count.
 pub fn counts_are_reached()
     ensures { CountsAreReached }
+{}
+
+/// Each kind of item comes only so often. Where bytes are taken or given there is one at least, between two syncs an entry is kept, and behind the
+/// end of a socket nothing is done with it. What is read or written in vain comes once for each opening and each poll that lists the socket, by
+/// `sockets_are_listed`.
+pub fn items_are_paid_for()
+    ensures takes { TakesHaveBytes }
+    ensures gives { GivesHaveBytes }
+    ensures syncs { SyncsHaveEntries }
+    ensures closings { ClosingsAreLast }
 {}
