@@ -12,4 +12,5 @@ mod Handled
 mod Marks
 mod Counted
 mod Paid
+mod Dials
 mod Computed

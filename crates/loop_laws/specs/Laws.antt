@@ -7,7 +7,8 @@ use Rattle.wire_frames.specs.declared.frames.Frame.{Frame}
 use Rattle.wire_frames.specs.declared.frames.Frame.TheVariants.{Hello}
 use Rattle.wire_frames.specs.Spelling.{spelling}
 use Rattle.session_log.specs.Spelling.{log_bytes}
-use Rattle.socket_station.specs.Items.{Item, Took, Gave, ReadNotYet, Synced, WriteNotYet}
+use Rattle.socket_station.specs.declared.answers.Addr.{Addr}
+use Rattle.socket_station.specs.Items.{Item, Dialled, Took, Gave, ReadNotYet, Synced, WriteNotYet}
 use Rattle.socket_station.specs.Moved.{given_in, kept_in, synced_in}
 use Rattle.socket_lines.specs.declared.seat.Seat.{Seat}
 use Rattle.loop_rules.specs.Settings.{Setting}
@@ -19,6 +20,7 @@ use Rattle.loop_laws.specs.Speaking.{Speaks}
 use Rattle.loop_laws.specs.Handling.{GoesOn, Handles, turns_of}
 use Rattle.loop_laws.specs.Counting.{IsReachedOn}
 use Rattle.loop_laws.specs.Listing.{IsRead, IsWrite, Lists, SomeIs}
+use Rattle.loop_laws.specs.Dialling.{IsDialFor, IsPoll, IsToBeDialled}
 use Rattle.loop_laws.specs.Paying.{Closes, IsKept, Touches}
 
 -- The bytes given on the socket are the first ones of these frames' spellings, one after the other, where the own frames are those of the log that
@@ -88,3 +90,13 @@ SyncsHaveEntries = (s : Setting) (before between more : List Item) → IsHistory
 abbrev pub ClosingsAreLast : Type 0
 ClosingsAreLast = (s : Setting) (before between more : List Item) (socket : ℕ) (item next : Item) → SocketsAreNew (before ++ item ∷ (between ++ next ∷ more)) →
     IsHistory s (before ++ item ∷ (between ++ next ∷ more)) → Closes socket item → Touches socket next → ⊥
+
+-- a socket is dialled for a player of the roster, at its address
+abbrev pub DialsAreWanted : Type 0
+DialsAreWanted = (s : Setting) (before more : List Item) (socket q : ℕ) (addr : Addr) → SocketsAreNew (before ++ Dialled socket q addr ∷ more) →
+    IsHistory s (before ++ Dialled socket q addr ∷ more) → IsToBeDialled s q addr
+
+-- between two dials of a player a poll is made
+abbrev pub DialsHavePolls : Type 0
+DialsHavePolls = (s : Setting) (before between more : List Item) (q : ℕ) (item next : Item) → IsHistory s (before ++ item ∷ (between ++ next ∷ more)) →
+    IsDialFor q item → IsDialFor q next → SomeIs IsPoll between

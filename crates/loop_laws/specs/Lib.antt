@@ -4,5 +4,6 @@ pub mod Handling
 pub mod Listing
 pub mod Counting
 pub mod Paying
+pub mod Dialling
 pub mod Laws
 pub mod Worked

@@ -1,6 +1,6 @@
 //! Laws of histories, by their items alone: functions that do nothing, whose clauses are proved.
 
-ghost use Rattle.loop_laws.specs.Laws.{FramesAreGiven, FramesAreHandled, ReadsAreListed, WritesAreListed, CountsAreReached, TakesHaveBytes, GivesHaveBytes, SyncsHaveEntries, ClosingsAreLast};
+ghost use Rattle.loop_laws.specs.Laws.{FramesAreGiven, FramesAreHandled, ReadsAreListed, WritesAreListed, CountsAreReached, TakesHaveBytes, GivesHaveBytes, SyncsHaveEntries, ClosingsAreLast, DialsAreWanted, DialsHavePolls};
 
 /// The bytes given on a socket are a front of frames that are spelled one after the other: an own HELLO, then WANT frames and own frames of the
 /// log, in the order of their places. None but the HELLO is given before a HELLO came on the socket with the pass that is wanted of its player.
@@ -35,4 +35,10 @@ pub fn items_are_paid_for()
     ensures gives { GivesHaveBytes }
     ensures syncs { SyncsHaveEntries }
     ensures closings { ClosingsAreLast }
+{}
+
+/// A player is dialled that the roster has above the own one, at its address, and once for each poll.
+pub fn dials_have_causes()
+    ensures wanted { DialsAreWanted }
+    ensures polls { DialsHavePolls }
 {}

@@ -1,0 +1,8 @@
+use Rattle.loop_laws.proofs.Dials.{dials_are_wanted, dials_have_polls}
+use Rattle.loop_laws.proofs.laws.dials_have_causes.Goals as goal
+
+pub returns-clause-wanted : goal.returns-clause-wanted
+returns-clause-wanted c = dials_are_wanted
+
+pub returns-clause-polls : goal.returns-clause-polls
+returns-clause-polls c = dials_have_polls
