@@ -1,4 +1,5 @@
--- Counted: a player's count of own frames goes no further than it asked, or than frames were wholly given to it.
+-- Counted: a player's count of own frames goes no further than it asked, or than frames were
+-- wholly given to it.
 use Rattle.std.proofs.Common.{◌≡◌, ◌⊎◌, inl, inr, ℕ, ◌+◌, Bool, true, false, refl, sym, ap, subst, ◌∙◌, List, [], ◌∷◌, ◌++◌, append_assoc, append-nil, length, max, take, arith, nat_lt, ltb-true, ltb-false}
 use Rattle.std.specs.Prelude.{Option, Some, None, ◌==◌, find, map, flat_map, if◌then◌else◌}
 use Rattle.std.specs.List.{fold}
@@ -186,7 +187,7 @@ module _ (s : Setting) (own : List TurnFrame) (facts : Facts) (h : Hearer) (n : 
       let w = counts_each came t g.frames p links k in
       counts_if (came ++ g.frames) g.reader.bad (at_line n doomed u) u (λ y. w) w
 
--- ---- the counts behind each item
+-- ---- the counts after each item
 
 -- the count is none, or was reached on a socket of the player
 abbrev Reached : Setting → (own : List TurnFrame) → List Item → ℕ → ℕ → Type 0
@@ -295,7 +296,7 @@ count_by : (R : ℕ → ℕ → Type 0) (t : Table) (o : Option ℕ) (c : Seat) 
 count_by R t None c k e = absurd (let x : None ≡ Some c = e in cc)
 count_by R t (Some q) c k e = count_found R q t.seats c k e
 
--- ---- the counts behind an item
+-- ---- the counts after an item
 
 module _ (s : Setting) (items : List Item) (item : Item) (knows : (n : ℕ) → Knows s n items) where
   abbrev v : View

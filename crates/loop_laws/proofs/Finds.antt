@@ -1,4 +1,4 @@
--- Finds: the line of one socket, behind changes of the lines.
+-- Finds: the line of one socket, after changes of the lines.
 use Rattle.std.proofs.Common.{◌≡◌, ℕ, Bool, true, false, refl, sym, ap, subst, ◌∙◌, List, [], ◌∷◌, ◌++◌}
 use Rattle.std.specs.Prelude.{Option, Some, None, ◌==◌, filter, find, map, if◌then◌else◌}
 use Rattle.std.proofs.lemmas.Bool.{eqb-true, eq-eqb}
@@ -43,7 +43,7 @@ line_is n (m ∷ ls) l e = go (m.socket == n) refl e (line_is n ls l)
     go true q r more = (let x : m ≡ l = cc in ap (λ (k : Line). k.socket) (sym x)) ∙ eqb-true m.socket n q
     go false q r more = more r
 
--- so it is of the line behind a change that keeps the sockets
+-- so it is of the line after a change that keeps the sockets
 pub if_mapped : (P Q : Line → Type 0) (n : ℕ) (g : Line → Line) (ls : List Line) → KeepsSocket g → ((l : Line) → line_in n ls ≡ Some l → P l → Q (g l)) → IfLine P (line_in n ls) → IfLine Q (line_in n (map g ls))
 if_mapped P Q n g ls k f p = subst (IfLine Q) (sym (line_mapped n g k ls)) (go (line_in n ls) refl p)
   where

@@ -1,4 +1,5 @@
--- Frames: what is so of the frames that came and were given stays so as more come and more are made.
+-- Frames: what is so of the frames that came and were given stays so as more come and more are
+-- made.
 use Rattle.std.proofs.Common.{◌≡◌, ◌⊎◌, inl, inr, ℕ, ◌+◌, refl, ap, ◌∙◌, List, [], ◌∷◌, ◌++◌}
 use Rattle.std.specs.Prelude.{Option, Some, slice_get}
 use Rattle.definitions.specs.declared.frames.TurnFrame.{TurnFrame}
@@ -31,7 +32,7 @@ named_more s came gs q n = (n.0, n.1, n.2 ++ gs, n.3, ap (λ (x : List Frame). x
 pub asked_last : (came : List Frame) (f : Frame) (place : ℕ) → AsksFor f place → IsAsked (came ++ f ∷ []) place
 asked_last came f place a = (f, Has_back came (f ∷ []) f (inl refl), a)
 
--- ---- the frames given, with the place that comes next behind them
+-- ---- the frames given, with the place that comes next after them
 
 abbrev pub Goes : (own : List TurnFrame) → (came : List Frame) → (next : Option ℕ) → List Frame → (last : Option ℕ) → Type 0
 Goes own came next [] last = next ≡ last

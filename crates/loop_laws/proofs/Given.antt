@@ -38,7 +38,7 @@ use Rattle.loop_laws.proofs.Hearing.{Linked}
 use Rattle.loop_laws.proofs.Owns.{SyncedSo, log_kept_in, owns_after, synced_after}
 use Rattle.loop_laws.proofs.Steps.{facts_after, links_after, line_after, line_owns, said_after, said_owns}
 
--- ---- behind one more item
+-- ---- after one more item
 
 pub record At (s : Setting) (n : ℕ) (v : View) (facts : Facts) : Type 0 where
   pub setting : v.setting ≡ s
@@ -173,7 +173,7 @@ pub record Knows (s : Setting) (n : ℕ) (items : List Item) : Type 0 where
   pub at : At s n (view_of s items) (facts_in n items)
   pub synced : SyncedSo s.game.id s.me (view_of s items) (synced_in items)
 
--- so it is behind a view of the items
+-- so it is after a view of the items
 record KnowsIn (s : Setting) (n : ℕ) (items : List Item) (v : View) (facts : Facts) (log : Log) : Type 0 where
   told : IsTold items v
   empty : standing_in items n ≡ Fresh → facts ≡ no_facts
@@ -236,7 +236,7 @@ knows_none s n = record {
   synced = (kept_bytes_are_the_log s [] refl, le_refl 0);
 }
 
--- so it is behind each history
+-- so it is after each history
 pub knows_in : (s : Setting) (n : ℕ) (items : List Item) → SocketsAreNew items → IsHistory s items → Knows s n items
 knows_in s n items new h = knows_all s n [] items h new (knows_none s n)
 

@@ -175,7 +175,7 @@ silent : (s : Setting) (own : List TurnFrame) (dialled : List ℕ) (came : List 
 silent s own dialled came unsent hello name by [] last next e k = (refl, k.1)
 silent s own dialled came unsent hello name by (f ∷ more) last next e k = absurd (let x : None ≡ Some next = sym k.0 ∙ e in cc)
 
--- behind it one more frame is given
+-- after it one more frame is given
 spoken_then : (s : Setting) (own : List TurnFrame) (dialled : List ℕ) (came : List Frame) (unsent left : List ℕ) (hello name by : Option ℕ) (frames : List Frame) (last next : Option ℕ) (f : Frame) (q : ℕ) →
     hello ≡ None → name ≡ Some q → IsNamed s came q → ((fs : List Frame) → Goes own came None fs last → Goes own came None (fs ++ f ∷ []) next) →
     SpokenSo s own dialled came unsent hello name by frames last → SpokenSo s own dialled came left hello name by (frames ++ f ∷ []) next
@@ -287,7 +287,7 @@ told_gave s own facts d bytes linked whose player h k = told_marked s own all e.
         (subst (λ (x : List ℕ). Part s own all d.line (drop (length bytes) x)) same
         (going s own facts d.line bytes (λ x. let z : b ∷ rest ≡ [] = sym same ∙ x in cc) (ap (is_front bytes) same ∙ f) k))
 
--- ---- what counts as given behind it
+-- ---- what counts as given after it
 
 -- the own frame at the place stands among these frames
 abbrev HasTurn : (own : List TurnFrame) → List Frame → (place : ℕ) → Type 0
@@ -456,7 +456,7 @@ other_gave s P n m own count t None other e p = p
 other_gave s P n m own count t (Some l) other e p =
     other_desk s P n m (own_at own l) count t l (seat_by t (player_of l)) other (line_is m t.lines l e) p
 
--- the line of the socket itself is known behind the bytes
+-- the line of the socket itself is known after the bytes
 own_desk : (s : Setting) (own : List TurnFrame) (facts : Facts) (n : ℕ) (bytes : List ℕ) (t : Table) (l : Line) (o : Option Seat) → Linked (λ link. Has s.roster.links link) t.seats → line_in n t.lines ≡ Some l →
     seat_by t (player_of l) ≡ o → is_front bytes (due_at (speaker_of s) (own_at own l) (desk_with l o)) ≡ true → Told s own facts l →
     IfLine (Told s own (with_given facts (facts.given ++ bytes))) (line_in n (gave_with (speaker_of s) (own_at own l) (length bytes) t (desk_with l o)).lines)

@@ -1,4 +1,5 @@
--- Handled: the entries kept behind a piece of bytes handle the frames of turns that it brought, one after the other.
+-- Handled: the entries kept after a piece of bytes handle the frames of turns that it brought,
+-- one after the other.
 use Rattle.std.proofs.Common.{◌≡◌, ℕ, Bool, true, false, refl, sym, ap, subst, ◌∙◌, List, [], ◌∷◌, ◌++◌, append_assoc, append-nil, length}
 use Rattle.std.specs.Prelude.{Option, Some, None, ◌==◌, ◌&&◌, ◌||◌, not, drop, if◌then◌else◌}
 use Rattle.std.proofs.lemmas.Bool.{and_parts, eq-eqb, false≢true}
@@ -109,7 +110,7 @@ rest_same : (s : Setting) (q : ℕ) (v w : View) (frames : List TurnFrame) (item
 rest_same s q v w frames items e r =
     (r.0, r.1 ∙ ap (λ (x : List Entry). x ++ r.0) e, subst (λ (x : List Entry). Handles s.game s.me q x frames r.0) e r.2)
 
--- the frames of the rest, behind an entry
+-- the frames of the rest, after an entry
 abbrev Next : Setting → (q : ℕ) → View → List TurnFrame → Entry → Type 0
 Next s q v frames e = (left : List TurnFrame) × Waits s q (kept_entry v (Some e)) left × ((added : List Entry) → Handles s.game s.me q (v.kept ++ e ∷ []) left added → Handles s.game s.me q v.kept frames (e ∷ added))
 
@@ -133,7 +134,8 @@ next_entry s q v frames (Got p f) h k = next_got s q v frames p f v.phase refl h
 
 -- ---- the items between
 
--- any item but one with which the loop goes on leaves the log and the frames that wait, or keeps an entry
+-- any item but one with which the loop goes on leaves the log and the frames that wait, or keeps
+-- an entry
 abbrev Passes : Setting → (q : ℕ) → View → List TurnFrame → Item → Type 0
 Passes s q v frames item = Waits s q (after v item) frames × ((after v item).kept ≡ v.kept)
 
@@ -148,7 +150,7 @@ not_fresh KeepFault l h = false≢true h
 not_fresh PollFault l h = false≢true h
 
 module _ (s : Setting) (q : ℕ) where
-  -- the frames that are left behind an entry that is kept
+  -- the frames that are left after an entry that is kept
   rest_kept : (v : View) (frames : List TurnFrame) (bytes : List ℕ) (o : Option Entry) (items : List Item) → may_keep_as v bytes o ≡ true → Waits s q v frames →
       ((w : View) (left : List TurnFrame) → w ≡ kept_entry v o → Waits s q w left → Rest s q w left items) → (added : List Entry) × ((view_after (kept_entry v o) items).kept ≡ v.kept ++ added) × Handles s.game s.me q v.kept frames added
   rest_kept v frames bytes None items h k more = absurd (false≢true h)
@@ -162,7 +164,7 @@ module _ (s : Setting) (q : ℕ) where
   rest_passed : (v : View) (frames : List TurnFrame) (item : Item) (items : List Item) → Passes s q v frames item → (Waits s q (after v item) frames → Rest s q (after v item) frames items) → Rest s q v frames (item ∷ items)
   rest_passed v frames item items p more = rest_same s q v (after v item) frames items p.1 (more p.0)
 
-  -- an item between, and those behind it
+  -- an item between, and those after it
   rest_item : (v : View) (frames : List TurnFrame) (item : Item) (items : List Item) → is_allowed v item ≡ true → (GoesOn item → ⊥) → Waits s q v frames →
       ((w : View) (left : List TurnFrame) → w ≡ after v item → Waits s q w left → Rest s q w left items) → Rest s q v frames (item ∷ items)
   rest_item v frames (Took m bytes) items h n k more = absurd (n tt)

@@ -107,7 +107,7 @@ module _ (L : Link → Type 0) (h : Hearer) (m : ℕ) where
 
 -- ---- what holds of the line, whatever comes
 
--- it stays behind each change that a frame makes
+-- it stays after each change that a frame makes
 module _ (P : Line → Type 0) (h : Hearer) (n m : ℕ) (dooms : (l : Line) → P l → P (doomed l)) (at_doomed : (t : Table) → IfLine P (line_in n t.lines) → IfLine P (line_in n (at_line m doomed t).lines))
     (at_moved : (place : ℕ) (t : Table) → IfLine P (line_in n t.lines) → IfLine P (line_in n (at_line m (moved_to place) t).lines))
     (at_named : (q from next : ℕ) (t : Table) → IfLine P (line_in n t.lines) → IfLine P (line_in n (at_line m (named_line q from next) t).lines)) where

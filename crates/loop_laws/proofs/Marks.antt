@@ -79,9 +79,9 @@ lists_so (Kept bytes) n e = absurd (false≢true e)
 lists_so Synced n e = absurd (false≢true e)
 lists_so (Failed call) n e = absurd (false≢true e)
 
--- ---- what stays behind each item but such a poll
+-- ---- what stays after each item but such a poll
 
--- what holds of a line stays behind all changes but a poll's and bytes that are given
+-- what holds of a line stays after all changes but a poll's and bytes that are given
 record Keeping (P : Line → Type 0) : Type 0 where
   closes : (l : Line) → P l → P (closed l)
   quiets : (l : Line) → P l → P (quieted l)
@@ -182,7 +182,7 @@ module _ (P : Line → Type 0) (k : Keeping P) (n : ℕ) where
             subst (λ (w : View). So w.table) (sym (fold-append after (start s) front (item ∷ []))) (marks_after v item allowed not_new e k.told.differ (gives v) u.1),
           )
 
-  -- a poll among these items lists the socket, or it is so behind them
+  -- a poll among these items lists the socket, or it is so after them
   abbrev Listed : Setting → (front between : List Item) → Type 0
   Listed s front between = SomeIs (Lists n) between ⊎ Used s (front ++ between)
 
@@ -368,7 +368,7 @@ any_line : (o : Option Line) → IfLine (λ l. Unit {0}) o
 any_line None = tt
 any_line (Some l) = tt
 
--- behind an answer that marks the line, which was there
+-- after an answer that marks the line, which was there
 marked_used : (s : Setting) (n : ℕ) (P : Line → Type 0) (front : List Item) (item : Item) (tail : List Item) → SocketsAreNew (front ++ item ∷ tail) → IsHistory s (front ++ item ∷ tail) →
     (l : Line) → line_in n (view_of s front).table.lines ≡ Some l → IfLine P (line_in n (after (view_of s front) item).table.lines) →
     (standing_in (front ++ item ∷ []) n ≡ Fresh → ⊥) × IfLine P (line_in n (view_of s (front ++ item ∷ [])).table.lines)
@@ -379,11 +379,11 @@ marked_used s n P front item tail new h l e p =
       subst (λ (w : View). IfLine P (line_in n w.table.lines)) (sym (fold-append after (start s) front (item ∷ []))) p,
     )
 
--- the items, with the first one and those behind it apart
+-- the items, with the first one and those after it apart
 apart : (front : List Item) (item : Item) (between : List Item) (next : Item) (more : List Item) → (front ++ item ∷ []) ++ (between ++ next ∷ more) ≡ front ++ item ∷ (between ++ next ∷ more)
 apart front item between next more = append_assoc front (item ∷ []) (between ++ next ∷ more)
 
--- the item behind them may come there
+-- the item after them may come there
 next_allowed : (s : Setting) (front : List Item) (item : Item) (between : List Item) (next : Item) (more : List Item) → IsHistory s (front ++ item ∷ (between ++ next ∷ more)) →
     is_allowed (view_of s ((front ++ item ∷ []) ++ between)) next ≡ true
 next_allowed s front item between next more h =

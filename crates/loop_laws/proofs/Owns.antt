@@ -1,4 +1,5 @@
--- Owns: the own frames that may be given grow as entries are kept and synced, and stand in the bytes that were.
+-- Owns: the own frames that may be given grow as entries are kept and synced, and stand in the
+-- bytes that were.
 use Rattle.std.proofs.Common.{◌≡◌, ℕ, zero, suc, ◌≤◌, refl, sym, ap, subst, ◌∙◌, List, [], ◌∷◌, ◌++◌, length, take, drop, append_assoc, append-nil, take-append-drop, take_all, le_refl, length-append, arith}
 use Rattle.std.specs.Prelude.{Option, Some, None, slice_get}
 use Rattle.std.specs.List.{fold}

@@ -15,7 +15,8 @@ use Rattle.loop_rules.specs.Laws.{IsWanted}
 use Rattle.loop_laws.specs.Speaking.{IsNamed, IsAsked, IsOwnHello, AnyNamed, Speaks}
 use Rattle.loop_laws.proofs.Frames.{OwnMore, AskedMore, NamedMore, HasMore, Goes, asked_more, named_more, asked_last, goes_follows, goes_more, follows_more, hello_more, any_more}
 
--- what the items say of the socket: for whom it was dialled, what its reader holds, the frames that came and the bytes that were given
+-- what the items say of the socket: for whom it was dialled, what its reader holds, the frames
+-- that came and the bytes that were given
 pub record Facts : Type 0 where
   pub dialled : List ℕ
   pub reader : Reading
@@ -37,7 +38,8 @@ abbrev pub JumpSo : (came : List Frame) → Option ℕ → Type 0
 JumpSo came None = Unit {0}
 JumpSo came (Some place) = IsAsked came place
 
--- the own frame that is given in part is the last one; else the cursor stands at the one that comes next
+-- the own frame that is given in part is the last one; else the cursor stands at the one that
+-- comes next
 abbrev pub CursorSo : (came : List Frame) → (name last sending : Option ℕ) → (cursor : ℕ) → Type 0
 CursorSo came name last None cursor = (name ≡ None) ⊎ ((last ≡ Some cursor) ⊎ IsAsked came cursor)
 CursorSo came name last (Some place) cursor = last ≡ Some (place + 1)
@@ -243,7 +245,7 @@ told_moved s own facts place l a k = go l.sending refl
 
 -- ---- a HELLO that names the socket
 
--- the own HELLO is due behind it, or was given
+-- the own HELLO is due after it, or was given
 abbrev hello_then : (by hello : Option ℕ) → (next : ℕ) → Option ℕ
 hello_then by hello next = if is_none by then Some next else hello
 

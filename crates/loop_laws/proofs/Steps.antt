@@ -1,4 +1,4 @@
--- Steps: what is known of one socket behind each item.
+-- Steps: what is known of one socket after each item.
 use Rattle.std.proofs.Common.{◌≡◌, inl, ℕ, Bool, true, false, refl, sym, ap, subst, ◌∙◌, List, [], ◌∷◌, ◌++◌, length}
 use Rattle.std.specs.Prelude.{Option, Some, None, ◌==◌, ◌||◌, not, nat_lt, if◌then◌else◌}
 use Rattle.std.specs.List.{fold}
@@ -85,7 +85,7 @@ passed_table P v a k p = go (is_far v.setting.game v.setting.me v.kept a.player 
     go true = k (next_of v a.player) p
     go false = p
 
--- what holds of a table, whatever waits and whoever is to be asked, holds behind it
+-- what holds of a table, whatever waits and whoever is to be asked, holds after it
 pub sorted_table : (P : Table → Type 0) → ((t : Table) (waiting : List Arrival) → P t → P (record t { waiting = waiting })) → ((t : Table) (q place : ℕ) → P t → P (at_seat q (asks place) t)) →
     (arrivals : List Arrival) (v : View) → P v.table → P (sorted arrivals v).table
 sorted_table P w k [] v p = w v.table [] p
@@ -316,7 +316,7 @@ own_took v own facts n bytes (Some l) e k p =
 
 -- ---- all items
 
--- the item may come behind the view, and the socket is new where it opens it
+-- the item may come after the view, and the socket is new where it opens it
 module _ (v : View) (facts : Facts) (n : ℕ) (links : Linked (λ link. Has v.setting.roster.links link) v.table.seats) (differ : Differ v.table.lines)
     (p : IfLine (Told v.setting (safe_frames v) facts) (line_in n v.table.lines)) where
   abbrev safe : List TurnFrame

@@ -1,4 +1,5 @@
--- Waiting: the frames that wait behind bytes of a named socket are those of turns that they brought.
+-- Waiting: the frames that wait after bytes of a named socket are those of turns that they
+-- brought.
 use Rattle.std.proofs.Common.{◌≡◌, ℕ, Bool, true, false, refl, sym, ap, subst, ◌∙◌, List, [], ◌∷◌, ◌++◌, append_assoc, append-nil, length}
 use Rattle.std.specs.Prelude.{Option, Some, None, ◌==◌, not, map, if◌then◌else◌}
 use Rattle.std.specs.List.{fold}
@@ -93,7 +94,7 @@ named_line q n t None u h f = absurd u
 named_line q n t (Some l) u h f =
     ap (λ (b : Bool). if b then t else heard_by h t n l l.name f) u.1 ∙ ap (λ (o : Option ℕ). heard_by h t n l o f) u.0
 
--- the frames of turns that come wait behind those that do
+-- the frames of turns that come wait after those that do
 abbrev Brings : (q : ℕ) → Table → List Frame → Table → Type 0
 Brings q t fs u = u.waiting ≡ t.waiting ++ arrivals q (turns_of q fs)
 

@@ -16,7 +16,9 @@ pub record IsWhollyGiven (own : List TurnFrame) (given : List ℕ) (place : ℕ)
   pub rest : List ℕ
   pub spelled : given ≡ flat_map spelling (front ++ Turn frame ∷ back) ++ rest
 
--- on a socket of the player, where these frames came and these bytes were given, it asked for the own frames from there on, or the one before was
--- wholly given
-abbrev pub IsReachedOn : Setting → (own : List TurnFrame) → (came : List Frame) → (given : List ℕ) → (q : ℕ) → (count : ℕ) → Type 0
-IsReachedOn s own came given q count = IsNamed s came q × (IsAsked came count ⊎ ((place : ℕ) × (count ≡ place + 1) × IsWhollyGiven own given place))
+-- on a socket of the player, where these frames came and these bytes were given, it asked for the
+-- own frames from there on, or the one before was wholly given
+abbrev pub IsReachedOn : Setting → (own : List TurnFrame) → (came : List Frame) →
+    (given : List ℕ) → (q : ℕ) → (count : ℕ) → Type 0
+IsReachedOn s own came given q count = IsNamed s came q ×
+    (IsAsked came count ⊎ ((place : ℕ) × (count ≡ place + 1) × IsWhollyGiven own given place))

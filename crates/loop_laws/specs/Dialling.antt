@@ -19,4 +19,5 @@ IsPoll _ = ⊥
 
 -- the roster has the player at this address, and it is one above the own one
 abbrev pub IsToBeDialled : Setting → (q : ℕ) → Addr → Type 0
-IsToBeDialled s q addr = (link : Link) × Has s.roster.links link × (link.player ≡ q) × (s.me < q) × IsTrue (addr_eq addr (told_addr link.addr))
+IsToBeDialled s q addr = (link : Link) × Has s.roster.links link × (link.player ≡ q) × (s.me < q) ×
+    IsTrue (addr_eq addr (told_addr link.addr))

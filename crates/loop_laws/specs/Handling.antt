@@ -11,7 +11,8 @@ use Rattle.wire_frames.specs.declared.frames.Frame.{Frame}
 use Rattle.wire_frames.specs.declared.frames.Frame.TheVariants.{Hello, Turn, Want}
 use Rattle.socket_station.specs.Items.{Item, PollCall, Polled, Took, Failed}
 
--- The frames of turns that come on a player's socket, up to the first frame that may not come there: a further HELLO, or a frame of another player.
+-- The frames of turns that come on a player's socket, up to the first frame that may not come
+-- there: a further HELLO, or a frame of another player.
 abbrev pub turns_of : (q : ℕ) → List Frame → List TurnFrame
 turns_of q [] = []
 turns_of q (Hello id p pass next ∷ more) = []
@@ -24,14 +25,17 @@ from_new game me q log [] = []
 from_new game me q log (f ∷ more) =
     if not (is_clean game log) then [] else if is_new game me log q f then f ∷ more else from_new game me q log more
 
--- The entries are added to the log while these frames of the player are handled in their order. A frame that is not new to the log, when it is its turn,
--- is passed over; one that is new is the next that is logged as received. Own entries may come between, and no frame is left in the end.
-abbrev pub Handles : Game → (me q : ℕ) → (log : List Entry) → List TurnFrame → (added : List Entry) → Type 0
+-- The entries are added to the log while these frames of the player are handled in their order. A
+-- frame that is not new to the log, when it is its turn, is passed over; one that is new is the
+-- next that is logged as received. Own entries may come between, and no frame is left in the end.
+abbrev pub Handles : Game → (me q : ℕ) → (log : List Entry) → List TurnFrame →
+    (added : List Entry) → Type 0
 Handles game me q log frames [] = from_new game me q log frames ≡ []
 Handles game me q log frames (Chose t m n ∷ added) = Handles game me q (log ++ Chose t m n ∷ []) (from_new game me q log frames) added
 Handles game me q log frames (Made f ∷ added) = Handles game me q (log ++ Made f ∷ []) (from_new game me q log frames) added
 Handles game me q log frames (Got p f ∷ added) =
-    (rest : List TurnFrame) × (p ≡ q) × (from_new game me q log frames ≡ f ∷ rest) × Handles game me q (log ++ Got p f ∷ []) rest added
+    (rest : List TurnFrame) × (p ≡ q) × (from_new game me q log frames ≡ f ∷ rest) ×
+    Handles game me q (log ++ Got p f ∷ []) rest added
 
 -- further bytes are taken, or a poll is made, or fails
 abbrev pub GoesOn : Item → Type 0

@@ -23,8 +23,8 @@ use Rattle.loop_laws.specs.Listing.{IsRead, IsWrite, Lists, SomeIs}
 use Rattle.loop_laws.specs.Dialling.{IsDialFor, IsPoll, IsToBeDialled}
 use Rattle.loop_laws.specs.Paying.{Closes, IsKept, Touches}
 
--- The bytes given on the socket are the first ones of these frames' spellings, one after the other, where the own frames are those of the log that
--- was kept and then synced.
+-- The bytes given on the socket are the first ones of these frames' spellings, one after the
+-- other, where the own frames are those of the log that was kept and then synced.
 pub record GivesFrames (s : Setting) (items : List Item) (socket : ℕ) : Type 0 where
   pub log : List Entry
   pub frames : List Frame
@@ -36,11 +36,13 @@ pub record GivesFrames (s : Setting) (items : List Item) (socket : ℕ) : Type 0
 
 -- in each history frames alone are given, on each socket, as they may be given there
 abbrev pub FramesAreGiven : Type 0
-FramesAreGiven = (s : Setting) (items : List Item) (socket : ℕ) → SocketsAreNew items → IsHistory s items → GivesFrames s items socket
+FramesAreGiven = (s : Setting) (items : List Item) (socket : ℕ) → SocketsAreNew items →
+    IsHistory s items → GivesFrames s items socket
 
--- The bytes that were taken on the player's socket bring these frames behind those that came before, and the entries that were kept behind them handle
--- those of turns.
-pub record HandlesFrames (s : Setting) (before : List Item) (socket q : ℕ) (bytes : List ℕ) (between : List Item) : Type 0 where
+-- The bytes that were taken on the player's socket bring these frames after those that came
+-- before, and the entries that were kept after them handle those of turns.
+pub record HandlesFrames (s : Setting) (before : List Item) (socket q : ℕ) (bytes : List ℕ)
+    (between : List Item) : Type 0 where
   pub frames : List Frame
   pub log : List Entry
   pub added : List Entry
@@ -49,54 +51,75 @@ pub record HandlesFrames (s : Setting) (before : List Item) (socket q : ℕ) (by
   pub kept_then : kept_in (before ++ Took socket bytes ∷ between) ≡ log_bytes s.game.id s.me (log ++ added)
   pub handles : Handles s.game s.me q log (turns_of q frames) added
 
--- Where a HELLO of the player came first on a socket, and then bytes are taken there, their frames are handled before the loop takes further bytes or polls.
+-- Where a HELLO of the player came first on a socket, and then bytes are taken there, their
+-- frames are handled before the loop takes further bytes or polls. Until a HELLO came no more is
+-- read of a socket than that has, so no frame comes in one piece with it.
 abbrev pub FramesAreHandled : Type 0
-FramesAreHandled = (s : Setting) (before between more : List Item) (socket q : ℕ) (bytes : List ℕ) (last : Item) (id pass : List ℕ) (next : ℕ) (rest : List Frame) →
-    SocketsAreNew (before ++ Took socket bytes ∷ (between ++ last ∷ more)) → IsHistory s (before ++ Took socket bytes ∷ (between ++ last ∷ more)) →
-    came_on socket before ≡ Hello id q pass next ∷ rest → EachIs (λ item. GoesOn item → ⊥) between → GoesOn last → HandlesFrames s before socket q bytes between
+FramesAreHandled = (s : Setting) (before between more : List Item) (socket q : ℕ) (bytes : List ℕ)
+    (last : Item) (id pass : List ℕ) (next : ℕ) (rest : List Frame) →
+    SocketsAreNew (before ++ Took socket bytes ∷ (between ++ last ∷ more)) →
+    IsHistory s (before ++ Took socket bytes ∷ (between ++ last ∷ more)) →
+    came_on socket before ≡ Hello id q pass next ∷ rest →
+    EachIs (λ item. GoesOn item → ⊥) between → GoesOn last →
+    HandlesFrames s before socket q bytes between
 
 -- between a read that found nothing and the next read of the socket a poll listed it
 abbrev pub ReadsAreListed : Type 0
-ReadsAreListed = (s : Setting) (before between more : List Item) (socket : ℕ) (next : Item) → SocketsAreNew (before ++ ReadNotYet socket ∷ (between ++ next ∷ more)) →
-    IsHistory s (before ++ ReadNotYet socket ∷ (between ++ next ∷ more)) → IsRead socket next → SomeIs (Lists socket) between
+ReadsAreListed = (s : Setting) (before between more : List Item) (socket : ℕ) (next : Item) →
+    SocketsAreNew (before ++ ReadNotYet socket ∷ (between ++ next ∷ more)) →
+    IsHistory s (before ++ ReadNotYet socket ∷ (between ++ next ∷ more)) → IsRead socket next →
+    SomeIs (Lists socket) between
 
 -- and so it is between a write that was refused and the next write
 abbrev pub WritesAreListed : Type 0
-WritesAreListed = (s : Setting) (before between more : List Item) (socket : ℕ) (next : Item) → SocketsAreNew (before ++ WriteNotYet socket ∷ (between ++ next ∷ more)) →
-    IsHistory s (before ++ WriteNotYet socket ∷ (between ++ next ∷ more)) → IsWrite socket next → SomeIs (Lists socket) between
+WritesAreListed = (s : Setting) (before between more : List Item) (socket : ℕ) (next : Item) →
+    SocketsAreNew (before ++ WriteNotYet socket ∷ (between ++ next ∷ more)) →
+    IsHistory s (before ++ WriteNotYet socket ∷ (between ++ next ∷ more)) → IsWrite socket next →
+    SomeIs (Lists socket) between
 
 -- The count is none, or it was reached on a socket of the player.
 pub record CountIsReached (s : Setting) (items : List Item) (q count : ℕ) : Type 0 where
   pub log : List Entry
   pub synced : synced_in items ≡ log_bytes s.game.id s.me log
-  pub reached : (count ≡ 0) ⊎ ((socket : ℕ) × IsReachedOn s (made log) (came_on socket items) (given_in socket items) q count)
+  pub reached : (count ≡ 0) ⊎ ((socket : ℕ) ×
+      IsReachedOn s (made log) (came_on socket items) (given_in socket items) q count)
 
--- The loop counts own frames as given to a player up to a place for which this one asked, or up to one that was wholly given to it.
+-- The loop counts own frames as given to a player up to a place for which this one asked, or up
+-- to one that was wholly given to it.
 abbrev pub CountsAreReached : Type 0
-CountsAreReached = (s : Setting) (items : List Item) (q : ℕ) (c : Seat) → SocketsAreNew items → IsHistory s items → seat_of (view_of s items).table q ≡ Some c → CountIsReached s items q c.given
+CountsAreReached = (s : Setting) (items : List Item) (q : ℕ) (c : Seat) → SocketsAreNew items →
+    IsHistory s items → seat_of (view_of s items).table q ≡ Some c →
+    CountIsReached s items q c.given
 
 -- where bytes are taken, or given, there is one at least
 abbrev pub TakesHaveBytes : Type 0
-TakesHaveBytes = (s : Setting) (before more : List Item) (socket : ℕ) (bytes : List ℕ) → IsHistory s (before ++ Took socket bytes ∷ more) → 0 < length bytes
+TakesHaveBytes = (s : Setting) (before more : List Item) (socket : ℕ) (bytes : List ℕ) →
+    IsHistory s (before ++ Took socket bytes ∷ more) → 0 < length bytes
 
 abbrev pub GivesHaveBytes : Type 0
-GivesHaveBytes = (s : Setting) (before more : List Item) (socket : ℕ) (bytes : List ℕ) → IsHistory s (before ++ Gave socket bytes ∷ more) → 0 < length bytes
+GivesHaveBytes = (s : Setting) (before more : List Item) (socket : ℕ) (bytes : List ℕ) →
+    IsHistory s (before ++ Gave socket bytes ∷ more) → 0 < length bytes
 
 -- between two syncs an entry is kept
 abbrev pub SyncsHaveEntries : Type 0
-SyncsHaveEntries = (s : Setting) (before between more : List Item) → IsHistory s (before ++ Synced ∷ (between ++ Synced ∷ more)) → SomeIs IsKept between
+SyncsHaveEntries = (s : Setting) (before between more : List Item) →
+    IsHistory s (before ++ Synced ∷ (between ++ Synced ∷ more)) → SomeIs IsKept between
 
--- behind the end of a socket nothing is done with it
+-- after the end of a socket nothing is done with it
 abbrev pub ClosingsAreLast : Type 0
-ClosingsAreLast = (s : Setting) (before between more : List Item) (socket : ℕ) (item next : Item) → SocketsAreNew (before ++ item ∷ (between ++ next ∷ more)) →
-    IsHistory s (before ++ item ∷ (between ++ next ∷ more)) → Closes socket item → Touches socket next → ⊥
+ClosingsAreLast = (s : Setting) (before between more : List Item) (socket : ℕ) (item next : Item) →
+    SocketsAreNew (before ++ item ∷ (between ++ next ∷ more)) →
+    IsHistory s (before ++ item ∷ (between ++ next ∷ more)) → Closes socket item →
+    Touches socket next → ⊥
 
 -- a socket is dialled for a player of the roster, at its address
 abbrev pub DialsAreWanted : Type 0
-DialsAreWanted = (s : Setting) (before more : List Item) (socket q : ℕ) (addr : Addr) → SocketsAreNew (before ++ Dialled socket q addr ∷ more) →
+DialsAreWanted = (s : Setting) (before more : List Item) (socket q : ℕ) (addr : Addr) →
+    SocketsAreNew (before ++ Dialled socket q addr ∷ more) →
     IsHistory s (before ++ Dialled socket q addr ∷ more) → IsToBeDialled s q addr
 
 -- between two dials of a player a poll is made
 abbrev pub DialsHavePolls : Type 0
-DialsHavePolls = (s : Setting) (before between more : List Item) (q : ℕ) (item next : Item) → IsHistory s (before ++ item ∷ (between ++ next ∷ more)) →
+DialsHavePolls = (s : Setting) (before between more : List Item) (q : ℕ) (item next : Item) →
+    IsHistory s (before ++ item ∷ (between ++ next ∷ more)) →
     IsDialFor q item → IsDialFor q next → SomeIs IsPoll between

@@ -20,6 +20,8 @@ dialled_at n _ = []
 abbrev pub dialled_for : (socket : ℕ) → List Item → List ℕ
 dialled_for n items = flat_map (dialled_at n) items
 
--- the numbers of the sockets that each item opens are new behind the items before it, as a station promises
+-- the numbers of the sockets that each item opens are new after the items before it, as a
+-- station promises
 abbrev pub SocketsAreNew : List Item → Type 0
-SocketsAreNew items = (before more : List Item) (item : Item) → items ≡ before ++ item ∷ more → OpensNew before item
+SocketsAreNew items = (before more : List Item) (item : Item) → items ≡ before ++ item ∷ more →
+    OpensNew before item

@@ -32,10 +32,12 @@ HandlesItsFrames =
     Handles game 0 1 (chose ∷ committed ∷ []) (turns_of 1 (Turn (commit_by game 1 0 4 9) ∷ [])) (got_commit ∷ revealed ∷ []) ×
     (from_new game 0 1 (chose ∷ committed ∷ []) (far_frame ∷ []) ≡ [])
 
--- the other's HELLO, which asks for the second own frame: the first one counts as given, and none was
+-- the other's HELLO, which asks for the second own frame: the first one counts as given, and none
+-- was
 abbrev pub asking_further : List Item
 asking_further = greeting ++ Polled (Seems 0 ∷ []) ∷ Took 0 (other_hello 1) ∷ []
 
 unfoldable pub CountsWhatIsAskedFor : Type 0
 CountsWhatIsAskedFor =
-    (option_map (λ c. c.given) (seat_of (view_after begun asking_further).table 1) ≡ Some 1) × (given_in 0 asking_further ≡ hello_of 0)
+    (option_map (λ c. c.given) (seat_of (view_after begun asking_further).table 1) ≡ Some 1) ×
+    (given_in 0 asking_further ≡ hello_of 0)

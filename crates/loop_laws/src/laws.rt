@@ -2,34 +2,38 @@
 
 ghost use Rattle.loop_laws.specs.Laws.{FramesAreGiven, FramesAreHandled, ReadsAreListed, WritesAreListed, CountsAreReached, TakesHaveBytes, GivesHaveBytes, SyncsHaveEntries, ClosingsAreLast, DialsAreWanted, DialsHavePolls};
 
-/// The bytes given on a socket are a front of frames that are spelled one after the other: an own HELLO, then WANT frames and own frames of the
-/// log, in the order of their places. None but the HELLO is given before a HELLO came on the socket with the pass that is wanted of its player.
+/// The bytes given on a socket are a front of frames that are spelled one after the other: an own
+/// HELLO, then WANT frames and own frames of the log, in the order of their places. None but the
+/// HELLO is given before a HELLO came on the socket with the pass that is wanted of its player.
 pub fn frames_are_given()
     ensures { FramesAreGiven }
 {}
 
-/// Each frame that comes on a named socket is handled, in its order, before the loop takes further bytes or polls: one that is new to the log at its
-/// turn is logged as received, as long as the log has no finding and no keep fails.
+/// Each frame that comes on a named socket is handled, in its order, before the loop takes
+/// further bytes or polls: one that is new to the log at its turn is logged as received, as long
+/// as the log has no finding and no keep fails.
 pub fn frames_are_handled()
     ensures { FramesAreHandled }
 {}
 
-/// A socket of which a read found nothing is read again only after a poll listed it. So it is of a socket to which a write was refused, and the next
-/// write.
+/// A socket of which a read found nothing is read again only after a poll listed it. So it is of
+/// a socket to which a write was refused, and the next write.
 pub fn sockets_are_listed()
     ensures reads { ReadsAreListed }
     ensures writes { WritesAreListed }
 {}
 
-/// The own frames that count as given to a player are those below a place that it asked for, or up to one that was wholly given to it, each on a
-/// socket that its pass had named. `Loop::given` answers by this count.
+/// The own frames that count as given to a player are those below a place that it asked for, or
+/// up to one that was wholly given to it, each on a socket that its pass had named. `Loop::given`
+/// answers by this count.
 pub fn counts_are_reached()
     ensures { CountsAreReached }
 {}
 
-/// Each kind of item comes only so often. Where bytes are taken or given there is one at least, between two syncs an entry is kept, and behind the
-/// end of a socket nothing is done with it. What is read or written in vain comes once for each opening and each poll that lists the socket, by
-/// `sockets_are_listed`.
+/// Each kind of item comes only so often. Where bytes are taken or given there is one at least,
+/// between two syncs an entry is kept, and after the end of a socket nothing is done with it.
+/// What is read or written in vain comes once for each opening and each poll that lists the
+/// socket, by `sockets_are_listed`.
 pub fn items_are_paid_for()
     ensures takes { TakesHaveBytes }
     ensures gives { GivesHaveBytes }
@@ -37,7 +41,8 @@ pub fn items_are_paid_for()
     ensures closings { ClosingsAreLast }
 {}
 
-/// A player is dialled that the roster has above the own one, at its address, and once for each poll.
+/// A player is dialled that the roster has above the own one, at its address, and once for each
+/// poll.
 pub fn dials_have_causes()
     ensures wanted { DialsAreWanted }
     ensures polls { DialsHavePolls }
