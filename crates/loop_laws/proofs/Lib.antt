@@ -13,4 +13,5 @@ mod Marks
 mod Counted
 mod Paid
 mod Dials
+mod Strangers
 mod Computed

@@ -1,5 +1,5 @@
 -- Laws: what each history says, by its items alone.
-use Rattle.std.specs.Prelude.{◌≡◌, ◌⊎◌, ◌<◌, ℕ, length, List, [], ◌∷◌, ◌++◌, Some, flat_map}
+use Rattle.std.specs.Prelude.{◌≡◌, ◌⊎◌, ◌<◌, ◌≤◌, ℕ, length, List, [], ◌∷◌, ◌++◌, Some, flat_map}
 use Rattle.definitions.specs.Lists.{EachIs}
 use Rattle.definitions.specs.declared.logs.Entry.{Entry}
 use Rattle.definitions.specs.Logs.{made}
@@ -9,7 +9,8 @@ use Rattle.wire_frames.specs.Spelling.{spelling}
 use Rattle.session_log.specs.Spelling.{log_bytes}
 use Rattle.socket_station.specs.declared.answers.Addr.{Addr}
 use Rattle.socket_station.specs.Items.{Item, Dialled, Took, Gave, ReadNotYet, Synced, WriteNotYet}
-use Rattle.socket_station.specs.Moved.{given_in, kept_in, synced_in}
+use Rattle.socket_station.specs.Moved.{given_in, kept_in, synced_in, taken_in}
+use Rattle.socket_lines.specs.declared.limits.TheConstants.{HELLO_BYTES}
 use Rattle.socket_lines.specs.declared.seat.Seat.{Seat}
 use Rattle.loop_rules.specs.Settings.{Setting}
 use Rattle.loop_rules.specs.Tables.{seat_of}
@@ -123,3 +124,11 @@ abbrev pub DialsHavePolls : Type 0
 DialsHavePolls = (s : Setting) (before between more : List Item) (q : ℕ) (item next : Item) →
     IsHistory s (before ++ item ∷ (between ++ next ∷ more)) →
     IsDialFor q item → IsDialFor q next → SomeIs IsPoll between
+
+-- until a frame came on a socket, and with the piece that brings one, no more bytes are taken
+-- there than a HELLO has
+abbrev pub StrangersAreShort : Type 0
+StrangersAreShort = (s : Setting) (before more : List Item) (socket : ℕ) (bytes : List ℕ) →
+    SocketsAreNew (before ++ Took socket bytes ∷ more) →
+    IsHistory s (before ++ Took socket bytes ∷ more) → came_on socket before ≡ [] →
+    length (taken_in socket (before ++ Took socket bytes ∷ [])) ≤ HELLO_BYTES

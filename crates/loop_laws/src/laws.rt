@@ -1,6 +1,6 @@
 //! Laws of histories, by their items alone: functions that do nothing, whose clauses are proved.
 
-ghost use Rattle.loop_laws.specs.Laws.{FramesAreGiven, FramesAreHandled, ReadsAreListed, WritesAreListed, CountsAreReached, TakesHaveBytes, GivesHaveBytes, SyncsHaveEntries, ClosingsAreLast, DialsAreWanted, DialsHavePolls};
+ghost use Rattle.loop_laws.specs.Laws.{FramesAreGiven, FramesAreHandled, ReadsAreListed, WritesAreListed, CountsAreReached, TakesHaveBytes, GivesHaveBytes, SyncsHaveEntries, ClosingsAreLast, DialsAreWanted, DialsHavePolls, StrangersAreShort};
 
 /// The bytes given on a socket are a front of frames that are spelled one after the other: an own
 /// HELLO, then WANT frames and own frames of the log, in the order of their places. None but the
@@ -46,4 +46,10 @@ pub fn items_are_paid_for()
 pub fn dials_have_causes()
     ensures wanted { DialsAreWanted }
     ensures polls { DialsHavePolls }
+{}
+
+/// Until a frame came on a socket, and with the piece that brings one, no more bytes are taken
+/// there than a HELLO has. So no frame comes in one piece with a HELLO.
+pub fn strangers_are_short()
+    ensures { StrangersAreShort }
 {}
