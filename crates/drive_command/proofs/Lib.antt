@@ -10,3 +10,5 @@ pub mod Streams
 pub mod Runs
 pub mod Commanded
 pub mod Lines
+pub mod DriveHolds
+mod Driving

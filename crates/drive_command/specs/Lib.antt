@@ -12,3 +12,4 @@ pub mod Causes
 pub mod Grammar
 pub mod Spelling
 pub mod LineLaws
+pub mod DriveLaw

@@ -5,3 +5,12 @@ pub mod Told
 pub mod Alike
 pub mod Tells
 pub mod Verdicts
+mod AuditOpened
+mod CaseOpened
+mod AuditMeant
+mod AuditRun
+mod Judged
+mod Upgraded
+pub mod AuditHolds
+pub mod JudgeHolds
+pub mod UpgradeHolds

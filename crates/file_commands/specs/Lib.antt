@@ -9,3 +9,10 @@ pub mod JudgeLaws
 pub mod UpgradeWords
 pub mod UpgradeLaws
 pub mod Upgrade
+pub mod Exhibits
+pub mod Cases
+pub mod CaseFiles
+pub mod Audits
+pub mod AuditLaw
+pub mod JudgeLaw
+pub mod UpgradeLaw

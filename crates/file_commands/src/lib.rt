@@ -1,7 +1,7 @@
 //! The commands that read files and print: `audit`, `judge` and `upgrade`.
 //!
-//! For a program of many commands each has its words (`specs/AuditWords.antt`, `JudgeWords`, `UpgradeWords`), its answer
-//! and its causes (`Audit`, `Judge`, `Upgrade`), one function, and its laws.
+//! What is promised of each is its law, on one page: `specs/AuditLaw.antt`, `JudgeLaw` and `UpgradeLaw`. By the law go
+//! [`run_audit`], [`run_judge`] and [`run_upgrade`], which read the files that the words name and do the rest by:
 //!
 //! - [`put_audit`] is handed an auditor that took the logs of a session. It prints each finding, and right after it the
 //!   evidence by which whoever has the session judges the finding again without the logs; then how many turns of each
@@ -14,22 +14,30 @@
 //!   read as that session, and in both every move is judged alike and every player reaches and affects the same cells. It
 //!   takes its memory before the first byte is written.
 //!
-//! The crate touches the sink that it is handed.
+//! Each has its words (`specs/AuditWords.antt`, `JudgeWords`, `UpgradeWords`), its answer and its causes (`Audit`, `Judge`,
+//! `Upgrade`), and what stands behind its text in plain words (`AuditLaws`, `JudgeLaws`, `UpgradeLaws`). The crate touches
+//! the sink and the shelf that it is handed.
 #![tactic(auto)]
 
 pub mod audit_laws;
 mod audit_lines;
 mod audit_printing;
+mod audit_reading;
 pub mod audit_words;
 pub mod auditing;
+mod audits;
+mod commands;
+mod exhibits;
 pub mod judge_words;
 pub mod judging;
 pub mod upgrade_laws;
 pub mod upgrade_words;
 pub mod upgrading;
 
-pub use audit_words::{AuditWords, read_audit_words};
+pub use audit_reading::read_audit_words;
+pub use audit_words::AuditWords;
 pub use auditing::put_audit;
+pub use commands::{run_audit, run_judge, run_upgrade};
 pub use judge_words::{JudgeWords, read_judge_words};
 pub use judging::judge_exhibit;
 pub use upgrade_words::read_upgrade_words;

@@ -4,3 +4,4 @@ pub mod Inputs
 pub mod Writing
 pub mod Pieces
 pub mod Contents
+pub mod Unread

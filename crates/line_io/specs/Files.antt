@@ -17,6 +17,11 @@ Contents = List (Option (List ℕ))
 abbrev pub content : Contents → ℕ → Option (List ℕ)
 content contents n = item_or contents n None
 
+-- what the files after the first hold
+abbrev pub behind_first : Contents → Contents
+behind_first [] = []
+behind_first (content ∷ contents) = contents
+
 -- all calls, one behind the other
 abbrev pub in_turn : Calls → List Piece
 in_turn calls = flat_map (λ pieces. pieces) calls

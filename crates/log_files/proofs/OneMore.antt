@@ -14,8 +14,8 @@ use Rattle.station.specs.Outside.{faults_behind}
 use Rattle.station.specs.Pieces.{AllGive, Piece}
 use Rattle.station.specs.Shelves.{ShelfState}
 use Rattle.station.specs.Since.{since}
-use Rattle.line_io.specs.Files.{AreContents, AreReadings, Calls, Contents, ReadsFiles, in_turn}
-use Rattle.line_io.specs.Fronts.{AllShown}
+use Rattle.line_io.specs.Files.{AreContents, AreReadings, Calls, Contents, ReadsFiles, behind_first, in_turn}
+use Rattle.line_io.proofs.Unread.{behind_are, none_at, none_in_turn, none_read, none_readings}
 use Rattle.frame_index.specs.declared.limits.TheConstants.{MOST_LOGS}
 use Rattle.session_log.specs.Laws as L
 use Rattle.auditor.specs.declared.auditor.Auditor.{Auditor}
@@ -24,7 +24,7 @@ use Rattle.auditor.specs.Taking.{LeavesOthers, Takes, with_entries}
 use Rattle.auditor.proofs.Behind.{item_last, item_more, next_log}
 use Rattle.log_files.specs.Logs.{entries_in, log_fault}
 use Rattle.log_files.specs.Taken.{IsAnswer, IsTaken, IsThere, TakesLog, is_failed}
-use Rattle.log_files.specs.Several.{AreAnswered, LogFault, TakesFiles, TakesLogs, behind_first, first_bytes, first_fault, is_shelf_failed, logs_in, of_log, owners_in}
+use Rattle.log_files.specs.Several.{AreAnswered, LogFault, TakesFiles, TakesLogs, first_bytes, first_fault, is_shelf_failed, logs_in, of_log, owners_in}
 use Rattle.log_files.specs.declared.taking.LogTaken.{LogTaken}
 use Rattle.log_files.specs.declared.taking.LogTaken.TheVariants as became
 use Rattle.log_files.specs.declared.several.LogsTaken.{LogsTaken}
@@ -56,30 +56,6 @@ one_more_log game owners logs a a' number es o few long stands takes owner other
     own : length owners ≡ number → (i : ℕ) → (i < number) ⊎ (number ≤ i) → owner_in a' i ≡ item_or (owners ++ o ∷ []) i None
     own at i (inl below) = other at i (λ e. absurd (omega (arith, below, e)))
     own at i (inr le) = past at i (cases_lt number i) le
-
--- nothing is read of these files
-abbrev pub none_read : List (List ℕ) → Calls
-none_read names = map (λ name. []) names
-
-pub none_in_turn : (names : List (List ℕ)) → in_turn (none_read names) ≡ []
-none_in_turn [] = refl
-none_in_turn (name ∷ names) = none_in_turn names
-
-none_shown : (files : Option (List ℕ → Option (List ℕ))) (name : List ℕ) → AllShown files name []
-none_shown None name = tt
-none_shown (Some f) name = tt
-
-pub none_readings : (files : Option (List ℕ → Option (List ℕ))) (names : List (List ℕ)) → AreReadings files names (none_read names)
-none_readings files [] = refl
-none_readings files (name ∷ names) = (tt, none_shown files name, none_readings files names)
-
-pub none_at : (names : List (List ℕ)) (i : ℕ) → item_or (none_read names) i [] ≡ []
-none_at names i = sym (item_is (none_read names) i []) ∙ get_or-map (λ name. []) names i []
-
--- the contents behind the first give what the calls behind the first were answered
-pub behind_are : (files : Contents) (pieces : List Piece) (calls : Calls) → AreContents files (pieces ∷ calls) → AreContents (behind_first files) calls
-behind_are [] pieces calls h = λ n. h (suc n)
-behind_are (content ∷ files) pieces calls h = λ n. h (suc n)
 
 -- where the file is there, its bytes are the first
 there_first : (files : Contents) (P : List ℕ → Type 0) → IsThere (item_or files 0 None) P → P (first_bytes files)

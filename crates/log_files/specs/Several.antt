@@ -7,7 +7,7 @@ use Rattle.definitions.specs.Lists.{item_or}
 use Rattle.definitions.specs.World.{Game}
 use Rattle.station.specs.Outside.{faults_behind}
 use Rattle.station.specs.Shelves.{ShelfState}
-use Rattle.line_io.specs.Files.{AreContents, Calls, Contents, ReadsFiles}
+use Rattle.line_io.specs.Files.{AreContents, Calls, Contents, ReadsFiles, behind_first}
 use Rattle.session_log.specs.Laws as L
 use Rattle.auditor.specs.declared.auditor.Auditor.{Auditor}
 use Rattle.auditor.specs.Audits.{StandsFor}
@@ -19,11 +19,6 @@ use Rattle.log_files.specs.declared.several.LogsTaken.TheVariants.{Whole, Bad, F
 abbrev pub first_bytes : Contents → List ℕ
 first_bytes [] = []
 first_bytes (content ∷ files) = unwrap_or content []
-
--- the files behind it
-abbrev pub behind_first : Contents → Contents
-behind_first [] = []
-behind_first (content ∷ files) = files
 
 -- a fault of a log: the log's number, the byte where the faulty entry begins, and the reason
 pub record LogFault : Type 0 where

@@ -16,3 +16,4 @@ pub mod Printed
 pub mod Nonces
 pub mod Places
 pub mod Summed
+pub mod MakeHolds

@@ -5,3 +5,4 @@ pub mod Bounds
 pub mod Audits
 pub mod Summaries
 pub mod Make
+pub mod MakeLaw

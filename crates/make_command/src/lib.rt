@@ -4,12 +4,13 @@
 //! is seeded by the number. [`make_match`] draws the session of a number, lets a bot choose for all of its 8 players, and brings their frames to each other with losses and
 //! repeats, all by generators of the number, so that the same number makes the same match; at the end it audits the logs of all players
 //! together. What it does is defined in `specs/Matches.antt`, `Audits` and `Summaries`, by the steps of a table of `schedule`. The law of
-//! [`laws`] is that every match comes to its end, whatever is lost, and that its logs accuse nobody. For a program of many commands the crate
-//! has its words (`specs/Words.antt`), its answer (`Make`) and one function ([`make`]). It touches the sink that it is handed, and takes all
-//! memory before the first byte is written.
+//! [`laws`] is that every match comes to its end, whatever is lost, and that its logs accuse nobody. All that is promised of the command is
+//! on one page, `specs/MakeLaw.antt`, by which [`run_make`] goes; its words are those of `specs/Words.antt`, its answer that of `Make`. It
+//! touches the sink that it is handed, and takes all memory before the first byte is written.
 #![tactic(auto)]
 
 mod auditing;
+mod command;
 pub mod counts;
 pub mod laws;
 mod lines;
@@ -20,6 +21,7 @@ mod sizes;
 pub mod summary;
 mod words;
 
+pub use command::run_make;
 pub use counts::Counts;
 pub use making::make;
 pub use playing::MOST_STEPS;

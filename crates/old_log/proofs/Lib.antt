@@ -1,2 +1,4 @@
 pub mod Asking
 pub mod Sizes
+pub mod Fetched
+pub mod BegunSo

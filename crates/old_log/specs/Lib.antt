@@ -1,3 +1,5 @@
 pub mod Old
 pub mod Beginnings
 pub mod Resumed
+pub mod Begun
+pub mod Files

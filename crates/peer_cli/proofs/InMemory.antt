@@ -1,5 +1,5 @@
 -- InMemory: a run over objects in memory keeps to what they hold.
-use Rattle.std.proofs.Common.{◌≡◌, false, true, List, [], ◌∷◌, ◌++◌, ℕ, zero, suc, Option, Some, None, length, drop, refl, ap, sym, ◌∙◌, subst, append_assoc}
+use Rattle.std.proofs.Common.{◌≡◌, ◌⊎◌, inl, inr, false, true, List, [], ◌∷◌, ◌++◌, ℕ, zero, suc, Option, Some, None, length, drop, refl, ap, sym, ◌∙◌, subst, append_assoc}
 use Rattle.std.specs.Prelude.{map}
 use Rattle.std.proofs.Math.Seq.{drop-append_seam}
 use Rattle.definitions.specs.Lists.{item_or}
@@ -12,11 +12,13 @@ use Rattle.station.specs.Since.{since}
 use Rattle.run_frame.specs.Ends.{Finished}
 use Rattle.line_io.specs.Inputs.{AtEnd, AtFault, MayFollow, input_of}
 use Rattle.run_frame.specs.declared.statuses.Status.{Status}
-use Rattle.peer_runs.specs.Commands.{ReadsFor, answer_of, contents_of, names_of, takes_late}
 use Rattle.line_io.specs.Files.{AreContents, AreReadings, Calls}
-use Rattle.peer_cli.specs.Memory.{WritesInMemory}
-use Rattle.peer_runs.specs.Runs.{ReadsOn, Runs}
-use Rattle.peer_runs.specs.Words.{Command}
+use Rattle.run_frame.specs.Law.{Law, ReadsFor}
+use Rattle.run_frame.specs.Outside.{IsApart}
+use Rattle.run_frame.specs.Runs.{Acts, ReadsOn, Runs}
+use Rattle.rand_core.specs.Stream.{Stream}
+use Rattle.socket_station.specs.Items.{Item}
+use Rattle.peer_cli.specs.Memory.{ActsInMemory, contents_of, outside_of}
 
 -- what was left is what was read and what is left
 left_is : (s t : HeldSource) → ReadsOn (source_state s) (source_state t) → bytes_left s.left ≡ since s.seen t.seen ++ bytes_left t.left
@@ -41,26 +43,21 @@ shown_are files (name ∷ names) [] r n = absurd r
 shown_are files (name ∷ names) (pieces ∷ calls) r zero = r.1
 shown_are files (name ∷ names) (pieces ∷ calls) r (suc n) = shown_are files names calls r.2 n
 
-files_are : (command : Option Command) (files : List ℕ → Option (List ℕ)) (before after : ShelfState) (calls : Calls) → before.files ≡ Some files → ReadsFor command before after calls →
-    AreContents (contents_of command files) calls
-files_are command files before after calls e r =
-    shown_are files (names_of command) calls (subst (λ (f : Option (List ℕ → Option (List ℕ))). AreReadings f (names_of command) calls) e r.reads.readings)
+files_are : (law : Law) (shelf shelf' : HeldShelf) (calls : Calls) → ReadsFor law (shelf_state shelf) (shelf_state shelf') calls → AreContents (contents_of law shelf) calls
+files_are law shelf shelf' calls r = shown_are (content_in shelf.files) law.names calls r.reads.readings
 
-pub ran_in_memory : (command : Option Command) (i i' : HeldSource) (a b : HeldSink) (h h' : HeldShelf) (s : Status) →
-    Runs (record {
-      command = command;
-      before = record { input = source_state i; output = sink_state a; shelf = shelf_state h };
-      after = record { input = source_state i'; output = sink_state b; shelf = shelf_state h' };
-    }) (i' ≡ i) s → WritesInMemory command i i' a b h h' s
-ran_in_memory command i i' a b h h' s r =
-    let read = since i.seen i'.seen in
-    let is = left_is i i' r.input in
-    let due = r.text (contents_of command (content_in h.files)) (bytes_left i'.left)
-    (record { given = files_are command (content_in h.files) (shelf_state h) (shelf_state h') r.calls refl r.files; follows = none_left i'.left }) in
-    record {
-      read = read;
-      input_is = is;
-      text = subst (λ (x : List ℕ). Finished (sink_state a) (sink_state b) (answer_of command (contents_of command (content_in h.files)) (input_of AtEnd x))
-          (answer_of command (contents_of command (content_in h.files)) (input_of AtFault read)) (takes_late command)
-          (Rose i.plan.faults i'.plan.faults) (Rose h.plan.faults h'.plan.faults × (i' ≡ i)) s) (sym is) due;
-    }
+pub ran_in_memory : (law : Law) (i i' : HeldSource) (a b : HeldSink) (h h' : HeldShelf) (items items' : List Item) (chance later : Stream) (s : Status) →
+    Runs law (outside_of i a h items chance) (outside_of i' b h' items' later) s → ActsInMemory law i i' a b h h' items items' chance later s
+ran_in_memory law i i' a b h h' items items' chance later s r = record {
+  read = since i.seen i'.seen;
+  input_is = left_is i i' r.input;
+  text = elim (r.text (contents_of law h) (bytes_left i'.left) (record { given = files_are law h h' r.calls r.files; follows = none_left i'.left })) [
+    | inl (apart, due) ↦ inl (
+      apart,
+      subst (λ (x : List ℕ). Finished (sink_state a) (sink_state b) (law.answer (contents_of law h) (input_of AtEnd x))
+          (law.answer (contents_of law h) (input_of AtFault (since i.seen i'.seen))) law.late
+          (Rose i.plan.faults i'.plan.faults) (Rose h.plan.faults h'.plan.faults × (source_state i' ≡ source_state i)) s) (sym (left_is i i' r.input)) due,
+    )
+    | inr p ↦ inr p
+  ];
+}

@@ -18,9 +18,8 @@ use Rattle.make_command.specs.Words.{making_in}
 use Rattle.definitions.specs.declared.limits.TheConstants.{MOST_AUDITED}
 use Rattle.file_commands.specs.AuditWords.{Auditing, are_few, auditing_in}
 use Rattle.peer_command.specs.Words.{peering_in}
-use Rattle.peer_runs.specs.Peers.{peering_behind, peering_named, peering_of}
-use Rattle.peer_runs.specs.Words.{Audit, Drive, Judge, Make, Schedule, Upgrade, command_in, command_named, command_of}
-use Rattle.peer_cli.specs.Lines.{command_on, peering_on}
+use Rattle.peer_runs.specs.Commands.{Audit, Drive, Judge, Make, Peer, Schedule, Upgrade, command_in, command_named, command_of}
+use Rattle.peer_cli.specs.Lines.{command_on}
 
 -- ---- fewer words or more than a command takes say nothing
 
@@ -83,7 +82,7 @@ untaken N.Audit words e = ap (option_map Audit) (audits_none words e)
 untaken N.Drive words e = ap (option_map Drive) (drives_none words e)
 untaken N.Judge words e = ap (option_map Judge) (judges_none words e)
 untaken N.Make words e = ap (option_map Make) (one_none making_in words refl (λ a b more. refl) e)
-untaken N.Peer words e = refl
+untaken N.Peer words e = ap (option_map Peer) (peers_none words e)
 untaken N.Schedule words e = ap (option_map Schedule) (one_none scheduling_in words refl (λ a b more. refl) e)
 untaken N.Upgrade words e = ap (option_map Upgrade) (one_none upgrading_in words refl (λ a b more. refl) e)
 
@@ -113,7 +112,7 @@ names_none name e =
     record { audit = audit.0; drive = drive.0; judge = judge.0; make = make.0; peer = peer.0; schedule = schedule.0; upgrade = upgrade.0 }
 
 unnamed : (name : List ℕ) (words : List (List ℕ)) → IsNone name → command_named name words ≡ None
-unnamed name words n = rw (n.drive, n.upgrade, n.judge, n.audit, n.schedule, n.make) refl
+unnamed name words n = rw (n.drive, n.upgrade, n.judge, n.audit, n.schedule, n.make, n.peer) refl
 
 by_name : (name : List ℕ) (words : List (List ℕ)) (o : Option Name) → named name ≡ o → command_named name words ≡ option_and_then command_on (line_with o words)
 by_name name words None e = unnamed name words (names_none name e)
@@ -133,35 +132,4 @@ command_by_line words = go (list_all is_word words)
   where
     go : (b : Bool) → (if b then command_in words else None) ≡ option_and_then command_on (option_and_then split_of (if b then Some words else None))
     go true = in_line words
-    go false = refl
-
--- ---- runs over sockets
-
-unplayed : (name : Name) (words : List (List ℕ)) → takes name (length words) ≡ false → peering_named (text_of name) words ≡ None
-unplayed N.Audit words e = refl
-unplayed N.Drive words e = refl
-unplayed N.Judge words e = refl
-unplayed N.Make words e = refl
-unplayed N.Peer words e = peers_none words e
-unplayed N.Schedule words e = refl
-unplayed N.Upgrade words e = refl
-
-peer_by_name : (name : List ℕ) (words : List (List ℕ)) (o : Option Name) → named name ≡ o → peering_named name words ≡ option_and_then peering_on (line_with o words)
-peer_by_name name words None e = ap (λ (b : Bool). if b then peering_in words else None) (names_none name e).peer
-peer_by_name name words (Some n) e = ap (λ (x : List ℕ). peering_named x words) (named-Some name n e) ∙ by_count (takes n (length words)) refl
-  where
-    by_count : (b : Bool) → takes n (length words) ≡ b → peering_named (text_of n) words ≡ option_and_then peering_on (line_if b (record { name = n; words = words }))
-    by_count true e = refl
-    by_count false e = unplayed n words e
-
-peer_in_line : (words : List (List ℕ)) → peering_behind words ≡ option_and_then peering_on (split_of words)
-peer_in_line [] = refl
-peer_in_line (name ∷ words) = peer_by_name name words (named name) refl
-
-pub peering_by_line : (words : List (List ℕ)) → peering_of words ≡ option_and_then peering_on (line_of_words words)
-unfolding peering_of
-peering_by_line words = go (list_all is_word words)
-  where
-    go : (b : Bool) → (if b then peering_behind words else None) ≡ option_and_then peering_on (option_and_then split_of (if b then Some words else None))
-    go true = peer_in_line words
     go false = refl

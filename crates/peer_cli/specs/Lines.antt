@@ -2,14 +2,8 @@
 use Rattle.std.specs.Prelude.{Option}
 use Rattle.command_line.specs.Lines.{Line}
 use Rattle.command_line.specs.Names.{text_of}
-use Rattle.peer_command.specs.Words.{Peering}
-use Rattle.peer_runs.specs.Peers.{peering_named}
-use Rattle.peer_runs.specs.Words.{Command, command_named}
+use Rattle.peer_runs.specs.Commands.{Command, command_named}
 
 -- the command of a command line
 abbrev pub command_on : Line → Option Command
 command_on line = command_named (text_of line.name) line.words
-
--- and what a run over sockets is to do by it
-abbrev pub peering_on : Line → Option Peering
-peering_on line = peering_named (text_of line.name) line.words

@@ -1,24 +1,31 @@
-//! The program over objects in memory.
+//! The program over files, an input and an output in memory.
 
-ghost use Rattle.std.specs.Prelude.{map};
-ghost use Rattle.peer_cli.specs.Memory.{WritesInMemory};
-ghost use Rattle.peer_runs.specs.Words.{command_of};
+ghost use Rattle.std.specs.Prelude.{◌≡◌, [], map};
+ghost use Rattle.station.specs.Plans.{shelf_state, sink_state, source_state};
+ghost use Rattle.run_frame.specs.Outside.{outside};
+ghost use Rattle.peer_runs.specs.Commands.{command_of, law_of};
+ghost use Rattle.peer_cli.specs.Memory.{ActsInMemory};
 
-use crate::program::run_offline;
+use crate::program::run;
+use rand_core::Rng;
 use run_frame::Status;
+use socket_station::Station;
 use station::{MemoryShelf, MemorySink, MemorySource};
 use std::alloc::Global;
 
-/// Runs the program over objects in memory, for words that ask for no sockets. What it wrote is due by what the files and the input held: this follows from the promises
-/// of `run` alone.
-pub fn run_in_memory(
+/// Runs the program over files, an input and an output in memory. What it wrote is due by what the files and the input
+/// held: this follows from the promises of `run` alone.
+pub fn run_in_memory<S: Station, R: Rng>(
     alloc: Global,
     words: &[Vec<u8>],
     input: &mut MemorySource,
     out: &mut MemorySink,
     shelf: &mut MemoryShelf,
+    station: &mut S,
+    chance: &mut R,
 ) -> Status
-    ensures { WritesInMemory (command_of (map (λ w. w.items) words.now)) input.old input.new out.old out.new shelf.old shelf.new result }
+    requires first { S.history station.old ≡ [] }
+    ensures { ActsInMemory (law_of (command_of (map (λ w. w.items) words.now))) input.old input.new out.old out.new shelf.old shelf.new (S.history station.old) (S.history station.new) (R.stream chance.old) (R.stream chance.new) result }
 {
-    run_offline(alloc, words, input, out, shelf)
+    run(alloc, words, input, out, shelf, station, chance)
 }

@@ -1,19 +1,15 @@
 //! The program.
 
-ghost use Rattle.std.specs.Prelude.{◌≡◌, [], IfSome, None, Some, map, option_and_then, option_map};
+ghost use Rattle.std.specs.Prelude.{◌≡◌, [], map, option_and_then, option_map};
 ghost use Rattle.command_line.specs.Lines.{owned};
-ghost use Rattle.drive_command.specs.Laws.{DrivesAreRuns, LinesAreOneStream};
-ghost use Rattle.peer_command.specs.Crashes.{CrashesAreSurvived};
-ghost use Rattle.peer_command.specs.Words.{Peering};
-ghost use Rattle.peer_runs.specs.Peers.{RunsPeer, peering_of};
-ghost use Rattle.peer_runs.specs.Words.{HasRoom, command_of};
+ghost use Rattle.run_frame.specs.Outside.{outside};
+ghost use Rattle.run_frame.specs.Runs.{Runs, Works};
+ghost use Rattle.peer_runs.specs.Commands.{command_of, law_of};
 ghost use Rattle.peer_cli.specs.Lines.{command_on};
-ghost use Rattle.peer_runs.specs.Runs.{Runs, Works};
 
-use crate::peering::peer_for;
 use crate::words;
 use command_line::{OwnLine, split_words};
-use peer_runs::{is_command, is_peering, obey};
+use peer_runs::{is_command, obey};
 use rand_core::Rng;
 use run_frame::{Status, refuse};
 use socket_station::Station;
@@ -21,72 +17,49 @@ use station::{Shelf, Sink, Source};
 use std::alloc::Global;
 
 /// Does what a command line asks for, but for the last line of a refusal.
-fn obey_line<I: Source, O: Sink, H: Shelf>(
+fn obey_line<I: Source, O: Sink, H: Shelf, S: Station, R: Rng>(
     alloc: Global,
     line: &Option<OwnLine>,
     input: &mut I,
     out: &mut O,
     shelf: &mut H,
+    station: &mut S,
+    chance: &mut R,
 ) -> Status
-    requires room { IfSome (option_and_then command_on (option_map owned line.now)) HasRoom }
-    ensures { Works
-        (record {
-          command = option_and_then command_on (option_map owned line.now);
-          before = record { input = I.state input.old; output = O.state out.old; shelf = H.state shelf.old };
-          after = record { input = I.state input.new; output = O.state out.new; shelf = H.state shelf.new };
-        })
-        (input.new ≡ input.old) result }
+    requires first { S.history station.old ≡ [] }
+    ensures { Works (law_of (option_and_then command_on (option_map owned line.now)))
+        (outside (I.state input.old) (O.state out.old) (H.state shelf.old) (S.history station.old) (R.stream chance.old))
+        (outside (I.state input.new) (O.state out.new) (H.state shelf.new) (S.history station.new) (R.stream chance.new)) result }
 {
     match words::command_on(line) {
         None => Status::Usage,
-        Some(command) => obey(alloc, command, input, out, shelf),
+        Some(command) => obey(alloc, command, input, out, shelf, station, chance),
     }
 }
 
-/// Does what the words ask for, but for the last line of a refusal. Words that are no command are told so before clap is asked, which takes
-/// memory.
-fn work<I: Source, O: Sink, H: Shelf>(
+/// Does what the words ask for, but for the last line of a refusal. Words that are no command are told so before clap is
+/// asked, which takes memory.
+fn work<I: Source, O: Sink, H: Shelf, S: Station, R: Rng>(
     alloc: Global,
     words: &[Vec<u8>],
     input: &mut I,
     out: &mut O,
     shelf: &mut H,
+    station: &mut S,
+    chance: &mut R,
 ) -> Status
-    ensures { Works
-        (record {
-          command = command_of (map (λ w. w.items) words.now);
-          before = record { input = I.state input.old; output = O.state out.old; shelf = H.state shelf.old };
-          after = record { input = I.state input.new; output = O.state out.new; shelf = H.state shelf.new };
-        })
-        (input.new ≡ input.old) result }
+    requires first { S.history station.old ≡ [] }
+    ensures { Works (law_of (command_of (map (λ w. w.items) words.now)))
+        (outside (I.state input.old) (O.state out.old) (H.state shelf.old) (S.history station.old) (R.stream chance.old))
+        (outside (I.state input.new) (O.state out.new) (H.state shelf.new) (S.history station.new) (R.stream chance.new)) result }
 {
     if !is_command(words) {
         return Status::Usage;
     }
     match split_words(alloc, words) {
         Err(_) => Status::NoMemory,
-        Ok(line) => obey_line(alloc, &line, input, out, shelf),
+        Ok(line) => obey_line(alloc, &line, input, out, shelf, station, chance),
     }
-}
-
-/// Does what the words ask for, where they ask for no sockets.
-pub(crate) fn run_offline<I: Source, O: Sink, H: Shelf>(
-    alloc: Global,
-    words: &[Vec<u8>],
-    input: &mut I,
-    out: &mut O,
-    shelf: &mut H,
-) -> Status
-    ensures { Runs
-        (record {
-          command = command_of (map (λ w. w.items) words.now);
-          before = record { input = I.state input.old; output = O.state out.old; shelf = H.state shelf.old };
-          after = record { input = I.state input.new; output = O.state out.new; shelf = H.state shelf.new };
-        })
-        (input.new ≡ input.old) result }
-{
-    let status = work(alloc, words, input, out, shelf);
-    refuse(status, out)
 }
 
 /// Does what the words ask for, which are those behind the program's name: `drive SESSION PLAYER` lets the input drive a peer
@@ -109,41 +82,12 @@ pub fn run<I: Source, O: Sink, H: Shelf, S: Station, R: Rng>(
 ) -> Status
     requires first { S.history station.old ≡ [] }
 
-    // Without sockets: what is read and written, why each status comes, what is left alone, when the run comes to its end, and what is behind it.
-    ensures offline { peering_of (map (λ w. w.items) words.now) ≡ None → Runs
-        (record {
-          command = command_of (map (λ w. w.items) words.now);
-          before = record { input = I.state input.old; output = O.state out.old; shelf = H.state shelf.old };
-          after = record { input = I.state input.new; output = O.state out.new; shelf = H.state shelf.new };
-        })
-        (input.new ≡ input.old) result }
-
-    // The station and the generator are left alone then.
-    ensures apart { peering_of (map (λ w. w.items) words.now) ≡ None → (station.new ≡ station.old) × (chance.new ≡ chance.old) }
-
-    // Over sockets: what is read, how the loop is played, and what is written of it.
-    ensures online { (p : Peering) → peering_of (map (λ w. w.items) words.now) ≡ Some p → RunsPeer
-        (record {
-          peering = p;
-          before = record { input = I.state input.old; output = O.state out.old; shelf = H.state shelf.old };
-          after = record { input = I.state input.new; output = O.state out.new; shelf = H.state shelf.new };
-          items = S.history station.old;
-          items' = S.history station.new;
-          chance = R.stream chance.old;
-          later = R.stream chance.new;
-        })
-        (input.new ≡ input.old) result }
-
-    // The log that `drive` tells is that of the protocol's steps that the lines of the input bring, their bytes in whatever pieces.
-    ensures steps { DrivesAreRuns }
-    ensures streams { LinesAreOneStream }
-
-    // Whenever `peer` stops, and whatever a crash leaves of its log, the player goes on from that and has all that it gave.
-    ensures crashes { CrashesAreSurvived }
+    // The law of the command that the words say: what is read and written, why each status comes, what is left alone,
+    // when the run comes to its end, and what is behind it.
+    ensures { Runs (law_of (command_of (map (λ w. w.items) words.now)))
+        (outside (I.state input.old) (O.state out.old) (H.state shelf.old) (S.history station.old) (R.stream chance.old))
+        (outside (I.state input.new) (O.state out.new) (H.state shelf.new) (S.history station.new) (R.stream chance.new)) result }
 {
-    if is_peering(words) {
-        peer_for(alloc, words, input, out, shelf, station, chance)
-    } else {
-        run_offline(alloc, words, input, out, shelf)
-    }
+    let status = work(alloc, words, input, out, shelf, station, chance);
+    refuse(status, out)
 }

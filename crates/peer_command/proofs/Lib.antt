@@ -12,3 +12,7 @@ mod Left
 mod Honest
 mod Handed
 pub mod Survived
+mod Seated
+mod Completing
+pub mod PeerHolds
+mod OverSockets

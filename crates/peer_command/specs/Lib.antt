@@ -5,3 +5,5 @@ pub mod Faults
 pub mod Steps
 pub mod Plays
 pub mod Crashes
+pub mod Seats
+pub mod PeerLaw

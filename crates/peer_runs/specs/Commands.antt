@@ -1,33 +1,83 @@
--- Commands: the law of each command, and its parts. A further command is a case of `law_of`, and of `Words`.
-use Rattle.std.specs.Prelude.{◌≡◌, ℕ, Bool, List, [], map, Option, Some, None}
-use Rattle.station.specs.Shelves.{ShelfState}
-use Rattle.line_io.specs.Files.{Calls, Contents, ReadsFiles}
-use Rattle.line_io.specs.Inputs.{Input}
-use Rattle.run_frame.specs.Frame.{Answer, bare_answer}
+-- Commands: the commands that the program's words say, and the law of each.
+use Rattle.std.specs.Prelude.{◌≡◌, ℕ, false, List, [], ◌∷◌, Option, Some, None, bytes_eq, codes, map, option_map, if◌then◌else◌}
+use Rattle.std.specs.List.{list_all}
+use Rattle.station.specs.Words.{is_word}
+use Rattle.line_io.specs.Files.{Contents}
+use Rattle.run_frame.specs.Frame.{bare_answer}
+use Rattle.run_frame.specs.Law.{Law, law_without_input}
 use Rattle.run_frame.specs.declared.statuses.Status.{Status}
-use Rattle.run_frame.specs.declared.statuses.Status.TheVariants.{NoMemory, Usage, InputFault, OutputFault}
-use Rattle.peer_runs.specs.Law.{Law, law_without_input}
-use Rattle.peer_runs.specs.AuditLaw.{audit_law}
-use Rattle.peer_runs.specs.DriveLaw.{drive_law}
-use Rattle.peer_runs.specs.JudgeLaw.{judge_law}
-use Rattle.peer_runs.specs.MakeLaw.{make_law}
-use Rattle.peer_runs.specs.ScheduleLaw.{schedule_law}
-use Rattle.peer_runs.specs.UpgradeLaw.{upgrade_law}
-use Rattle.peer_runs.specs.Words.{Audit, Command, Drive, Judge, Make, Schedule, Upgrade}
+use Rattle.run_frame.specs.declared.statuses.Status.TheVariants.{Usage}
+use Rattle.drive_command.specs.DriveLaw.{drive_law}
+use Rattle.drive_command.specs.Words.{Driving, driving_in, driving_said}
+use Rattle.file_commands.specs.AuditLaw.{audit_law}
+use Rattle.file_commands.specs.AuditWords.{Auditing, auditing_in, auditing_said}
+use Rattle.file_commands.specs.JudgeLaw.{judge_law}
+use Rattle.file_commands.specs.JudgeWords.{Judging, judging_in, judging_said}
+use Rattle.file_commands.specs.UpgradeLaw.{upgrade_law}
+use Rattle.file_commands.specs.UpgradeWords.{upgrading_in}
+use Rattle.make_command.specs.MakeLaw.{make_law}
+use Rattle.make_command.specs.Words.{making_in}
+use Rattle.peer_command.specs.PeerLaw.{peer_law}
+use Rattle.peer_command.specs.Words.{Peering, peering_in, peering_said}
+use Rattle.schedule_command.specs.ScheduleLaw.{schedule_law}
+use Rattle.schedule_command.specs.Words.{scheduling_in}
+use Rattle.peer_runs.specs.declared.commands.Command.{Command as CommandWords}
+use Rattle.peer_runs.specs.declared.commands.Command.TheVariants as said
+
+-- a command
+pub data Command : Type 0 where
+  Drive : Driving → Command
+  Upgrade : (session : List ℕ) → Command
+  Judge : Judging → Command
+  Audit : Auditing → Command
+  Schedule : (session : List ℕ) → Command
+  Make : (number : ℕ) → Command
+  Peer : Peering → Command
+
+-- the command that the words say
+abbrev pub command_said : CommandWords → Command
+command_said (said.Drive driving) = Drive (driving_said driving)
+command_said (said.Upgrade session) = Upgrade session.now
+command_said (said.Judge judging) = Judge (judging_said judging)
+command_said (said.Audit auditing) = Audit (auditing_said auditing)
+command_said (said.Schedule session) = Schedule session.now
+command_said (said.Make number) = Make number
+command_said (said.Peer peering) = Peer (peering_said peering)
+
+-- the command of this name with these words
+abbrev pub command_named : (name : List ℕ) → (words : List (List ℕ)) → Option Command
+command_named name words =
+    if bytes_eq name (codes "drive") then option_map Drive (driving_in words)
+    else if bytes_eq name (codes "upgrade") then option_map Upgrade (upgrading_in words)
+    else if bytes_eq name (codes "judge") then option_map Judge (judging_in words)
+    else if bytes_eq name (codes "audit") then option_map Audit (auditing_in words)
+    else if bytes_eq name (codes "schedule") then option_map Schedule (scheduling_in words)
+    else if bytes_eq name (codes "make") then option_map Make (making_in words)
+    else if bytes_eq name (codes "peer") then option_map Peer (peering_in words)
+    else None
+
+-- the command of these words: its name, and then its own words
+abbrev pub command_in : List (List ℕ) → Option Command
+command_in [] = None
+command_in (name ∷ words) = command_named name words
+
+-- the command of the program's words
+unfoldable pub command_of : List (List ℕ) → Option Command
+command_of words = if list_all is_word words then command_in words else None
 
 -- why words that are no command end so
 abbrev pub usage_cause : Contents → Status → Type 0
 usage_cause contents Usage = Unit {0}
 usage_cause contents status = ⊥
 
--- what is promised where words are no command: no file is read, and they are told so
+-- what is promised where words are no command: no file is read, no memory is taken, and they are told so
 abbrev pub usage_law : Law
-usage_law = law_without_input []
+usage_law = record (law_without_input []
     (λ before after calls. after ≡ before)
     (λ contents. bare_answer Usage)
     usage_cause
     (λ contents. ⊥)
-    (λ contents. Unit {0})
+    (λ contents. Unit {0})) { memory = false }
 
 -- the law of a command, and of words that are none
 abbrev pub law_of : Option Command → Law
@@ -38,48 +88,4 @@ law_of (Some (Judge j)) = judge_law j
 law_of (Some (Audit a)) = audit_law a
 law_of (Some (Schedule session)) = schedule_law session
 law_of (Some (Make number)) = make_law number
-
--- ---- its parts
-
-abbrev pub names_of : Option Command → List (List ℕ)
-names_of command = (law_of command).names
-
--- what its files hold, where each file holds this
-abbrev pub contents_of : Option Command → (files : List ℕ → Option (List ℕ)) → Contents
-contents_of command files = map files (names_of command)
-
-abbrev pub ReadsWhatIsDue : Option Command → (before after : ShelfState) → Calls → Type 0
-ReadsWhatIsDue command = (law_of command).due
-
--- What a command reads of its files.
-pub record ReadsFor (command : Option Command) (before after : ShelfState) (calls : Calls) : Type 0 where
-  pub reads : ReadsFiles (names_of command) before after calls
-  pub due : ReadsWhatIsDue command before after calls
-
-abbrev pub answer_of : Option Command → Contents → Input → Answer
-answer_of command = (law_of command).answer
-
-abbrev pub IsOverAtFirst : Option Command → Contents → Type 0
-IsOverAtFirst command = (law_of command).over
-
-abbrev pub ReadsThrough : Option Command → Status → (ended : Bool) → Type 0
-ReadsThrough command = (law_of command).through
-
-abbrev pub takes_late : Option Command → Bool
-takes_late command = (law_of command).late
-
-abbrev pub takes_first : Option Command → Bool
-takes_first command = (law_of command).first
-
--- why the program may end so with this command, these files and this input
-abbrev pub HasCause : Option Command → Contents → Input → Status → Type 0
-HasCause command contents input NoMemory = Unit {0}
-HasCause command contents input InputFault = Unit {0}
-HasCause command contents input OutputFault = Unit {0}
-HasCause command contents input status = (law_of command).cause contents input status
-
-abbrev pub IsGood : Option Command → Contents → Input → Type 0
-IsGood command = (law_of command).good
-
-abbrev pub IsMeant : Option Command → Contents → Input → Type 0
-IsMeant command = (law_of command).meant
+law_of (Some (Peer p)) = peer_law p

@@ -1,13 +1,1 @@
-pub mod Words
-pub mod Law
-pub mod DriveLaw
-pub mod UpgradeLaw
-pub mod JudgeLaw
-pub mod AuditLaw
-pub mod ScheduleLaw
-pub mod MakeLaw
 pub mod Commands
-pub mod Outside
-pub mod Runs
-pub mod Seats
-pub mod Peers

@@ -1,27 +1,16 @@
-//! The runs of the program: the words as a command, the session and perhaps a log from the shelf, and the command over them.
+//! The commands of the program: which command the words say, and what is done for it.
 //!
-//! `specs/Runs.antt` is what a run promises: what is written for these words, files and input, why each status comes, that nothing but memory
-//! can be wanting where all is good, and that the log behind the text is one of fair play. The crate
-//! touches the source, the sink and the shelf that it is handed, and takes its memory before the first byte is written. Only `peer`
-//! touches the station and the generator: what is promised of it is a record of its own (`specs/Peers.antt`), and of all other
-//! commands `specs/Runs.antt` is the one. The words are read by plain comparisons; `peer_cli` has them split by clap, and promises the same.
+//! What is promised of a run is `Runs (law_of ..)`: the words say a command (`specs/Commands.antt`), each command has a law, which is a page of
+//! its own crate, and `run_frame/specs/Runs.antt` says what a law promises, whatever the law is. Words that say no command have a law too.
+//! The crate touches the source, the sink, the shelf, the station and the generator that it is handed, and hands each command what it uses of
+//! them alone. The words are read by plain comparisons; `peer_cli` has them split by clap, and promises the same.
 //!
-//! A further command is a case of `Command` and of `obey`, and in `specs/` of `Words` and of `law_of` in `Commands`, with a page for its law, as
-//! `JudgeLaw` is: its crate has its words, its answer, its causes, one function and its laws. What a run promises (`specs/Runs.antt`) names none
-//! of them.
+//! A further command has its words, its law and one function in its own crate. Here it is a case of `Command`, of its readers and of `obey`
+//! (`src/commands.rt`), and of `command_named` and `law_of` (`specs/Commands.antt`).
 #![tactic(auto)]
 
-mod auditing;
-mod driving;
-mod judging;
-mod matches;
-mod peering;
+mod commands;
 mod program;
-mod scheduling;
-mod seats;
-mod upgrading;
-mod words;
 
-pub use peering::play_for;
-pub use program::{obey, run};
-pub use words::{Command, is_command, is_peering, read_named, read_peer_named};
+pub use commands::{Command, is_command, obey, read_named};
+pub use program::run;

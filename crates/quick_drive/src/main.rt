@@ -1,13 +1,11 @@
 //! The program `quick_drive`: what `./play NAME PLAYER` runs where nothing is proved and built yet. It drives a peer as `drive` of the program
 //! `lethwyrn` does, and has nothing else in it, since each further command would have to be compiled before the first line is shown.
 //!
-//! Its words are those behind `drive`: `SESSION PLAYER`, or `SESSION PLAYER OLD`. Nothing is promised of it beyond what `run_files`
-//! promises of what is read for a peer, and `drive_command` of what the peer then answers.
+//! Its words are those after `drive`: `SESSION PLAYER`, or `SESSION PLAYER OLD`. What `drive_command` promises of `run_drive` is promised of it.
 #![tactic(auto)]
 
-use drive_command::{DriveWords, drive, read_drive_words};
+use drive_command::{DriveWords, read_drive_words, run_drive};
 use file_shelf::FileShelf;
-use run_files::open_peer;
 use run_frame::{Status, refuse};
 use station::{StdSink, StdSource, words_of};
 use std::io;
@@ -20,16 +18,7 @@ const REFUSED: u8 = 15;
 fn drive_by<W: io::Write>(rt: &HostRuntime, words: DriveWords<'_>, out: &mut StdSink<W>) -> Status {
     let mut input = StdSource::new(rt.reader());
     let mut shelf = FileShelf::new(rt.alloc(), rt);
-    match open_peer(
-        rt.alloc(),
-        &mut shelf,
-        words.session,
-        words.player,
-        words.old,
-    ) {
-        Ok(begun) => drive(begun.peer, begun.dropped, &mut input, out),
-        Err(status) => status,
-    }
+    run_drive(rt.alloc(), words, &mut input, out, &mut shelf)
 }
 
 fn main(rt: HostRuntime) -> ExitCode {

@@ -2,3 +2,8 @@ pub mod Statuses
 pub mod Frame
 pub mod Turns
 pub mod Ends
+pub mod Outside
+pub mod Law
+pub mod Runs
+pub mod Sessions
+pub mod Opening

@@ -3,3 +3,5 @@ pub mod Named
 pub mod Answered
 pub mod Opened
 pub mod Commanded
+pub mod ScheduleHolds
+mod Scheduled

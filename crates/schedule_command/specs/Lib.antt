@@ -6,3 +6,4 @@ pub mod Played
 pub mod Matches
 pub mod Causes
 pub mod Words
+pub mod ScheduleLaw

@@ -1,0 +1,182 @@
+-- PeerHolds: the law of the command to play over sockets: each status has its cause, what is good comes to its end, and the last line
+-- changes nothing of a run that was played.
+use Rattle.std.proofs.Common.{◌≡◌, inl, inr, ℕ, Bool, true, false, List, [], Option, None, Some, nat_lt, if◌then◌else◌, refl, ap, sym, ◌∙◌, subst, arith}
+use Rattle.std.specs.Prelude.{Result, Ok, Err, option_map}
+use Rattle.definitions.specs.declared.world.Move.{Move}
+use Rattle.definitions.specs.World.{Game, players_of}
+use Rattle.grid_world.specs.declared.fault.SessionFault.{SessionFault}
+use Rattle.grid_world.specs.declared.fault.SessionFault.TheVariants as session
+use Rattle.grid_world.specs.Reading.{game_at}
+use Rattle.text_fields.specs.declared.fault.TextFault.{TextFault}
+use Rattle.text_fields.specs.declared.fault.TextFault.TheVariants as text
+use Rattle.rosters.specs.Reading.{roster_at}
+use Rattle.rosters.specs.Rosters.{Neighbours}
+use Rattle.pilots.specs.Scripts.{script_at}
+use Rattle.station.specs.Sinks.{SinkState, after_bytes}
+use Rattle.line_io.specs.Files.{Contents, behind_first, content}
+use Rattle.line_io.specs.Inputs.{Input}
+use Rattle.line_io.specs.Texts.{CutShort}
+use Rattle.line_io.proofs.Unread.{none_at}
+use Rattle.line_io.proofs.Writing.{bytes_none}
+use Rattle.run_frame.specs.Ends.{Refuses}
+use Rattle.run_frame.specs.Frame.{Ends}
+use Rattle.run_frame.specs.Law.{HasCause}
+use Rattle.run_frame.specs.Outside.{Outside, with_output}
+use Rattle.run_frame.specs.Sessions.{ended_by, front_of, session_in, with_player}
+use Rattle.run_frame.specs.Statuses.{refusal_of}
+use Rattle.run_frame.specs.declared.statuses.Status.{Status}
+use Rattle.run_frame.specs.declared.statuses.Status.TheVariants.{NoMemory, InputFault, OutputFault, Usage, BadSession, BadLine, BadLog}
+use Rattle.run_frame.proofs.Working.{Holds}
+use Rattle.old_log.specs.Beginnings.{Beginning}
+use Rattle.old_log.specs.Begun.{begun, log_front_of, old_beginning}
+use Rattle.old_log.specs.Old.{Fault, old_fault}
+use Rattle.ready_loop.specs.declared.polling.Ended.{Ended}
+use Rattle.ready_loop.specs.declared.polling.Ended.TheVariants as E
+use Rattle.ready_loop.specs.States.{LoopState}
+use Rattle.peer_command.specs.Ends.{peer_answer, status_of}
+use Rattle.peer_command.specs.PeerLaw.{PlaysOverSockets, peer_law, unplayed_answer}
+use Rattle.peer_command.specs.Seats.{Seating, behind_roster, behind_session, moves_by, moves_front_of, moves_in, roster_by, roster_front_of, roster_in, seat_names, start_by_moves, start_by_player, start_by_roster, start_by_session, start_for, start_of}
+use Rattle.peer_command.specs.Words.{Peering}
+use Rattle.peer_command.proofs.Completing.{comes}
+use Rattle.peer_command.proofs.Survived.{crashes_are_survived}
+use Rattle.peer_command.proofs.Given.{nothing_is_given_unsynced}
+
+-- how a loop ended is told without a line of refusal
+no_line : (ended : Ended) → refusal_of (status_of ended) ≡ []
+no_line E.Done = refl
+no_line (E.Caught f) = refl
+no_line E.PollFault = refl
+no_line E.KeepFault = refl
+no_line (E.OwnMove turn fault) = refl
+no_line E.GaveUp = refl
+
+module _ (a b c : SinkState) (dropped : Option ℕ) (polls : ℕ) (ended : Ended) (l : LoopState) where
+  -- the line is empty
+  stays : (s result : Status) → refusal_of s ≡ [] → Refuses b c s result → (result ≡ s) × (c ≡ b)
+  stays s result e (inl h) = (h.0, h.1 ∙ ap (after_bytes b) e ∙ bytes_none b)
+  stays s result e (inr h) =
+      let cut : CutShort b c [] = subst (CutShort b c) e h.1 in
+      absurd (omega (arith, cut.between.longer, cut.between.shorter))
+
+  on_so : (s result : Status) → refusal_of s ≡ [] → Ends a b (peer_answer dropped polls ended l) s → Refuses b c s result → Ends a c (peer_answer dropped polls ended l) result
+  on_so s result e w r =
+      let x = stays s result e r in
+      subst (λ (t : Status). Ends a c (peer_answer dropped polls ended l) t) (sym x.0) (subst (λ (k : SinkState). Ends a k (peer_answer dropped polls ended l) s) (sym x.1) w)
+
+  pub ended_on : (s result : Status) → Ends a b (peer_answer dropped polls ended l) s → Refuses b c s result → Ends a c (peer_answer dropped polls ended l) result
+  ended_on NoMemory result w r = absurd w
+  ended_on OutputFault result w r = on_so OutputFault result refl w r
+  ended_on s result w r = on_so s result (ap refusal_of w.1 ∙ no_line ended) w r
+
+-- ---- by what files are refused
+
+-- There is one, or one of these refuses it.
+abbrev IsReadOrRefused : {T : Type 0} → Result T Status → Type 0
+IsReadOrRefused (Ok x) = Unit {0}
+IsReadOrRefused (Err NoMemory) = Unit {0}
+IsReadOrRefused (Err Usage) = Unit {0}
+IsReadOrRefused (Err (BadSession line what)) = Unit {0}
+IsReadOrRefused (Err (BadLine text line)) = Unit {0}
+IsReadOrRefused (Err (BadLog log at why)) = Unit {0}
+IsReadOrRefused (Err status) = ⊥
+
+of_session : (r : Result Game SessionFault) → IsReadOrRefused (ended_by r)
+of_session (Ok game) = tt
+of_session (Err session.Memory) = tt
+of_session (Err (session.At line what)) = tt
+
+of_roster : (r : Result Neighbours TextFault) → IsReadOrRefused (roster_by r)
+of_roster (Ok r) = tt
+of_roster (Err text.Memory) = tt
+of_roster (Err (text.At line)) = tt
+
+of_moves : (r : Result (List Move) TextFault) → IsReadOrRefused (moves_by r)
+of_moves (Ok moves) = tt
+of_moves (Err text.Memory) = tt
+of_moves (Err (text.At line)) = tt
+
+of_fault : (game : Game) (bytes : List ℕ) (fault : Option Fault) → IsReadOrRefused (old_beginning game bytes fault)
+of_fault game bytes None = tt
+of_fault game bytes (Some f) = tt
+
+of_log : (player : ℕ) (game : Game) (old : Option (Option (List ℕ))) → IsReadOrRefused (begun player game old)
+of_log player game None = tt
+of_log player game (Some content) = of_fault game (log_front_of content) (old_fault game player (log_front_of content))
+
+module _ (p : Peering) where
+  by_log : (r : Neighbours) (moves : List Move) (due : Result Beginning Status) → IsReadOrRefused due → IsReadOrRefused (start_of r moves due)
+  by_log r moves (Ok b) h = tt
+  by_log r moves (Err status) h = h
+
+  by_moves : (game : Game) (r : Neighbours) (moves : Result (List Move) Status) (log : Option (List ℕ)) → IsReadOrRefused moves → IsReadOrRefused (start_by_moves p game r moves log)
+  by_moves game r (Err status) log h = h
+  by_moves game r (Ok moves) log h = by_log r moves (begun p.player game (option_map (λ name. log) p.old)) (of_log p.player game (option_map (λ name. log) p.old))
+
+  by_roster : (game : Game) (r : Result Neighbours Status) (contents : Contents) → IsReadOrRefused r → IsReadOrRefused (start_by_roster p game r contents)
+  by_roster game (Err status) contents h = h
+  by_roster game (Ok r) contents h =
+      by_moves game r (moves_in game (content contents 0)) (content (behind_first contents) 0) (of_moves (script_at game.turns (moves_front_of (content contents 0))))
+
+  by_player : (game : Game) (is_one : Bool) (contents : Contents) → IsReadOrRefused (start_by_player p (if is_one then Ok game else Err Usage) contents)
+  by_player game false contents = tt
+  by_player game true contents =
+      by_roster game (roster_in game p.player (content contents 0)) (behind_first contents) (of_roster (roster_at p.player (players_of game) (roster_front_of (content contents 0))))
+
+  by_session : (r : Result Game Status) (contents : Contents) → IsReadOrRefused r → IsReadOrRefused (start_by_session p r contents)
+  by_session (Err status) contents h = h
+  by_session (Ok game) contents h = by_player game (nat_lt p.player (players_of game)) contents
+
+  refused : (contents : Contents) → IsReadOrRefused (start_for p contents)
+  refused contents = by_session (session_in (content contents 0)) (behind_first contents) (of_session (game_at (front_of (content contents 0))))
+
+  -- ---- each status has its cause
+
+  unplayed : (contents : Contents) (input : Input) (due : Result Seating Status) → start_for p contents ≡ due → IsReadOrRefused due → HasCause (peer_law p) contents input (unplayed_answer due).status
+  unplayed contents input (Ok seating) e h = tt
+  unplayed contents input (Err NoMemory) e h = tt
+  unplayed contents input (Err Usage) e h = e
+  unplayed contents input (Err (BadSession line what)) e h = e
+  unplayed contents input (Err (BadLine text line)) e h = e
+  unplayed contents input (Err (BadLog log at why)) e h = e
+  unplayed contents input (Err status) e h = absurd h
+
+  loop_cause : (contents : Contents) (input : Input) (seating : Seating) → start_for p contents ≡ Ok seating → (ended : Ended) → HasCause (peer_law p) contents input (status_of ended)
+  loop_cause contents input seating e E.Done = (seating, e)
+  loop_cause contents input seating e (E.Caught f) = (seating, e)
+  loop_cause contents input seating e E.PollFault = (seating, e)
+  loop_cause contents input seating e E.KeepFault = (seating, e)
+  loop_cause contents input seating e (E.OwnMove turn fault) = (seating, e)
+  loop_cause contents input seating e E.GaveUp = (seating, e)
+
+  played : (contents : Contents) (input : Input) (before after : Outside) (s : Status) → PlaysOverSockets p (start_for p contents) before after s → HasCause (peer_law p) contents input s
+  played contents input before after s d = go s d.plays.written
+    where
+      go : (s : Status) → Ends before.output after.output (peer_answer (d.seating.begins.dropped) p.polls d.plays.ended d.plays.last) s → HasCause (peer_law p) contents input s
+      go NoMemory w = tt
+      go InputFault w = tt
+      go OutputFault w = tt
+      go s w = subst (λ (x : Status). HasCause (peer_law p) contents input x) (sym w.1) (loop_cause contents input d.seating d.due_is d.plays.ended)
+
+  -- a run that was played is told without a line of refusal
+  played_on : (contents : Contents) (before after : Outside) (output : SinkState) (s result : Status) → PlaysOverSockets p (start_for p contents) before after s → Refuses after.output output s result →
+      PlaysOverSockets p (start_for p contents) before (with_output after output) result
+  played_on contents before after output s result d r = record {
+    seating = d.seating;
+    due_is = d.due_is;
+    seated = d.seated;
+    honest = d.honest;
+    plays = record { ended = d.plays.ended; last = d.plays.last; plays = d.plays.plays; fair = d.plays.fair; steps = d.plays.steps; written = ended_on before.output after.output output _ _ d.plays.ended d.plays.last s result d.plays.written r };
+  }
+
+  pub peer_holds : Holds (peer_law p)
+  peer_holds = record {
+    caused = λ contents input ends. unplayed contents input (start_for p contents) refl (refused contents);
+    done = λ contents input answered ends good. inr (ap (λ (r : Result Seating Status). (unplayed_answer r).status) good.due_is);
+    meant = λ contents input. record { crashes = crashes_are_survived; unsynced = nothing_is_given_unsynced };
+    unread = λ shelf contents h k. inl (none_at (seat_names p) k);
+    unremembered = λ ended. tt;
+    cut = λ ended. tt;
+    played_cause = played;
+    played_done = λ contents input before after s d good written. comes p (start_for p contents) before after s good written d;
+    played_told = played_on;
+  }

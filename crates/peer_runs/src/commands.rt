@@ -1,0 +1,128 @@
+//! Each command, by the program's words, and what is done for it.
+
+ghost use Rattle.std.specs.Prelude.{◌≡◌, Some, [], is_some, map, option_map};
+ghost use Rattle.run_frame.specs.Outside.{outside};
+ghost use Rattle.run_frame.specs.Runs.{Works};
+ghost use Rattle.peer_runs.specs.Commands as C;
+ghost use Rattle.peer_runs.specs.Commands.{command_said, law_of};
+
+use drive_command::{DriveWords, read_drive_words, run_drive};
+use file_commands::{
+    AuditWords, JudgeWords, read_audit_words, read_judge_words, read_upgrade_words, run_audit,
+    run_judge, run_upgrade,
+};
+use make_command::{read_make_words, run_make};
+use peer_command::{PeerWords, read_peer_words, run_peer};
+use rand_core::Rng;
+use run_frame::Status;
+use schedule_command::{read_schedule_words, run_schedule};
+use socket_station::Station;
+use station::{Shelf, Sink, Source, are_words};
+use std::alloc::Global;
+
+/// A command, with its words.
+#[derive(Clone, Copy)]
+pub enum Command<'a> {
+    /// A peer is driven by the input.
+    Drive(DriveWords<'a>),
+    /// The session of this file is printed in version 2.
+    Upgrade(&'a [u8]),
+    /// The exhibit of a file is judged.
+    Judge(JudgeWords<'a>),
+    /// What the logs of files show is printed.
+    Audit(AuditWords<'a>),
+    /// The honest peers of a match in the session of this file are stepped by the input.
+    Schedule(&'a [u8]),
+    /// The match of this number is made.
+    Make(u64),
+    /// A player plays with others over sockets.
+    Peer(PeerWords<'a>),
+}
+
+/// The command of this name with these words.
+pub fn read_named<'a>(name: &[u8], words: &'a [Vec<u8>]) -> Option<Command<'a>>
+    ensures { option_map command_said result ≡ C.command_named name.now (map (λ w. w.items) words.now) }
+{
+    if name == b"drive".as_slice() {
+        let words = read_drive_words(words)?;
+        Some(Command::Drive(words))
+    } else if name == b"upgrade".as_slice() {
+        let session = read_upgrade_words(words)?;
+        Some(Command::Upgrade(session))
+    } else if name == b"judge".as_slice() {
+        let words = read_judge_words(words)?;
+        Some(Command::Judge(words))
+    } else if name == b"audit".as_slice() {
+        let words = read_audit_words(words)?;
+        Some(Command::Audit(words))
+    } else if name == b"schedule".as_slice() {
+        let session = read_schedule_words(words)?;
+        Some(Command::Schedule(session))
+    } else if name == b"make".as_slice() {
+        let number = read_make_words(words)?;
+        Some(Command::Make(number))
+    } else if name == b"peer".as_slice() {
+        let words = read_peer_words(words)?;
+        Some(Command::Peer(words))
+    } else {
+        None
+    }
+}
+
+/// Does what the command asks for, but for the last line of a refusal. Each command is handed only what it uses.
+///
+/// No call of the station was made before.
+pub fn obey<I: Source, O: Sink, H: Shelf, S: Station, R: Rng>(
+    alloc: Global,
+    command: Command<'_>,
+    input: &mut I,
+    out: &mut O,
+    shelf: &mut H,
+    station: &mut S,
+    chance: &mut R,
+) -> Status
+    requires first { S.history station.old ≡ [] }
+    ensures { Works (law_of (Some (command_said command.entry)))
+        (outside (I.state input.old) (O.state out.old) (H.state shelf.old) (S.history station.old) (R.stream chance.old))
+        (outside (I.state input.new) (O.state out.new) (H.state shelf.new) (S.history station.new) (R.stream chance.new)) result }
+{
+    match command {
+        Command::Drive(words) => run_drive(alloc, words, input, out, shelf),
+        Command::Upgrade(session) => run_upgrade(alloc, session, out, shelf),
+        Command::Judge(words) => run_judge(alloc, words, out, shelf),
+        Command::Audit(words) => run_audit(alloc, words, out, shelf),
+        Command::Schedule(session) => run_schedule(alloc, session, input, out, shelf),
+        Command::Make(number) => run_make(alloc, number, out),
+        Command::Peer(words) => run_peer(alloc, words, out, shelf, station, chance),
+    }
+}
+
+/// The command that the words are.
+fn read_words(words: &[Vec<u8>]) -> Option<Command<'_>>
+    ensures { option_map command_said result ≡ C.command_in (map (λ w. w.items) words.now) }
+{
+    match words {
+        [] => None,
+        [name, rest @ ..] => read_named(name.as_slice(), rest),
+    }
+}
+
+/// The command that the program's words are.
+#[tactic(auto, unfolding(crate::specs::Commands::command_of))]
+pub(crate) fn read_command(words: &[Vec<u8>]) -> Option<Command<'_>>
+    ensures { option_map command_said result ≡ C.command_of (map (λ w. w.items) words.now) }
+{
+    if are_words(words) {
+        read_words(words)
+    } else {
+        None
+    }
+}
+
+/// Whether the program's words are a command. That takes no memory, so that words that are none are told so whatever
+/// the memory.
+pub fn is_command(words: &[Vec<u8>]) -> bool
+    ensures { result ≡ is_some (C.command_of (map (λ w. w.items) words.now)) }
+{
+    read_command(words).is_some()
+}

@@ -1,4 +1,0 @@
-pub mod Shelves
-pub mod Opening
-pub mod CaseOpened
-pub mod AuditOpened
