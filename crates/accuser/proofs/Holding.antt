@@ -10,19 +10,19 @@ use Rattle.definitions.specs.Lists.{is_empty}
 use Rattle.definitions.specs.World.{Game}
 use Rattle.definitions.specs.Logs.{player_of}
 use Rattle.seal_keys.specs.Seals.{seal_len}
-use Rattle.auditor.specs.declared.auditor.Auditor.{Auditor}
+use Rattle.auditor.specs.Audits.{AuditState}
 use Rattle.auditor.specs.Taking.{Takes}
 use Rattle.auditor.proofs.Fed.{takes_more}
 use Rattle.sealed_files.specs.SealedFrames.{frame_len, sealed_ahead}
 use Rattle.accuser.specs.Accused.{entries_from, entries_in}
 
 -- the frames before this byte were taken, and those behind it are left
-pub record HasTaken (game : Game) (roots : List (List ℕ)) (before now : Auditor) (file : ℕ) (bytes : List ℕ) (steps at : ℕ) : Type 0 where
+pub record HasTaken (game : Game) (roots : List (List ℕ)) (before now : AuditState) (file : ℕ) (bytes : List ℕ) (steps at : ℕ) : Type 0 where
   pub front : List Entry
   pub parts : entries_in game roots bytes ≡ front ++ entries_from game roots steps (drop at bytes)
   pub taken : Takes before now file front
 
-pub none_taken : (game : Game) (roots : List (List ℕ)) (a : Auditor) (file : ℕ) (bytes : List ℕ) → HasTaken game roots a a file bytes (length bytes - 0) 0
+pub none_taken : (game : Game) (roots : List (List ℕ)) (a : AuditState) (file : ℕ) (bytes : List ℕ) → HasTaken game roots a a file bytes (length bytes - 0) 0
 none_taken game roots a file bytes =
     let all : length bytes - 0 ≡ length bytes = omega arith in
     record { front = []; parts = ap (λ (n : ℕ). entries_from game roots n bytes) (sym all); taken = λ g logs w. w }
@@ -45,22 +45,22 @@ from_more game roots (suc n) bytes f some e r =
     rw (e, r, same) refl
 
 -- nothing is left
-pub all_taken : (game : Game) (roots : List (List ℕ)) (a a' : Auditor) (file : ℕ) (bytes : List ℕ) (steps at : ℕ) → entries_from game roots steps (drop at bytes) ≡ [] →
+pub all_taken : (game : Game) (roots : List (List ℕ)) (a a' : AuditState) (file : ℕ) (bytes : List ℕ) (steps at : ℕ) → entries_from game roots steps (drop at bytes) ≡ [] →
     HasTaken game roots a a' file bytes steps at → Takes a a' file (entries_in game roots bytes)
 all_taken game roots a a' file bytes steps at none has =
     subst (Takes a a' file) (sym (has.parts ∙ ap (λ (es : List Entry). has.front ++ es) none ∙ append-nil has.front)) has.taken
 
-pub taken_empty : (game : Game) (roots : List (List ℕ)) (a a' : Auditor) (file : ℕ) (bytes : List ℕ) (steps at : ℕ) → is_empty (drop at bytes) ≡ true →
+pub taken_empty : (game : Game) (roots : List (List ℕ)) (a a' : AuditState) (file : ℕ) (bytes : List ℕ) (steps at : ℕ) → is_empty (drop at bytes) ≡ true →
     HasTaken game roots a a' file bytes steps at → Takes a a' file (entries_in game roots bytes)
 taken_empty game roots a a' file bytes steps at e has = all_taken game roots a a' file bytes steps at (from_empty game roots steps (drop at bytes) e) has
 
-pub taken_out : (game : Game) (roots : List (List ℕ)) (a a' : Auditor) (file : ℕ) (bytes : List ℕ) (steps at : ℕ) → steps ≡ 0 →
+pub taken_out : (game : Game) (roots : List (List ℕ)) (a a' : AuditState) (file : ℕ) (bytes : List ℕ) (steps at : ℕ) → steps ≡ 0 →
     HasTaken game roots a a' file bytes steps at → Takes a a' file (entries_in game roots bytes)
 taken_out game roots a a' file bytes steps at e has =
     all_taken game roots a a' file bytes steps at (ap (λ (n : ℕ). entries_from game roots n (drop at bytes)) e ∙ from_none game roots (drop at bytes)) has
 
 -- one frame more
-pub one_taken : (game : Game) (roots : List (List ℕ)) (a b c : Auditor) (file : ℕ) (bytes : List ℕ) (steps left at next : ℕ) (f : TurnFrame) → 0 < steps → left ≡ steps - 1 →
+pub one_taken : (game : Game) (roots : List (List ℕ)) (a b c : AuditState) (file : ℕ) (bytes : List ℕ) (steps left at next : ℕ) (f : TurnFrame) → 0 < steps → left ≡ steps - 1 →
     is_empty (drop at bytes) ≡ false → sealed_ahead game roots (drop at bytes) ≡ Some f → drop (frame_len (drop at bytes) + seal_len game) (drop at bytes) ≡ drop next bytes →
     Takes b c file (Got (player_of f) f ∷ []) → HasTaken game roots a b file bytes steps at → HasTaken game roots a c file bytes left next
 one_taken game roots a b c file bytes steps left at next f some less e r behind takes has = record {

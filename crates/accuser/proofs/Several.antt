@@ -5,8 +5,7 @@ use Rattle.std.specs.Option.{option_or}
 use Rattle.definitions.specs.declared.logs.Entry.{Entry}
 use Rattle.definitions.specs.World.{Game}
 use Rattle.frame_index.specs.declared.limits.TheConstants.{MOST_LOGS}
-use Rattle.auditor.specs.declared.auditor.Auditor.{Auditor}
-use Rattle.auditor.specs.Audits.{StandsFor, owner_in}
+use Rattle.auditor.specs.Audits.{AuditState, StandsFor, owner_in}
 use Rattle.auditor.specs.Taking.{LeavesOthers}
 use Rattle.log_files.proofs.OneMore.{one_more_log}
 use Rattle.sealed_files.specs.SealedFrames.{first_bad}
@@ -15,7 +14,7 @@ use Rattle.accuser.specs.declared.accusing.AccuseFault.TheVariants.{BadSeal, Mem
 use Rattle.accuser.specs.Accused.{AreTaken, IsFirstFault, IsFaultOf, IsFileTaken, entries_in, first_fault, logs_of}
 
 -- no file
-pub none_taken : (game : Game) (roots : List (List ℕ)) (a : Auditor) (number : ℕ) (files : List (List ℕ)) → files ≡ [] → AreTaken game roots a a number files
+pub none_taken : (game : Game) (roots : List (List ℕ)) (a : AuditState) (number : ℕ) (files : List (List ℕ)) → files ≡ [] → AreTaken game roots a a number files
 none_taken game roots a number files none = subst (AreTaken game roots a a number) (sym none) (record {
   sound = refl;
   stands = λ owners logs long stands. (
@@ -38,7 +37,7 @@ module _ (game : Game) (roots : List (List ℕ)) (number : ℕ) (bytes : List �
   bad_behind (BadSeal file at) sound w = sound_first sound ∙ w
   bad_behind Memory sound w = tt
 
-  pub more_taken : (a a' a'' : Auditor) → number < MOST_LOGS → IsFileTaken game roots a a' number bytes → LeavesOthers a a' number → owner_in a' number ≡ None →
+  pub more_taken : (a a' a'' : AuditState) → number < MOST_LOGS → IsFileTaken game roots a a' number bytes → LeavesOthers a a' number → owner_in a' number ≡ None →
       AreTaken game roots a' a'' (number + 1) rest → AreTaken game roots a a'' number (bytes ∷ rest)
   more_taken a a' a'' few is others unowned behind = record {
     sound = sound_first is.sound ∙ behind.sound;

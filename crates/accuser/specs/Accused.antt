@@ -9,10 +9,8 @@ use Rattle.definitions.specs.Lists.{is_empty}
 use Rattle.definitions.specs.World.{Game}
 use Rattle.definitions.specs.Logs.{player_of}
 use Rattle.seal_keys.specs.Seals.{seal_len}
-use Rattle.auditor.specs.declared.auditor.Auditor.{Auditor}
-use Rattle.auditor.specs.declared.report.Report.{Report}
-use Rattle.auditor.specs.Audits.{StandsFor}
-use Rattle.auditor.specs.Reports.{found_in}
+use Rattle.auditor.specs.Audits.{AuditState, StandsFor}
+use Rattle.auditor.specs.Reports.{Reported, found_in}
 use Rattle.auditor.specs.Taking.{Takes}
 use Rattle.sealed_files.specs.SealedFrames.{bad_from, first_bad, frame_len, sealed_ahead}
 use Rattle.accuser.specs.declared.accusing.AccuseFault.{AccuseFault}
@@ -34,7 +32,7 @@ abbrev pub entries_in : Game → List (List ℕ) → List ℕ → List Entry
 entries_in game roots bytes = entries_from game roots (length bytes) bytes
 
 -- the bytes are sealed frames throughout, and their frames were taken
-pub record AreFramesTaken (game : Game) (roots : List (List ℕ)) (a a' : Auditor) (file : ℕ) (bytes : List ℕ) : Type 0 where
+pub record AreFramesTaken (game : Game) (roots : List (List ℕ)) (a a' : AuditState) (file : ℕ) (bytes : List ℕ) : Type 0 where
   pub sound : bad_from game roots (length bytes) 0 bytes ≡ None
   pub taken : Takes a a' file (entries_in game roots bytes)
 
@@ -45,7 +43,7 @@ IsFaultIn game roots number bytes (BadSeal file at) = (file ≡ number) × (bad_
 IsFaultIn game roots number bytes Memory = Unit {0}
 
 -- the file is sealed frames throughout and not too long, and their frames were taken
-pub record IsFileTaken (game : Game) (roots : List (List ℕ)) (a a' : Auditor) (file : ℕ) (bytes : List ℕ) : Type 0 where
+pub record IsFileTaken (game : Game) (roots : List (List ℕ)) (a a' : AuditState) (file : ℕ) (bytes : List ℕ) : Type 0 where
   pub sound : first_bad game roots bytes ≡ None
   pub taken : Takes a a' file (entries_in game roots bytes)
 
@@ -70,12 +68,12 @@ IsFirstFault game roots number files Memory = Unit {0}
 
 -- No file has a fault, and an auditor that stood for as many logs as the number says stands for them
 -- with the files' frames behind them.
-pub record AreTaken (game : Game) (roots : List (List ℕ)) (a a' : Auditor) (number : ℕ) (files : List (List ℕ)) : Type 0 where
+pub record AreTaken (game : Game) (roots : List (List ℕ)) (a a' : AuditState) (number : ℕ) (files : List (List ℕ)) : Type 0 where
   pub sound : first_fault game roots number files ≡ None
   pub stands : (owners : List (Option ℕ)) (logs : List (List Entry)) → length logs ≡ number → StandsFor game owners logs a →
       (more : List (Option ℕ)) × StandsFor game (owners ++ more) (logs ++ logs_of game roots files) a'
 
 -- no file has a fault, and the report lists what logs show that got just these frames
-pub record Accuses (game : Game) (roots files : List (List ℕ)) (r : Report) : Type 0 where
+pub record Accuses (game : Game) (roots files : List (List ℕ)) (r : Reported) : Type 0 where
   pub sound : first_fault game roots 0 files ≡ None
   pub found : found_in r ≡ findings game (logs_of game roots files)

@@ -17,9 +17,8 @@ use Rattle.session_log.specs.declared.feed.LogFedWhat.TheVariants as what
 use Rattle.session_log.specs.Feeding.{LogFeeding, LogGiven, fed_step, given_of}
 use Rattle.session_log.specs.Fed.{Fed, IsFeedOf}
 use Rattle.session_log.proofs.FedWell.{fed_well}
-use Rattle.auditor.specs.Audits.{IsAuditOf, is_of_its_sender}
+use Rattle.auditor.specs.Audits.{AuditState, IsAuditOf, is_of_its_sender}
 use Rattle.auditor.specs.Taking.{ReadsAll, ReadsOn, Takes, TakesAll, TakesFront, TakesOn, TakesSome, given_behind, with_entries}
-use Rattle.auditor.specs.declared.auditor.Auditor.{Auditor}
 
 -- what holds holds on an error
 pub on_err_always : {T E P : Type 0} (r : Result T E) → P → OnErr r P
@@ -41,7 +40,7 @@ pub with_more : (logs : List (List Entry)) (i : ℕ) (es more : List Entry) → 
 with_more logs i [] more = refl
 with_more logs i (e ∷ es) more = with_more (with_entry logs i e) i es more
 
-pub takes_more : (a b c : Auditor) (log : ℕ) (es more : List Entry) → Takes a b log es → Takes b c log more → Takes a c log (es ++ more)
+pub takes_more : (a b c : AuditState) (log : ℕ) (es more : List Entry) → Takes a b log es → Takes b c log more → Takes a c log (es ++ more)
 takes_more a b c log es more one two game logs w = subst (λ (x : List (List Entry)). IsAuditOf game x c) (sym (with_more logs log es more)) (two game (with_entries logs log es) (one game logs w))
 
 pub behind_more : (es more : List Entry) (g h : LogGiven) → h ≡ given_behind more g → given_behind es h ≡ given_behind (es ++ more) g
@@ -74,7 +73,7 @@ all_more room i e lt all is =
 -- ---- entries that are taken
 
 -- where a batch was read, and the first of its entries were taken, these are the first that the bytes give
-pub front_of_read : (game : Game) (old now next : Auditor) (log : ℕ) (r r' : Fed) (f : LogFeeding) (bytes rest : List ℕ) (count many : ℕ) (es : List Entry) → IsFeedOf r f → count ≤ many → (count ≡ many → ReadsOn game r r' bytes rest es) →
+pub front_of_read : (game : Game) (old now next : AuditState) (log : ℕ) (r r' : Fed) (f : LogFeeding) (bytes rest : List ℕ) (count many : ℕ) (es : List Entry) → IsFeedOf r f → count ≤ many → (count ≡ many → ReadsOn game r r' bytes rest es) →
     (count < many → ReadsAll game r r' bytes es) → Takes old now log [] → TakesFront now next log es → TakesSome game old next log bytes f
 front_of_read game old now next log r r' f bytes rest count many es is fits full all none some =
     elim (cases_lt count many) [
@@ -93,7 +92,7 @@ front_of_read game old now next log r r' f bytes rest count many es is fits full
     ]
 
 -- of all that the bytes give these were taken, and of what is left the first
-pub takes_some : (game : Game) (old now next : Auditor) (log : ℕ) (bytes rest : List ℕ) (f g : LogFeeding) (es : List Entry) → given_of game f bytes ≡ given_behind es (given_of game g rest) → Takes old now log es →
+pub takes_some : (game : Game) (old now next : AuditState) (log : ℕ) (bytes rest : List ℕ) (f g : LogFeeding) (es : List Entry) → given_of game f bytes ≡ given_behind es (given_of game g rest) → Takes old now log es →
     TakesSome game now next log rest g → TakesSome game old next log bytes f
 takes_some game old now next log bytes rest f g es e one some = record {
   front = es ++ some.front;
@@ -103,7 +102,7 @@ takes_some game old now next log bytes rest f g es e one some = record {
 }
 
 -- of all that the bytes give these were taken, and of what is left all
-pub takes_all : (game : Game) (old now next : Auditor) (log : ℕ) (r r' r'' : Fed) (bytes rest : List ℕ) (f g : LogFeeding) (es : List Entry) → given_of game f bytes ≡ given_behind es (given_of game g rest) → Takes old now log es →
+pub takes_all : (game : Game) (old now next : AuditState) (log : ℕ) (r r' r'' : Fed) (bytes rest : List ℕ) (f g : LogFeeding) (es : List Entry) → given_of game f bytes ≡ given_behind es (given_of game g rest) → Takes old now log es →
     TakesAll game now next log r' r'' rest g → TakesAll game old next log r r'' bytes f
 takes_all game old now next log r r' r'' bytes rest f g es e one all = record {
   feed = subst (λ (x : LogFeeding). IsFeedOf r'' x) (sym (ap (λ (x : LogGiven). x.feeding) e)) all.feed;
@@ -111,11 +110,11 @@ takes_all game old now next log r r' r'' bytes rest f g es e one all = record {
 }
 
 -- so far these entries were taken, and what is left gives the rest
-abbrev pub IsSoFar : Game → (old now : Auditor) → ℕ → Fed → (f : LogFeeding) → (bytes rest : List ℕ) → Type 0
+abbrev pub IsSoFar : Game → (old now : AuditState) → ℕ → Fed → (f : LogFeeding) → (bytes rest : List ℕ) → Type 0
 IsSoFar game old now log r f bytes rest = (g : LogFeeding) × (es : List Entry) × IsFeedOf r g × (given_of game f bytes ≡ given_behind es (given_of game g rest)) × Takes old now log es
 
 -- and so with those of a batch more
-pub so_on : (game : Game) (old now next : Auditor) (log : ℕ) (r r' : Fed) (f : LogFeeding) (bytes piece : List ℕ) (at to : ℕ) → TakesOn game now next log r r' piece at (Some to) → IsSoFar game old now log r f bytes (drop at piece) →
+pub so_on : (game : Game) (old now next : AuditState) (log : ℕ) (r r' : Fed) (f : LogFeeding) (bytes piece : List ℕ) (at to : ℕ) → TakesOn game now next log r r' piece at (Some to) → IsSoFar game old now log r f bytes (drop at piece) →
     IsSoFar game old next log r' f bytes (drop to piece)
 so_on game old now next log r r' f bytes piece at to takes so =
     let n = takes so.0 so.2 in (

@@ -15,3 +15,4 @@ pub mod Padded
 pub mod Joining
 pub mod Behind
 pub mod Cleared
+pub mod Viewed

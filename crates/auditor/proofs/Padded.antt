@@ -19,12 +19,10 @@ use Rattle.definition_laws.proofs.Silent.{pair_alike, filter_map_alike, flat_map
 use Rattle.frame_index.specs.declared.limits.TheConstants.{MOST_LOGS}
 use Rattle.evidence.specs.declared.exhibit.Exhibit.{Exhibit}
 use Rattle.evidence.specs.Showing.{commit_first, frame_at, frame_got, frames_by, frames_of_finding, pair_at, turns_shown}
-use Rattle.auditor.specs.declared.auditor.Auditor.{Auditor}
-use Rattle.auditor.specs.declared.report.Report.{Report}
-use Rattle.auditor.specs.Audits.{StandsFor, padded}
+use Rattle.auditor.specs.Audits.{AuditState, StandsFor, padded}
 use Rattle.auditor.specs.Agreed.{AreOwned, agreed_move, agreed_moves, all_agreed_moves, moves_given, one_move, resolved_at, resolved_by, world_by}
 use Rattle.auditor.specs.Exhibits.{IsExhibitOf}
-use Rattle.auditor.specs.Reports.{IsReportOf}
+use Rattle.auditor.specs.Reports.{IsReportOf, Reported}
 
 -- what follows of a value, if there is one
 pub if_ok : {T E : Type 0} {P Q : T → Type 0} (r : Result T E) → ((x : T) → P x → Q x) → IfOk r P → IfOk r Q
@@ -176,7 +174,7 @@ log_there (h ∷ logs) k zero lt = refl
 log_there (h ∷ logs) k (suc i) lt = log_there logs k i (omega (arith, lt))
 
 -- what an auditor says of the logs and the empty ones behind them, it says of the logs
-module _ (game : Game) (owners : List (Option ℕ)) (logs : List (List Entry)) (a : Auditor) (stands : StandsFor game owners logs a) where
+module _ (game : Game) (owners : List (Option ℕ)) (logs : List (List Entry)) (a : AuditState) (stands : StandsFor game owners logs a) where
   abbrev pub all : List (List Entry)
   all = padded logs (MOST_LOGS - length logs)
 
@@ -190,7 +188,7 @@ module _ (game : Game) (owners : List (Option ℕ)) (logs : List (List Entry)) (
       let each = stands.each in
       owned i o h (sym (log_there logs (MOST_LOGS - length logs) i (omega (arith, lt, each))) ∙ at) theirs
 
-  pub report_stands : (r : Report) → IsReportOf game a.owners all r → IsReportOf game owners logs r
+  pub report_stands : (r : Reported) → IsReportOf game a.owners all r → IsReportOf game owners logs r
   report_stands r is = record {
     found = is.found ∙ findings_as game logs (MOST_LOGS - length logs);
     agreed = λ owned q lt. is.agreed (all_owned owned) q lt ∙ ap length (moves_as game logs (MOST_LOGS - length logs) a.owners owners stands.owners_are past q);

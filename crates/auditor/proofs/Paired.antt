@@ -14,15 +14,14 @@ use Rattle.definitions.specs.Lists.{item_or}
 use Rattle.definition_laws.specs.Members.{Has}
 use Rattle.definition_laws.specs.Spots.{IsLeastPair}
 use Rattle.definition_laws.proofs.Least.{finding_is_least, findings_Has}
-use Rattle.frame_index.specs.declared.frames.FrameIndex.{FrameIndex}
-use Rattle.frame_index.specs.Frames.{IsIndex, kept_in}
+use Rattle.frame_index.specs.Frames.{IndexState, IsIndex, kept_in}
 use Rattle.frame_index.proofs.Wrong.{item_is}
 use Rattle.evidence.specs.Showing.{frames_by, frames_of_finding, pair_at}
 use Rattle.auditor.specs.Exhibits.{before_pair, both, is_illegal, kept_at, pair_shown, shown_by}
 use Rattle.auditor.proofs.Spotted.{kept_there, spotted}
 
 -- what is kept with a finding's spots are the frames there
-pub pair_is : (game : Game) (logs : List (List Entry)) (f : Finding) (index : FrameIndex) → IsIndex game logs index → Has (findings game logs) f →
+pub pair_is : (game : Game) (logs : List (List Entry)) (f : Finding) (index : IndexState) → IsIndex game logs index → Has (findings game logs) f →
     both (kept_at (kept_in index f.player f.turn) f.first) (kept_at (kept_in index f.player f.turn) f.second) ≡ pair_at logs f
 pair_is game logs f index w m =
     let there = findings_Has game logs f m in

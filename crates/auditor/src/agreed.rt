@@ -233,10 +233,9 @@ impl Auditor {
         ensures moves { IfOk result (λ moves. (logs : List (List Entry)) → R.IsReadable self.now logs → moves.items ≡ A.agreed_moves self.now.session self.now.owners logs player) }
     {
         let mut moves = Vec::new(alloc);
-        let mut readings = Readings {
-            got: start(alloc, &self.index, &self.session, walker, player)?,
-            made: start(alloc, &self.made, &self.session, walker, player)?,
-        };
+        let got = start(alloc, &self.index, &self.session, walker, player)?;
+        let made = start(alloc, &self.made, &self.session, walker, player)?;
+        let mut readings = Readings { got, made };
         for turn in 0..self.session.turns() {
             self.put_agreed(walker, player, turn, &mut readings, &mut moves)?;
         }

@@ -2,19 +2,19 @@
 //!
 //! What hands an entry on is inlined, here and in [`crate::batches`]: each entry of each log goes through it.
 
-ghost use Rattle.std.specs.Prelude.{◌≡◌, ◌<◌, ◌+◌, ℕ, List, [], None, Some, slice_get, length, replicate, IfOk, OnOk, OnErr, IsTrue};
+ghost use Rattle.std.specs.Prelude.{◌≡◌, ◌<◌, ◌+◌, ℕ, List, [], None, Some, slice_get, slice_index, length, replicate, IfOk, OnOk, OnErr, IsTrue};
 ghost use Rattle.definitions.specs.declared.logs.Entry.{Entry};
 ghost use Rattle.definitions.specs.World.{Game};
 ghost use Rattle.frame_index.specs.Appended.{with_entry};
-ghost use Rattle.frame_index.specs.Frames as F;
 ghost use Rattle.frame_index.specs.Frames.{IsIndex};
-ghost use Rattle.auditor.specs.Audits.{IsAuditOf, count_in, crossed, is_of_its_sender, owner_in};
+ghost use Rattle.auditor.specs.Audits.{IsAuditOf, count_in, counts_after, crossed, is_of_its_sender, logs_after, owner_in, owners_with, put_at};
 
 use definitions::limits::LONGEST_LOG;
 use definitions::{Entry, PlayerId, Spot};
 use frame_index::{FrameIndex, MOST_LOGS, own_entries_change_nothing};
 use grid_world::Session;
 use std::alloc::{AllocError, Global};
+use std::marker::Model;
 
 /// How many logs an auditor has room for.
 const LOGS: usize = MOST_LOGS as usize;
@@ -29,6 +29,32 @@ pub struct Auditor {
     // of each log, by its number: how many entries were taken, and whose log it is
     counts: [u32; LOGS],
     pub(crate) owners: [Option<PlayerId>; LOGS],
+}
+
+impl Model for Auditor {
+    ghost use Rattle.auditor.specs.Audits.{AuditState};
+
+    ghost Value = { AuditState };
+
+    ghost view = { λ a. record { session = a.session; index = a.index; made = a.made; counts = a.counts; owners = a.owners } };
+}
+
+/// One entry more was taken of the log.
+#[inline(always)]
+fn count_one(counts: &mut [u32], log: u32)
+    requires log { log < length counts.old }
+    requires few { slice_index counts.old log < LONGEST_LOG }
+    ensures { counts.new ≡ put_at 0 counts.old log (slice_index counts.old log + 1) }
+{
+    counts[log as usize] += 1;
+}
+
+/// The log is of this owner.
+pub(crate) fn name_owner(owners: &mut [Option<PlayerId>], log: u32, owner: Option<PlayerId>)
+    requires { log < length owners.old }
+    ensures { owners.new ≡ owners_with owners.old log owner }
+{
+    owners[log as usize] = owner;
 }
 
 /// Takes the frame of the entry at the spot: to the frames that logs got, or to those that their owners made.
@@ -76,13 +102,10 @@ impl Auditor {
     /// The log is this player's. It is given once, before the log's first entry. It takes no memory.
     pub fn owner(&mut self, log: u32, owner: PlayerId)
         requires log { log < MOST_LOGS }
+        ensures after { self.new ≡ record self.old { owners = owners_with self.old.owners log (Some owner) } }
         ensures stands { (game : Game) (logs : List (List Entry)) → IsAuditOf game logs self.old → IsAuditOf game logs self.new }
-        ensures session { self.new.session ≡ self.old.session }
-        ensures counts { (i : ℕ) → count_in self.new i ≡ count_in self.old i }
-        ensures owner { owner_in self.new log ≡ Some owner }
-        ensures others { (i : ℕ) → (i ≡ log → F.Never) → owner_in self.new i ≡ owner_in self.old i }
     {
-        self.owners[log as usize] = Some(owner);
+        name_owner(&mut self.owners, log, Some(owner));
     }
 
     /// How many entries were taken of the log.
@@ -102,20 +125,19 @@ impl Auditor {
         requires log { log < MOST_LOGS }
         requires few { count_in self.old log < LONGEST_LOG }
         requires sender { IsTrue (is_of_its_sender entry.now) }
-        ensures stands { OnOk result ((game : Game) (logs : List (List Entry)) → IsAuditOf game logs self.old → IsAuditOf game (with_entry logs log entry.now) self.new) }
-        ensures err { OnErr result ((game : Game) (logs : List (List Entry)) → IsAuditOf game logs self.old → IsAuditOf game logs self.new) }
-        ensures session { self.new.session ≡ self.old.session }
-        ensures counted { OnOk result (count_in self.new log ≡ count_in self.old log + 1) }
-        ensures uncounted { OnErr result (count_in self.new log ≡ count_in self.old log) }
-        ensures others { (i : ℕ) → (i ≡ log → F.Never) → count_in self.new i ≡ count_in self.old i }
-        ensures owners { (i : ℕ) → owner_in self.new i ≡ owner_in self.old i }
+        ensures after { self.new ≡ record self.old { index = self.new.index; made = self.new.made; counts = counts_after result self.old.counts log } }
+        ensures stands { (game : Game) (logs : List (List Entry)) → IsAuditOf game logs self.old → IsAuditOf game (logs_after result logs log entry.now) self.new }
     {
         let spot = Spot {
             log,
             entry: self.counts[log as usize],
         };
-        take_entry(&mut self.index, &mut self.made, &self.session, spot, entry)?;
-        self.counts[log as usize] += 1;
-        Ok(())
+        match take_entry(&mut self.index, &mut self.made, &self.session, spot, entry) {
+            Ok(()) => {
+                count_one(&mut self.counts, log);
+                Ok(())
+            }
+            Err(wanting) => Err(wanting),
+        }
     }
 }

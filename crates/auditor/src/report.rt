@@ -15,6 +15,7 @@ use definitions::{Finding, Move, PlayerId};
 use frame_index::findings;
 use move_rules::Walker;
 use std::alloc::{AllocError, Global};
+use std::marker::Model;
 
 /// What logs show.
 #[derive(Drop)]
@@ -24,6 +25,14 @@ pub struct Report {
     agreed: Vec<u32>,
     // each player's line, or none
     lines: Vec<WorldLine>,
+}
+
+impl Model for Report {
+    ghost use Rattle.auditor.specs.Reports.{Reported};
+
+    ghost Value = { Reported };
+
+    ghost view = { λ r. record { found = r.found.items; agreed = r.agreed.items; lines = r.lines.items } };
 }
 
 impl Report {

@@ -7,7 +7,7 @@ ghost use Rattle.session_log.specs.Feeding.{LogFeeding};
 ghost use Rattle.auditor.specs.Audits.{count_in, is_of_its_sender, owner_in};
 ghost use Rattle.auditor.specs.Taking as T;
 
-use crate::auditor::Auditor;
+use crate::auditor::{Auditor, name_owner};
 use crate::batches::read_batch;
 use definitions::limits::LONGEST_LOG;
 use definitions::{Entry, PlayerId};
@@ -28,7 +28,7 @@ impl Auditor {
         ensures owner { owner_in self.new log ≡ owner }
         ensures others { T.LeavesOthers self.old self.new log }
     {
-        self.owners[log as usize] = owner;
+        name_owner(&mut self.owners, log, owner);
     }
 
     /// Takes entries of the log one behind the other.

@@ -9,8 +9,7 @@ use Rattle.station.specs.Pieces.{Piece}
 use Rattle.station.specs.Shelves.{ShelfState}
 use Rattle.station.specs.Since.{since}
 use Rattle.line_io.specs.Files.{AreContents, AreReadings, Contents, in_turn, content, behind_first}
-use Rattle.auditor.specs.declared.auditor.Auditor.{Auditor}
-use Rattle.auditor.specs.Audits.{StandsFor}
+use Rattle.auditor.specs.Audits.{AuditState, StandsFor}
 use Rattle.log_files.specs.Several.{TakesFiles}
 use Rattle.log_files.specs.declared.several.LogsTaken.TheVariants as became
 use Rattle.line_io.proofs.Unread.{behind_are, none_at, none_in_turn, none_read, none_readings}
@@ -22,7 +21,7 @@ use Rattle.run_frame.specs.Sessions.{OpensSession, IsDue, is_shelf_fault}
 use Rattle.run_frame.proofs.SessionRead.{game_due}
 
 -- The logs were taken from their files, or not.
-module _ (game : Game) (b c : ShelfState) (names : List (List ℕ)) (a a' : Auditor) where
+module _ (game : Game) (b c : ShelfState) (names : List (List ℕ)) (a a' : AuditState) where
   pub whole_all : StandsFor game [] [] a → TakesFiles game b c names a a' 0 became.Whole → TakesAll game b c names (Ok a')
   whole_all stands t = record {
     calls = t.calls;
@@ -57,7 +56,7 @@ none_all game s names = record {
 
 -- a session was read, and then the logs were taken or not
 module _ (a b c : ShelfState) (session : List ℕ) (names : List (List ℕ)) where
-  audit_opened : (game : Game) (taken : Result Auditor Status) (audit : Result Audited Status) → OpensSession a b session (Ok game) → TakesAll game b c names taken →
+  audit_opened : (game : Game) (taken : Result AuditState Status) (audit : Result Audited Status) → OpensSession a b session (Ok game) → TakesAll game b c names taken →
       is_shelf_fault audit ≡ is_shelf_fault taken → ((files : Contents) → IsTakenFor game files (length names) taken → IsAuditDue (Ok game) files (length names) audit) →
       OpensAudit a c session names audit
   audit_opened game taken audit o t same due =

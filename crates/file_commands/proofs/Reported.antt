@@ -8,10 +8,9 @@ use Rattle.definitions.specs.Findings.{findings}
 use Rattle.definition_laws.specs.Members.{Has}
 use Rattle.definition_laws.proofs.Members.{each_Has}
 use Rattle.playout.specs.Lockstep.{lockstep}
-use Rattle.auditor.specs.declared.report.Report.{Report}
 use Rattle.auditor.specs.declared.world.WorldLine.{WorldLine}
 use Rattle.auditor.specs.Agreed.{AreOwned, agreed_count, all_agreed_moves, line_of, world}
-use Rattle.auditor.specs.Reports.{IsReportOf, agreed_by, world_by}
+use Rattle.auditor.specs.Reports.{IsReportOf, Reported, agreed_by, world_by}
 use Rattle.report_lines.specs.Lines.{end_line_text}
 use Rattle.file_commands.specs.AuditLines.{agreed_lines}
 use Rattle.file_commands.specs.Audit.{all_found_text, are_all_agreed, audit_text, last_text, report_text, rest_text, world_text}
@@ -37,7 +36,7 @@ rest_same game count count' b line line' counts lines =
     ap (λ x. x ++ last_text game b line) (agreed_alike count count' (players_of game) counts) ∙
     ap (λ x. agreed_lines count' 0 (players_of game) ++ (x ++ end_line_text)) (world_same game b line line' lines)
 
-pub reported : (game : Game) (owners : List (Option ℕ)) (logs : List (List Entry)) (r : Report) → 0 < players_of game → AreOwned game owners logs → IsReportOf game owners logs r →
+pub reported : (game : Game) (owners : List (Option ℕ)) (logs : List (List Entry)) (r : Reported) → 0 < players_of game → AreOwned game owners logs → IsReportOf game owners logs r →
     report_text game logs r ≡ audit_text game owners logs
 unfolding audit_text
 reported game owners logs r some owned is =

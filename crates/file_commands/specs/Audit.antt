@@ -8,10 +8,9 @@ use Rattle.definitions.specs.Findings.{findings}
 use Rattle.evidence.specs.declared.exhibit.Exhibit.{Exhibit}
 use Rattle.evidence.specs.Showing.{frames_of_finding}
 use Rattle.evidence.specs.Text.{exhibit_text}
-use Rattle.auditor.specs.declared.report.Report.{Report}
 use Rattle.auditor.specs.declared.world.WorldLine.{WorldLine}
 use Rattle.auditor.specs.Agreed.{agreed_count, all_agreed_moves, are_whole, world}
-use Rattle.auditor.specs.Reports.{agreed_by, found_in, world_by}
+use Rattle.auditor.specs.Reports.{Reported, agreed_by, found_in, world_by}
 use Rattle.report_lines.specs.Lines.{end_line_text}
 use Rattle.run_frame.specs.Frame.{Answer}
 use Rattle.run_frame.specs.declared.statuses.Status.{Status}
@@ -62,7 +61,7 @@ abbrev pub audit_answer : Game → List (Option ℕ) → List (List Entry) → A
 audit_answer game owners logs = record { body = audit_text game owners logs; status = status_by (findings game logs) }
 
 -- what is written by a report of the logs
-abbrev pub report_text : Game → List (List Entry) → Report → List ℕ
+abbrev pub report_text : Game → List (List Entry) → Reported → List ℕ
 report_text game logs r = all_found_text game logs (found_in r) ++ rest_text game (agreed_by r) (is_some (world_by r 0)) (world_by r)
 
 -- Why a run that has logs may end so: by the findings. Want of memory and faults have their causes outside.

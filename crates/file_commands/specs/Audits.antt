@@ -8,8 +8,7 @@ use Rattle.station.specs.Shelves.{ShelfState}
 use Rattle.line_io.specs.Files.{AreContents, Calls, Contents, ReadsFiles, content, behind_first}
 use Rattle.grid_world.specs.Reading.{game_at}
 use Rattle.session_log.specs.Laws.{AreBytes}
-use Rattle.auditor.specs.declared.auditor.Auditor.{Auditor}
-use Rattle.auditor.specs.Audits.{StandsFor}
+use Rattle.auditor.specs.Audits.{AuditState, StandsFor}
 use Rattle.log_files.specs.Several.{first_bytes, first_fault, logs_in, owners_in}
 use Rattle.run_frame.specs.declared.statuses.Status.{Status}
 use Rattle.run_frame.specs.declared.statuses.Status.TheVariants.{NoMemory, InputFault, BadLog, BadSession}
@@ -33,7 +32,7 @@ AreFiles files (suc many) = AreBytes (first_bytes files) × AreFiles (behind_fir
 
 -- The auditor took the logs of these files, or how the run ends where it didn't: at the first that is no log, unless memory was wanting or
 -- the shelf failed.
-abbrev pub IsTakenFor : Game → (files : Contents) → (many : ℕ) → Result Auditor Status → Type 0
+abbrev pub IsTakenFor : Game → (files : Contents) → (many : ℕ) → Result AuditState Status → Type 0
 IsTakenFor game files many (Ok a) = (first_fault game files 0 many ≡ None) × StandsFor game (owners_in game files many) (logs_in game files many) a
 IsTakenFor game files many (Err NoMemory) = Unit {0}
 IsTakenFor game files many (Err InputFault) = Unit {0}
@@ -41,7 +40,7 @@ IsTakenFor game files many (Err (BadLog log at why)) = first_fault game files 0 
 IsTakenFor game files many (Err status) = ⊥
 
 -- The logs of a session were taken, each from its file, and none behind one that is no log.
-pub record TakesAll (game : Game) (before after : ShelfState) (names : List (List ℕ)) (taken : Result Auditor Status) : Type 0 where
+pub record TakesAll (game : Game) (before after : ShelfState) (names : List (List ℕ)) (taken : Result AuditState Status) : Type 0 where
   pub calls : Calls
   pub reads : ReadsFiles names before after calls
   pub counted : after.faults ≡ faults_behind (is_shelf_fault taken) before.faults

@@ -1,4 +1,4 @@
--- JudgeLaws: what a verdict is worth. A `yes` convicts the exhibit's player in each audit of logs that got its frames.
+-- JudgeLaws: what a verdict is worth: whom the frames of a `yes` convict, and in which audits.
 use Rattle.std.specs.Prelude.{◌≡◌, ℕ, ◌+◌, ◌<◌, ◌≤◌, List, codes}
 use Rattle.definitions.specs.declared.frames.TurnFrame.{TurnFrame}
 use Rattle.definitions.specs.declared.logs.Entry.{Entry}

@@ -30,11 +30,10 @@ use Rattle.frame_index.specs.Openings.{opening_at}
 use Rattle.frame_index.specs.Streams.{places_of}
 use Rattle.frame_index.proofs.StreamsShown.{held_there, read_from, still_commit, still_due, stream_none, there_commit, there_due}
 use Rattle.frame_index.specs.declared.common.Common.{Common}
-use Rattle.frame_index.specs.declared.frames.FrameIndex.{FrameIndex}
 use Rattle.frame_index.specs.declared.heads.Front.{Front}
 use Rattle.frame_index.specs.declared.kept.KeptFrame.{KeptFrame}
 use Rattle.frame_index.specs.declared.seen.Seen.{Seen}
-use Rattle.frame_index.specs.Frames.{IsIndex, kept_of}
+use Rattle.frame_index.specs.Frames.{IndexState, IsIndex, kept_of}
 use Rattle.frame_index.specs.Heads.{Stands}
 use Rattle.frame_index.specs.Kept.{seen_of, seen_with}
 use Rattle.frame_index.specs.Plain.{AreCommon, AreLeft, AreOfFirst, CommitIsRead, HasCome, IsCommon, IsCommonAt, IsPlain, LeadsTo, NoneGoesOn, RevealIsRead, commit_spots, is_among, is_in, move_in, move_of, reveal_spots}
@@ -117,7 +116,7 @@ reveal_among (y ∷ ys) plain k s m c h = go (is_commit y.frame) refl m (λ n. r
     go true e (inl same) ih = absurd (false≢true (sym c ∙ ap (λ (z : KeptFrame). is_commit z.frame) (sym same) ∙ e))
     go true e (inr m) ih = ih m
 
-module _ (game : Game) (q t : ℕ) (logs : List (List Entry)) (index : FrameIndex) (w : IsIndex game logs index) where
+module _ (game : Game) (q t : ℕ) (logs : List (List Entry)) (index : IndexState) (w : IsIndex game logs index) where
   abbrev Ks : List KeptFrame
   Ks = kept_of index q t
 
@@ -235,7 +234,7 @@ module _ (game : Game) (q t : ℕ) (logs : List (List Entry)) (index : FrameInde
               opening u turn eq legal = let x = eq-eqb u t turn in rw (x, eq, legal) refl
 
 -- one place further, in one log
-module _ (game : Game) (q : ℕ) (logs : List (List Entry)) (index : FrameIndex) (w : IsIndex game logs index) (i : ℕ) (h : List Entry) (there : slice_get logs i ≡ Some h) where
+module _ (game : Game) (q : ℕ) (logs : List (List Entry)) (index : IndexState) (w : IsIndex game logs index) (i : ℕ) (h : List Entry) (there : slice_get logs i ≡ Some h) where
   at_place : Front → Track → Stream
   at_place f track = record { commits = f.commits; resolved = f.resolved; track = track }
 
@@ -281,7 +280,7 @@ front_as game q logs first a b c d most x e f is =
     subst (λ (g : Front). IsCommon game q logs first g most x) (ap at_commits e ∙ ap at_resolved f) is
 
 -- one place further, in all logs
-module _ (game : Game) (q : ℕ) (logs : List (List Entry)) (index : FrameIndex) (w : IsIndex game logs index) (first : List Bool) where
+module _ (game : Game) (q : ℕ) (logs : List (List Entry)) (index : IndexState) (w : IsIndex game logs index) (first : List Bool) where
   left_first : (spots : List Spot) (old new : List Bool) → AreLeft old spots new → AreOfFirst first old → AreOfFirst first new
   left_first spots old new left was i e = was i (and_parts (is_among old i) (is_in spots i) (sym (left i) ∙ e)).0
 

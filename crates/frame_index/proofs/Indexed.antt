@@ -10,15 +10,14 @@ use Rattle.definitions.specs.declared.logs.Entry.TheVariants.{Got}
 use Rattle.definitions.specs.World.{Game}
 use Rattle.definitions.specs.Logs.{player_of, turn_of}
 use Rattle.frame_index.specs.declared.kept.KeptFrame.{KeptFrame}
-use Rattle.frame_index.specs.declared.frames.FrameIndex.{FrameIndex}
 use Rattle.frame_index.specs.Keeps.{Keeps}
 use Rattle.frame_index.specs.Kept.{AreAlike, AreOf, AreOnce, Grows, seen_in, sight}
 use Rattle.frame_index.specs.Appended.{with_entry}
-use Rattle.frame_index.specs.Frames.{IsIndex, IsRefused, IsRefusedBy, IsTaken, IsTakenBy, kept_in, kept_of}
+use Rattle.frame_index.specs.Frames.{IndexState, IsIndex, IsRefused, IsRefusedBy, IsTaken, IsTakenBy, kept_in, kept_of}
 use Rattle.frame_index.proofs.Growing.{alike_same}
 use Rattle.frame_index.proofs.Grows.{keeps_grown, keeps_other}
 
-module _ (game : Game) (logs : List (List Entry)) (h : List Entry) (f : TurnFrame) (s : Spot) (old new : FrameIndex) (there : slice_get logs s.log ≡ Some h) (last : s.entry ≡ length h)
+module _ (game : Game) (logs : List (List Entry)) (h : List Entry) (f : TurnFrame) (s : Spot) (old new : IndexState) (there : slice_get logs s.log ≡ Some h) (last : s.entry ≡ length h)
     (taken : IsTaken game f s old new) (w : IsIndex game logs old) where
   abbrev After : List (List Entry)
   After = with_entry logs s.log (Got (player_of f) f)
@@ -72,7 +71,7 @@ module _ (game : Game) (logs : List (List Entry)) (h : List Entry) (f : TurnFram
   taken_stands = record { stands = stands; own = own; once = once }
 
 -- with the same members, what is kept stands for the same logs
-pub refused_stands : (game : Game) (logs : List (List Entry)) (old new : FrameIndex) → IsRefused old new → IsIndex game logs old → IsIndex game logs new
+pub refused_stands : (game : Game) (logs : List (List Entry)) (old new : IndexState) → IsRefused old new → IsIndex game logs old → IsIndex game logs new
 refused_stands game logs old new same w = record {
   stands = λ q t. let k = w.stands q t in record {
     within = λ x m. k.within x ((same q t).fro x m);

@@ -8,14 +8,13 @@ use Rattle.definitions.specs.declared.frames.TurnFrame.{TurnFrame}
 use Rattle.definitions.specs.World.{Game}
 use Rattle.definitions.specs.Logs.{player_of, turn_of}
 use Rattle.frame_index.specs.declared.kept.KeptFrame.{KeptFrame}
-use Rattle.frame_index.specs.declared.frames.FrameIndex.{FrameIndex}
 use Rattle.frame_index.specs.Kept.{AreAlike, Grows, TurnKept}
 use Rattle.frame_index.specs.Rows.{kept_by}
-use Rattle.frame_index.specs.Frames.{IsRefused, IsRefusedBy, IsTaken, IsTakenBy, kept_beyond}
+use Rattle.frame_index.specs.Frames.{IndexState, IsRefused, IsRefusedBy, IsTaken, IsTakenBy, kept_beyond}
 use Rattle.frame_index.proofs.Growing.{alike_same}
 
 -- a frame is taken, or the same is kept, behind those turns
-module _ (old new : FrameIndex) (rows : new.rows ≡ old.rows) where
+module _ (old new : IndexState) (rows : new.rows ≡ old.rows) where
   abbrev OldBeyond : ℕ → ℕ → List KeptFrame
   OldBeyond q t = kept_beyond old.beyond q t
 
@@ -26,29 +25,29 @@ module _ (old new : FrameIndex) (rows : new.rows ≡ old.rows) where
   taken_beyond game f s far taken = record {
     own =
         let none : nat_lt (turn_of f) MOST_TURNS ≡ false = le-ltb (turn_of f) MOST_TURNS far in
-        subst (λ (b : Bool). Grows game f s (if b then kept_by old.rows.items (player_of f) (turn_of f) else OldBeyond (player_of f) (turn_of f)) (if b then kept_by new.rows.items (player_of f) (turn_of f) else NewBeyond (player_of f) (turn_of f)))
+        subst (λ (b : Bool). Grows game f s (if b then kept_by old.rows (player_of f) (turn_of f) else OldBeyond (player_of f) (turn_of f)) (if b then kept_by new.rows (player_of f) (turn_of f) else NewBeyond (player_of f) (turn_of f)))
         (sym none) taken.own;
     others = λ q t never. both (nat_lt t MOST_TURNS) q t (taken.others q t never);
   }
     where
-      both : (b : Bool) (q t : ℕ) → NewBeyond q t ≡ OldBeyond q t → (if b then kept_by new.rows.items q t else NewBeyond q t) ≡ (if b then kept_by old.rows.items q t else OldBeyond q t)
-      both true q t e = ap (λ (r : Vec (Vec TurnKept Global) Global). kept_by r.items q t) rows
+      both : (b : Bool) (q t : ℕ) → NewBeyond q t ≡ OldBeyond q t → (if b then kept_by new.rows q t else NewBeyond q t) ≡ (if b then kept_by old.rows q t else OldBeyond q t)
+      both true q t e = ap (λ (r : List (Vec TurnKept Global)). kept_by r q t) rows
       both false q t e = e
 
   pub refused_beyond : IsRefusedBy OldBeyond NewBeyond → IsRefused old new
   refused_beyond same q t = go (nat_lt t MOST_TURNS)
     where
-      go : (b : Bool) → AreAlike (if b then kept_by old.rows.items q t else OldBeyond q t) (if b then kept_by new.rows.items q t else NewBeyond q t)
-      go true = alike_same _ _ (ap (λ (r : Vec (Vec TurnKept Global) Global). kept_by r.items q t) rows)
+      go : (b : Bool) → AreAlike (if b then kept_by old.rows q t else OldBeyond q t) (if b then kept_by new.rows q t else NewBeyond q t)
+      go true = alike_same _ _ (ap (λ (r : List (Vec TurnKept Global)). kept_by r q t) rows)
       go false = same q t
 
 -- in the rows
-module _ (old new : FrameIndex) (beyond : new.beyond ≡ old.beyond) where
+module _ (old new : IndexState) (beyond : new.beyond ≡ old.beyond) where
   abbrev OldRows : ℕ → ℕ → List KeptFrame
-  OldRows q t = kept_by old.rows.items q t
+  OldRows q t = kept_by old.rows q t
 
   abbrev NewRows : ℕ → ℕ → List KeptFrame
-  NewRows q t = kept_by new.rows.items q t
+  NewRows q t = kept_by new.rows q t
 
   pub taken_in_rows : (game : Game) (f : TurnFrame) (s : Spot) → turn_of f < MOST_TURNS → IsTakenBy game f s OldRows NewRows → IsTaken game f s old new
   taken_in_rows game f s near taken = record {

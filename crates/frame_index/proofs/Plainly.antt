@@ -38,8 +38,7 @@ use Rattle.frame_index.proofs.StreamsShown.{stream_facts, stream_none}
 use Rattle.move_rules.specs.Verdicts.{judged as verdict_by, verdict}
 use Rattle.frame_index.specs.declared.seen.Seen.{Seen}
 use Rattle.frame_index.specs.declared.kept.KeptFrame.{KeptFrame}
-use Rattle.frame_index.specs.declared.frames.FrameIndex.{FrameIndex}
-use Rattle.frame_index.specs.Frames.{IsIndex, kept_of}
+use Rattle.frame_index.specs.Frames.{IndexState, IsIndex, kept_of}
 use Rattle.frame_index.specs.Kept.{seen_of}
 use Rattle.frame_index.specs.Plain.{AreAlong, IsPlain, IsPlainTurn, LeadsTo, move_in}
 use Rattle.frame_index.proofs.Growing.{has_kept}
@@ -94,7 +93,7 @@ move_is (y ∷ ys) plain k m has e = go (move_shown y.frame) refl has (λ there.
         let one = (plain y k (inl refl) there).1 (reveal_shows y.frame n x ∙ sym (reveal_shows k.frame m e)) in
         sym x ∙ ap (λ (z : KeptFrame). move_shown z.frame) one ∙ e
 
-module _ (game : Game) (q t : ℕ) (logs : List (List Entry)) (index : FrameIndex) (w : IsIndex game logs index) where
+module _ (game : Game) (q t : ℕ) (logs : List (List Entry)) (index : IndexState) (w : IsIndex game logs index) where
   abbrev Ks : List KeptFrame
   Ks = kept_of index q t
 
@@ -262,7 +261,7 @@ none_found f a (suc n) none =
     ap (λ (xs : List Finding). xs ++ flat_map f (range_with_len (a + 1) n)) (none a (omega arith) (omega arith)) ∙ none_found f (a + 1) n (λ t le lt. none t (omega (arith, le)) (omega (arith, lt)))
 
 -- nothing is found in the turns up to a plain one
-pub none_more : (game : Game) (q t : ℕ) (logs : List (List Entry)) (index : FrameIndex) (w : IsIndex game logs index) (track next : Track) → IsPlainTurn game index q t track next → AreAlong game q logs t track →
+pub none_more : (game : Game) (q t : ℕ) (logs : List (List Entry)) (index : IndexState) (w : IsIndex game logs index) (track next : Track) → IsPlainTurn game index q t track next → AreAlong game q logs t track →
     ((u : ℕ) → u < t → findings_in game logs q u ≡ []) → (u : ℕ) → u < t + 1 → findings_in game logs q u ≡ []
 none_more game q t logs index w track next turn along before u lt = elim (cases_lt u t) [
   | inl less ↦ before u less

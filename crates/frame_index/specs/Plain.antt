@@ -20,8 +20,7 @@ use Rattle.frame_index.specs.declared.kept.KeptFrame.{KeptFrame}
 use Rattle.frame_index.specs.declared.common.Common.{Common}
 use Rattle.frame_index.specs.declared.common.TurnRead.{TurnRead}
 use Rattle.frame_index.specs.declared.common.TurnRead.TheVariants.{Over, Shown, Unlike}
-use Rattle.frame_index.specs.declared.frames.FrameIndex.{FrameIndex}
-use Rattle.frame_index.specs.Frames.{IsIndex, kept_of}
+use Rattle.frame_index.specs.Frames.{IndexState, IsIndex, kept_of}
 use Rattle.frame_index.specs.Heads.{Ends, front_of}
 
 -- all have one digest, and there is one of each kind at most
@@ -118,20 +117,20 @@ abbrev pub NoneGoesOn : Game → ℕ → List (List Entry) → List Bool → ℕ
 NoneGoesOn game q logs first t = (u : ℕ) → t ≤ u → (i : ℕ) (h : List Entry) → slice_get logs i ≡ Some h → is_among first i ≡ true → move_of game q h u ≡ None
 
 -- all that is kept of the player's turn is plain, and it leads from the one track to the other
-pub record IsPlainTurn (game : Game) (index : FrameIndex) (q t : ℕ) (track next : Track) : Type 0 where
+pub record IsPlainTurn (game : Game) (index : IndexState) (q t : ℕ) (track next : Track) : Type 0 where
   pub plain : IsPlain (kept_of index q t)
   pub led : LeadsTo game q track (move_in (kept_of index q t)) (Some next)
 
 -- of no turn of the player the logs show a finding
-abbrev pub IsClear : Game → FrameIndex → ℕ → Type 0
+abbrev pub IsClear : Game → IndexState → ℕ → Type 0
 IsClear game index q = (logs : List (List Entry)) → IsIndex game logs index → (t : ℕ) → t < game.turns → findings_in game logs q t ≡ []
 
 -- so it is with each player for whom this says so
-abbrev pub AreClear : Game → FrameIndex → List Bool → Type 0
+abbrev pub AreClear : Game → IndexState → List Bool → Type 0
 AreClear game index clear = (q : ℕ) → slice_get clear q ≡ Some true → IsClear game index q
 
 -- A turn was read: it isn't plain; or no log resolves it; or those that do resolve it by this move, and it is plain.
-abbrev pub TurnIsRead : Game → FrameIndex → ℕ → ℕ → Common → Common → TurnRead → Type 0
+abbrev pub TurnIsRead : Game → IndexState → ℕ → ℕ → Common → Common → TurnRead → Type 0
 TurnIsRead game index q t old new Unlike = Unit {0}
 TurnIsRead game index q t old new Over = (logs : List (List Entry)) (first : List Bool) → IsIndex game logs index → IsCommon game q logs first (front_of game t) t old → NoneGoesOn game q logs first t
 TurnIsRead game index q t old new (Shown m) = IsPlainTurn game index q t old.track new.track ×

@@ -6,9 +6,9 @@ ghost use Rattle.definitions.specs.World.{Game};
 ghost use Rattle.definitions.specs.Logs as L;
 ghost use Rattle.frame_index.specs.Appended as A;
 ghost use Rattle.frame_index.specs.Frames as F;
+ghost use Rattle.frame_index.specs.Frames.{IndexState};
 ghost use Rattle.frame_index.specs.Kept as K;
 ghost use Rattle.frame_index.specs.Spots as S;
-ghost use Rattle.frame_index.specs.declared.frames.FrameIndex.{FrameIndex};
 
 use crate::kept::{KeptFrame, TurnFrames};
 use crate::limits::MOST_LOGS;
@@ -20,6 +20,7 @@ use definitions::{Digest, PlayerId, Spot, Turn, TurnFrame};
 use grid_world::Session;
 use indexmap::IndexMap;
 use std::alloc::{AllocError, Global};
+use std::marker::Model;
 
 /// A player's turn.
 #[derive(Clone, Copy, PartialEq, Eq, Hash)]
@@ -36,6 +37,14 @@ pub struct FrameIndex {
     rows: Vec<Row>,
     // of all turns behind them, which no log of a session has: only a caller's own frames come here
     beyond: IndexMap<TurnKey, TurnFrames>,
+}
+
+impl Model for FrameIndex {
+    ghost use Rattle.frame_index.specs.Frames.{IndexState};
+
+    ghost Value = { IndexState };
+
+    ghost view = { λ x. record { rows = x.rows.items; beyond = x.beyond.entries } };
 }
 
 /// The key of the player's turn of which the frame is.
@@ -191,5 +200,5 @@ impl FrameIndex {
 
 /// An entry that gets no frame needn't be taken: what is kept stands for the logs with it too.
 pub fn own_entries_change_nothing()
-    ensures { (game : Game) (logs : List (List Entry)) (i : ℕ) (h : List Entry) (e : Entry) (index : FrameIndex) → slice_get logs i ≡ Some h → ((q : ℕ) (f : TurnFrame) → e ≡ Entry.Got q f → F.Never) → F.IsIndex game logs index → F.IsIndex game (A.with_entry logs i e) index }
+    ensures { (game : Game) (logs : List (List Entry)) (i : ℕ) (h : List Entry) (e : Entry) (index : IndexState) → slice_get logs i ≡ Some h → ((q : ℕ) (f : TurnFrame) → e ≡ Entry.Got q f → F.Never) → F.IsIndex game logs index → F.IsIndex game (A.with_entry logs i e) index }
 {}

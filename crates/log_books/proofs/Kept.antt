@@ -7,7 +7,7 @@ use Rattle.record.specs.Note.{Note}
 use Rattle.definitions.specs.declared.limits.TheConstants.{LONGEST_LOG}
 use Rattle.definitions.specs.World.{Game, players_of}
 use Rattle.definition_laws.proofs.Nexts.{some_at}
-use Rattle.auditor.specs.declared.auditor.Auditor.{Auditor}
+use Rattle.auditor.specs.Audits.{AuditState}
 use Rattle.auditor.specs.Taking.{IsFeeding}
 use Rattle.watch_rules.specs.Streams.{Stream, count_at, count_of, feeding_of, no_streams, room_at, room_of, took, took_of, with_stream}
 use Rattle.log_books.specs.declared.pages.Page.{Page}
@@ -23,16 +23,16 @@ on_ok (Err x) e p = absurd (cc)
 abbrev pub seen : Game → List Stream → Bool → BooksState
 seen game streams out = record { game = game; streams = streams; is_out_of_memory = out }
 
-pub stands : (game : Game) (streams : List Stream) (out : Bool) (a : Auditor) (pages : List Page) (v : BooksState) → seen game streams out ≡ v → StandIfWhole game streams out a pages → v.is_out_of_memory ≡ false → StandFor game streams a pages
+pub stands : (game : Game) (streams : List Stream) (out : Bool) (a : AuditState) (pages : List Page) (v : BooksState) → seen game streams out ≡ v → StandIfWhole game streams out a pages → v.is_out_of_memory ≡ false → StandFor game streams a pages
 stands game streams out a pages v e i whole = i (ap (λ (w : BooksState). w.is_out_of_memory) e ∙ whole)
 
 -- the page of a player and its stream
-pub record KeptOf (game : Game) (streams : List Stream) (a : Auditor) (pages : List Page) (q : ℕ) (p : Page) : Type 0 where
+pub record KeptOf (game : Game) (streams : List Stream) (a : AuditState) (pages : List Page) (q : ℕ) (p : Page) : Type 0 where
   pub stream : Stream
   pub there_is : slice_get streams q ≡ Some stream
   pub page : IsPageOf game a q stream p
 
-pub kept_of : (game : Game) (streams : List Stream) (a : Auditor) (pages : List Page) (q k : ℕ) (p : Page) → StandFor game streams a pages → q < players_of game → k ≡ q → p ≡ get_or pages k p → KeptOf game streams a pages q p
+pub kept_of : (game : Game) (streams : List Stream) (a : AuditState) (pages : List Page) (q k : ℕ) (p : Page) → StandFor game streams a pages → q < players_of game → k ≡ q → p ≡ get_or pages k p → KeptOf game streams a pages q p
 kept_of game streams a pages q k p w lt e at =
     let s = some_at streams q (let m = w.many in omega (arith, lt, m)) in
     let x = some_at pages q (let m = w.each in omega (arith, lt, m)) in
@@ -44,15 +44,15 @@ kept_of game streams a pages q k p w lt e at =
     }
 
 -- the same, as contracts see the books
-pub kept_here : (game : Game) (streams : List Stream) (out : Bool) (a : Auditor) (pages : List Page) (v : BooksState) (q k : ℕ) (p : Page) → seen game streams out ≡ v → StandIfWhole game streams out a pages → v.is_out_of_memory ≡ false → q < players_of v.game →
+pub kept_here : (game : Game) (streams : List Stream) (out : Bool) (a : AuditState) (pages : List Page) (v : BooksState) (q k : ℕ) (p : Page) → seen game streams out ≡ v → StandIfWhole game streams out a pages → v.is_out_of_memory ≡ false → q < players_of v.game →
     k ≡ q → p ≡ get_or pages k p → KeptOf game streams a pages q p
 kept_here game streams out a pages v q k p e i whole lt same at =
     kept_of game streams a pages q k p (stands game streams out a pages v e i whole) (let n = ap (λ (w : BooksState). players_of w.game) e in omega (arith, lt, n)) same at
 
-pub count_here : (game : Game) (streams : List Stream) (out : Bool) (a : Auditor) (pages : List Page) (v : BooksState) (q : ℕ) (p : Page) → seen game streams out ≡ v → KeptOf game streams a pages q p → p.count ≡ count_at (slice_get v.streams q)
+pub count_here : (game : Game) (streams : List Stream) (out : Bool) (a : AuditState) (pages : List Page) (v : BooksState) (q : ℕ) (p : Page) → seen game streams out ≡ v → KeptOf game streams a pages q p → p.count ≡ count_at (slice_get v.streams q)
 count_here game streams out a pages v q p e w = w.page.count ∙ ap count_at (sym w.there_is) ∙ ap (λ (x : BooksState). count_at (slice_get x.streams q)) e
 
-pub room_here : (game : Game) (streams : List Stream) (out : Bool) (a : Auditor) (pages : List Page) (v : BooksState) (q n : ℕ) (p : Page) → seen game streams out ≡ v → (w : KeptOf game streams a pages q p) → n ≡ room_of w.stream → n ≡ room_at (slice_get v.streams q)
+pub room_here : (game : Game) (streams : List Stream) (out : Bool) (a : AuditState) (pages : List Page) (v : BooksState) (q n : ℕ) (p : Page) → seen game streams out ≡ v → (w : KeptOf game streams a pages q p) → n ≡ room_of w.stream → n ≡ room_at (slice_get v.streams q)
 room_here game streams out a pages v q n p e w is = is ∙ ap room_at (sym w.there_is) ∙ ap (λ (x : BooksState). room_at (slice_get x.streams q)) e
 
 room_within : (s : Stream) (count : ℕ) → count ≤ room_of s → count_of s ≤ LONGEST_LOG → count_of s + count ≤ LONGEST_LOG
@@ -62,7 +62,7 @@ room_within s count few most = go s.is_closed few
     go true f = omega (arith, f, most)
     go false f = omega (arith, f, most)
 
-pub few_here : (game : Game) (streams : List Stream) (out : Bool) (a : Auditor) (pages : List Page) (v : BooksState) (q count : ℕ) (p : Page) → seen game streams out ≡ v → KeptOf game streams a pages q p → count ≤ room_at (slice_get v.streams q) →
+pub few_here : (game : Game) (streams : List Stream) (out : Bool) (a : AuditState) (pages : List Page) (v : BooksState) (q count : ℕ) (p : Page) → seen game streams out ≡ v → KeptOf game streams a pages q p → count ≤ room_at (slice_get v.streams q) →
     p.count + count ≤ LONGEST_LOG
 few_here game streams out a pages v q count p e w few =
     let room = ap room_at (sym w.there_is) ∙ ap (λ (x : BooksState). room_at (slice_get x.streams q)) e in
@@ -71,11 +71,11 @@ few_here game streams out a pages v q count p e w few =
     let within = room_within w.stream count (omega (arith, few, room)) (omega (arith, n, most)) in
     omega (arith, n, within)
 
-pub feeding_here : (game : Game) (streams : List Stream) (a : Auditor) (pages : List Page) (q : ℕ) (p : Page) → KeptOf game streams a pages q p → IsFeeding a q p.feed
+pub feeding_here : (game : Game) (streams : List Stream) (a : AuditState) (pages : List Page) (q : ℕ) (p : Page) → KeptOf game streams a pages q p → IsFeeding a q p.feed
 feeding_here game streams a pages q p w = record { stands = (feeding_of game (w.stream).pieces, w.page.feed); counted = w.page.counted }
 
 -- the auditor's session is the books'
-pub goes_as : (game other : Game) (a b : Auditor) (q : ℕ) (s : Stream) (bytes : List ℕ) (p m : Page) → other ≡ game → IsPageOf game a q s p → (IsPageOf other a q s p → GoesOn other a b q s (took other q s bytes) m) → GoesOn game a b q s (took game q s bytes) m
+pub goes_as : (game other : Game) (a b : AuditState) (q : ℕ) (s : Stream) (bytes : List ℕ) (p m : Page) → other ≡ game → IsPageOf game a q s p → (IsPageOf other a q s p → GoesOn other a b q s (took other q s bytes) m) → GoesOn game a b q s (took game q s bytes) m
 goes_as game other a b q s bytes p m e w goes =
     subst (λ (g : Game). GoesOn g a b q s (took g q s bytes) m) e (goes (subst (λ (g : Game). IsPageOf g a q s p) (sym e) w))
 
@@ -83,7 +83,7 @@ goes_as game other a b q s bytes p m e w goes =
 pub noted : (game : Game) (notes now : List Note) (n : Note) → now ≡ notes ++ n ∷ [] → streams_by game now ≡ with_note game (streams_by game notes) n
 noted game notes now n e = ap (streams_by game) e ∙ fold-append (with_note game) (no_streams game) notes (n ∷ [])
 
-pub goes_here : (game : Game) (notes now : List Note) (out : Bool) (a b : Auditor) (pages : List Page) (v : BooksState) (q k i : ℕ) (bytes : List ℕ) (p m : Page) → seen game (streams_by game notes) out ≡ v → StandIfWhole game (streams_by game notes) out a pages → v.is_out_of_memory ≡ false →
+pub goes_here : (game : Game) (notes now : List Note) (out : Bool) (a b : AuditState) (pages : List Page) (v : BooksState) (q k i : ℕ) (bytes : List ℕ) (p m : Page) → seen game (streams_by game notes) out ≡ v → StandIfWhole game (streams_by game notes) out a pages → v.is_out_of_memory ≡ false →
     (w : KeptOf game (streams_by game notes) a pages q p) → i ≡ q → k ≡ q → now ≡ notes ++ record { numbers = i ∷ []; name = []; bytes = bytes } ∷ [] → GoesOn game a b q w.stream (took game q w.stream bytes) m → StandFor game (streams_by game now) b (slice_set pages k m)
 goes_here game notes now out a b pages v q k i bytes p m e inv whole w num at on goes =
     let streams : List Stream = streams_by game notes in

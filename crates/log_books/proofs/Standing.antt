@@ -12,8 +12,7 @@ use Rattle.definition_laws.proofs.Listing.{slice_get_map}
 use Rattle.evidence.proofs.Showing.{item_there}
 use Rattle.frame_index.specs.declared.limits.TheConstants.{MOST_LOGS}
 use Rattle.frame_index.specs.Appended.{with_entry}
-use Rattle.auditor.specs.declared.auditor.Auditor.{Auditor}
-use Rattle.auditor.specs.Audits.{IsAuditOf, count_in, owner_in, padded}
+use Rattle.auditor.specs.Audits.{AuditState, IsAuditOf, count_in, owner_in, padded}
 use Rattle.auditor.specs.Taking.{with_entries}
 use Rattle.watch_rules.specs.Streams.{Stream, entries_of, lists_of, no_stream, no_streams, owner_of, owners_of}
 use Rattle.log_books.specs.declared.pages.Page.{Page}
@@ -40,7 +39,7 @@ entries_at (e ∷ es) logs rest q h g =
 
 -- ---- one page goes on
 
-module _ (game : Game) (streams : List Stream) (a b : Auditor) (pages : List Page) (q : ℕ) (s t : Stream) (p : Page) where
+module _ (game : Game) (streams : List Stream) (a b : AuditState) (pages : List Page) (q : ℕ) (s t : Stream) (p : Page) where
   audit_on : StandFor game streams a pages → slice_get streams q ≡ Some s → GoesOn game a b q s t p → IsAuditOf game (padded (lists_of game (slice_set streams q t)) (MOST_LOGS - length (lists_of game (slice_set streams q t)))) b
   audit_on w g k =
       let lists : List (List Entry) = lists_of game streams in
@@ -111,7 +110,7 @@ module _ (game : Game) (streams : List Stream) (a b : Auditor) (pages : List Pag
 
 -- ---- nothing came
 
-pub stand_new : (game : Game) (a : Auditor) (pages : List Page) → AreNew game pages → IsAuditOf game (replicate MOST_LOGS []) a → ((i : ℕ) → count_in a i ≡ 0) → ((i : ℕ) → owner_in a i ≡ None) → StandFor game (no_streams game) a pages
+pub stand_new : (game : Game) (a : AuditState) (pages : List Page) → AreNew game pages → IsAuditOf game (replicate MOST_LOGS []) a → ((i : ℕ) → count_in a i ≡ 0) → ((i : ℕ) → owner_in a i ≡ None) → StandFor game (no_streams game) a pages
 stand_new game a pages new audit counts owners =
     let few = new.few in
     let n : ℕ = players_of game in

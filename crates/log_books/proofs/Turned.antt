@@ -8,8 +8,7 @@ use Rattle.session_log.specs.declared.feed.Fault.{Fault}
 use Rattle.session_log.specs.declared.feed.Fault.TheVariants.{BadChain, BadEntry}
 use Rattle.session_log.specs.Fed.{IsFeedOf}
 use Rattle.session_log.specs.Feeding.{LogFeeding, given_of, end_at, end_by_owner, end_unless, finished, torn_at}
-use Rattle.auditor.specs.declared.auditor.Auditor.{Auditor}
-use Rattle.auditor.specs.Audits.{owner_in}
+use Rattle.auditor.specs.Audits.{AuditState, owner_in}
 use Rattle.auditor.specs.Taking.{IsFeeding, LeavesOthers, TakesAll}
 use Rattle.watch_rules.specs.Streams.{Stream, count_of, entries_of, feeding_of, gone_on, is_others, took}
 use Rattle.log_books.specs.declared.pages.Page.{Page}
@@ -40,11 +39,11 @@ fault_is f = go f.fault
     go (Some (BadChain at)) = refl
     go (Some (BadEntry at)) = refl
 
-others_test : (game : Game) (a : Auditor) (q : ℕ) (s : Stream) (p : Page) (bytes : List ℕ) → IsPageOf game a q s p → begins_others p q bytes ≡ ((count_of s == 0) && is_others q bytes)
+others_test : (game : Game) (a : AuditState) (q : ℕ) (s : Stream) (p : Page) (bytes : List ℕ) → IsPageOf game a q s p → begins_others p q bytes ≡ ((count_of s == 0) && is_others q bytes)
 others_test game a q s p bytes w = ap (λ (n : ℕ). (n == 0) && is_others q bytes) w.count
 
 -- the first byte is another player's: the player is closed
-pub others_go : (game : Game) (a : Auditor) (q : ℕ) (s : Stream) (p : Page) (bytes : List ℕ) → IsPageOf game a q s p → begins_others p q bytes ≡ true → GoesOn game a a q s (took game q s bytes) (record p { is_closed = true })
+pub others_go : (game : Game) (a : AuditState) (q : ℕ) (s : Stream) (p : Page) (bytes : List ℕ) → IsPageOf game a q s p → begins_others p q bytes ≡ true → GoesOn game a a q s (took game q s bytes) (record p { is_closed = true })
 others_go game a q s p bytes w h =
     let e : ((count_of s == 0) && is_others q bytes) ≡ true = sym (others_test game a q s p bytes w) ∙ h in
     subst (λ (b : Bool). GoesOn game a a q s (if b then record s { is_closed = true } else gone_on game (s.pieces ++ bytes ∷ [])) (record p { is_closed = true })) (sym e) (record {
@@ -58,7 +57,7 @@ others_go game a q s p bytes w h =
     })
 
 -- the bytes were fed to the page, and the auditor took what they gave
-pub record WasFed (game : Game) (a b : Auditor) (q : ℕ) (s : Stream) (p m : Page) (bytes : List ℕ) : Type 0 where
+pub record WasFed (game : Game) (a b : AuditState) (q : ℕ) (s : Stream) (p m : Page) (bytes : List ℕ) : Type 0 where
   pub all : TakesAll game a b q p.feed m.feed bytes (feeding_of game s.pieces)
   pub feeding : IsFeeding b q m.feed
   pub within : m.feed.used ≤ p.feed.used + length bytes
@@ -69,7 +68,7 @@ pub record WasFed (game : Game) (a b : Auditor) (q : ℕ) (s : Stream) (p m : Pa
   pub few : p.count + length bytes ≤ LONGEST_LOG
   pub closed : (f : LogFeeding) → IsFeedOf m.feed f → m.is_closed ≡ is_fault (finished f)
 
-pub fed_goes : (game : Game) (a b : Auditor) (q : ℕ) (s : Stream) (p m : Page) (bytes : List ℕ) → IsPageOf game a q s p → begins_others p q bytes ≡ false → WasFed game a b q s p m bytes → GoesOn game a b q s (took game q s bytes) m
+pub fed_goes : (game : Game) (a b : AuditState) (q : ℕ) (s : Stream) (p m : Page) (bytes : List ℕ) → IsPageOf game a q s p → begins_others p q bytes ≡ false → WasFed game a b q s p m bytes → GoesOn game a b q s (took game q s bytes) m
 fed_goes game a b q s p m bytes w h k =
     let e : ((count_of s == 0) && is_others q bytes) ≡ false = sym (others_test game a q s p bytes w) ∙ h in
     let f : LogFeeding = feeding_of game (s.pieces ++ bytes ∷ []) in

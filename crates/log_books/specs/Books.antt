@@ -9,12 +9,10 @@ use Rattle.definitions.specs.declared.findings.Finding.{Finding}
 use Rattle.definitions.specs.Findings.{findings}
 use Rattle.definition_laws.specs.Members.{Has}
 use Rattle.evidence.specs.declared.exhibit.Exhibit.{Exhibit}
-use Rattle.auditor.specs.declared.auditor.Auditor.{Auditor}
-use Rattle.auditor.specs.declared.report.Report.{Report}
 use Rattle.auditor.specs.Agreed.{agreed_count}
 use Rattle.auditor.specs.Exhibits.{IsExhibitOf}
-use Rattle.auditor.specs.Reports.{IsReportOf, agreed_by}
-use Rattle.auditor.specs.Audits.{StandsFor, count_in}
+use Rattle.auditor.specs.Reports.{IsReportOf, Reported, agreed_by}
+use Rattle.auditor.specs.Audits.{AuditState, StandsFor, count_in}
 use Rattle.watch_rules.specs.Streams.{Stream, lists_of, no_stream, no_streams, owners_of, took_of}
 use Rattle.log_books.specs.declared.pages.Page.{Page}
 use Rattle.log_books.specs.Pages.{IsPageOf}
@@ -35,7 +33,7 @@ abbrev pub streams_by : Game → List Note → List Stream
 streams_by game notes = fold (with_note game) (no_streams game) notes
 
 -- what is kept stands for the streams: the auditor for their lists, and each page for its stream
-pub record StandFor (game : Game) (streams : List Stream) (a : Auditor) (pages : List Page) : Type 0 where
+pub record StandFor (game : Game) (streams : List Stream) (a : AuditState) (pages : List Page) : Type 0 where
   pub session : a.session ≡ game
   pub many : length streams ≡ players_of game
   pub each : length pages ≡ players_of game
@@ -44,11 +42,11 @@ pub record StandFor (game : Game) (streams : List Stream) (a : Auditor) (pages :
   pub pages_are : (q : ℕ) (s : Stream) (p : Page) → slice_get streams q ≡ Some s → slice_get pages q ≡ Some p → IsPageOf game a q s p
 
 -- the same, unless memory ran out
-abbrev pub StandIfWhole : Game → List Stream → Bool → Auditor → List Page → Type 0
+abbrev pub StandIfWhole : Game → List Stream → Bool → AuditState → List Page → Type 0
 StandIfWhole game streams out a pages = out ≡ false → StandFor game streams a pages
 
 -- the report is that on the lists which the streams give, as if the audit began afresh
-abbrev pub ReportsOn : Game → List Stream → Report → Type 0
+abbrev pub ReportsOn : Game → List Stream → Reported → Type 0
 ReportsOn game streams r = IsReportOf game (owners_of game streams) (lists_of game streams) r
 
 -- the exhibit shows the finding, if it is one of these lists
@@ -65,7 +63,7 @@ is_agreed game streams = list_all (is_agreed_of game streams) (range_with_len 0 
 
 -- this is the page of a player of whose log nothing came
 abbrev pub IsNewPage : Game → Page → Type 0
-IsNewPage game p = (a : Auditor) (q : ℕ) → count_in a q ≡ 0 → IsPageOf game a q no_stream p
+IsNewPage game p = (a : AuditState) (q : ℕ) → count_in a q ≡ 0 → IsPageOf game a q no_stream p
 
 -- one for each player
 pub record AreNew (game : Game) (pages : List Page) : Type 0 where
@@ -74,9 +72,9 @@ pub record AreNew (game : Game) (pages : List Page) : Type 0 where
   pub each : EachIs (IsNewPage game) pages
 
 -- the report tells all turns of the player as agreed
-abbrev pub is_whole_by : Game → Report → (q : ℕ) → Bool
+abbrev pub is_whole_by : Game → Reported → (q : ℕ) → Bool
 is_whole_by game r q = agreed_by r q == game.turns
 
 -- the report tells all turns of each player as agreed
-abbrev pub is_agreed_by : Game → Report → Bool
+abbrev pub is_agreed_by : Game → Reported → Bool
 is_agreed_by game r = list_all (is_whole_by game r) (range_with_len 0 (players_of game))

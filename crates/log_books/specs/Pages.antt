@@ -6,8 +6,7 @@ use Rattle.definitions.specs.World.{Game}
 use Rattle.session_log.specs.declared.reader.Next.{Next}
 use Rattle.session_log.specs.declared.reader.Next.TheVariants as next
 use Rattle.session_log.specs.Fed.{IsFeedOf}
-use Rattle.auditor.specs.declared.auditor.Auditor.{Auditor}
-use Rattle.auditor.specs.Audits.{count_in, owner_in}
+use Rattle.auditor.specs.Audits.{AuditState, count_in, owner_in}
 use Rattle.auditor.specs.Taking.{LeavesOthers, Takes}
 use Rattle.watch_rules.specs.Streams.{Stream, count_of, entries_of, feeding_of, is_others, owner_of}
 use Rattle.log_books.specs.declared.pages.Page.{Page}
@@ -25,7 +24,7 @@ abbrev pub begins_others : Page → (q : ℕ) → List ℕ → Bool
 begins_others p q bytes = (p.count == 0) && is_others q bytes
 
 -- the page is as far as the stream, and the auditor has no more entries than bytes came
-pub record IsPageOf (game : Game) (a : Auditor) (q : ℕ) (s : Stream) (p : Page) : Type 0 where
+pub record IsPageOf (game : Game) (a : AuditState) (q : ℕ) (s : Stream) (p : Page) : Type 0 where
   pub closed : p.is_closed ≡ s.is_closed
   pub count : p.count ≡ count_of s
   pub most : p.count ≤ LONGEST_LOG
@@ -35,7 +34,7 @@ pub record IsPageOf (game : Game) (a : Auditor) (q : ℕ) (s : Stream) (p : Page
 
 -- the page went on from one stream to the next, and the auditor took the entries that are more in
 -- it
-pub record GoesOn (game : Game) (a b : Auditor) (q : ℕ) (s t : Stream) (p : Page) : Type 0 where
+pub record GoesOn (game : Game) (a b : AuditState) (q : ℕ) (s t : Stream) (p : Page) : Type 0 where
   pub page : IsPageOf game b q t p
   pub more : List Entry
   pub entries : entries_of game t ≡ entries_of game s ++ more

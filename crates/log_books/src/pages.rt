@@ -1,9 +1,8 @@
 //! How far one player's log came.
 
 ghost use Rattle.std.specs.Prelude.{◌≡◌, ℕ, ◌≤◌, ◌<◌, ◌+◌, length, OnOk};
-ghost use Rattle.auditor.specs.declared.auditor.Auditor.{Auditor};
 ghost use Rattle.definitions.specs.World.{Game};
-ghost use Rattle.auditor.specs.Audits.{count_in};
+ghost use Rattle.auditor.specs.Audits.{AuditState, count_in};
 ghost use Rattle.auditor.specs.Taking.{IsFeeding};
 ghost use Rattle.watch_rules.specs.Streams.{Stream, no_stream, room_of, took};
 ghost use Rattle.log_books.specs.Pages as P;
@@ -39,7 +38,7 @@ fn is_fault(end: Next) -> bool
 impl Page {
     /// The page of a player of whose log nothing came.
     pub fn new(session: &Session) -> Page
-        ensures { (a : Auditor) (q : ℕ) → count_in a q ≡ 0 → P.IsPageOf session.now a q no_stream result }
+        ensures { (a : AuditState) (q : ℕ) → count_in a q ≡ 0 → P.IsPageOf session.now a q no_stream result }
     {
         Page {
             feed: LogFeed::new(session),
@@ -50,7 +49,7 @@ impl Page {
 
     /// How many bytes of the log may still be taken.
     pub fn room(&self) -> u32
-        ensures { (game : Game) (a : Auditor) (q : ℕ) (s : Stream) → P.IsPageOf game a q s self.now → result ≡ room_of s }
+        ensures { (game : Game) (a : AuditState) (q : ℕ) (s : Stream) → P.IsPageOf game a q s self.now → result ≡ room_of s }
     {
         if self.is_closed {
             0

@@ -18,8 +18,7 @@ use Rattle.session_log.specs.Fed.{Fed, IsFeedOf}
 use Rattle.session_log.specs.Feeding.{LogFeeding, finished, given_of}
 use Rattle.session_log.specs.Laws as L
 use Rattle.session_log.specs.Reading.{read_log}
-use Rattle.auditor.specs.declared.auditor.Auditor.{Auditor}
-use Rattle.auditor.specs.Audits.{owner_in}
+use Rattle.auditor.specs.Audits.{AuditState, owner_in}
 use Rattle.auditor.specs.Taking.{LeavesOthers, Takes, TakesSome}
 use Rattle.auditor.proofs.Fed.{takes_more}
 use Rattle.log_files.specs.declared.pieces.PieceTurn.TheVariants.{End, TooLong, Failed, Memory}
@@ -40,7 +39,7 @@ ends_there : (text content : List ℕ) → text ≡ take (length text) content �
 ends_there text content front short = goes_on text content front ∙ ap (λ (x : List ℕ). text ++ x) (drop_all (length text) content short) ∙ append-nil text
 
 -- what was taken of the calls' entries is a front of the content's
-pub in_part : (game : Game) (calls : List Piece) (a a' : Auditor) (log : ℕ) (content : Option (List ℕ)) (front behind : List Entry) → Fronted content (bytes_read calls) →
+pub in_part : (game : Game) (calls : List Piece) (a a' : AuditState) (log : ℕ) (content : Option (List ℕ)) (front behind : List Entry) → Fronted content (bytes_read calls) →
     (given_by_calls game calls).entries ≡ front ++ behind → Takes a a' log front → IsTakenInPart a a' log (file_entries game content)
 in_part game calls a a' log None front behind fronted parts takes = record {
   front = front;
@@ -73,13 +72,13 @@ not_failed None = refl
 not_failed (Some x) = refl
 
 -- the answer where all entries were taken
-answered : (game : Game) (a a' : Auditor) (log : ℕ) (bytes : List ℕ) (fault : Option (ℕ × LogWhy)) → log_fault game bytes ≡ fault → Takes a a' log (entries_in game bytes) →
+answered : (game : Game) (a a' : AuditState) (log : ℕ) (bytes : List ℕ) (fault : Option (ℕ × LogWhy)) → log_fault game bytes ≡ fault → Takes a a' log (entries_in game bytes) →
     owner_in a' log ≡ L.owner_in game bytes → IsAnswer game a a' log (Some bytes) (taken_by fault)
 answered game a a' log bytes None is takes owner = record { sound = is; taken = takes; owner = owner }
 answered game a a' log bytes (Some x) is takes owner = (is, record { front = entries_in game bytes; behind = []; parts = sym (append-nil (entries_in game bytes)); taken = takes })
 
 -- the file ended
-module _ (game : Game) (s b c : ShelfState) (name : List ℕ) (a a' : Auditor) (log : ℕ) (r : Fed) (at : ℕ) (w : Reached game s b name a a' log r at) where
+module _ (game : Game) (s b c : ShelfState) (name : List ℕ) (a a' : AuditState) (log : ℕ) (r : Fed) (at : ℕ) (w : Reached game s b name a a' log r at) where
   whole_answer : (content : Option (List ℕ)) → Fronted content (bytes_read w.calls) → GivesAt content at (Some []) → (end : Next) → end ≡ finished (given_by_calls game w.calls).feeding →
       IsAnswer game a a' log content (taken_by (fault_of end))
   whole_answer None fronted gives end is = absurd gives
@@ -95,9 +94,9 @@ module _ (game : Game) (s b c : ShelfState) (name : List ℕ) (a a' : Auditor) (
       (subst (λ (es : List Entry). Takes a a' log es) (read.entries ∙ ap (λ (x : List ℕ). entries_in game x) (sym same)) w.taken)
       (w.owner ∙ w.feed.owner ∙ read.owner ∙ ap (λ (x : List ℕ). L.owner_in game x) (sym same))
 
-  pub ended : (a'' : Auditor) (r' : Fed) → TakesPiece b c name a' a'' log r r' at End → (end : Next) → ((f : LogFeeding) → IsFeedOf r' f → end ≡ finished f) →
+  pub ended : (a'' : AuditState) (r' : Fed) → TakesPiece b c name a' a'' log r r' at End → (end : Next) → ((f : LogFeeding) → IsFeedOf r' f → end ≡ finished f) →
       TakesLog game s c name a a'' log (taken_by (fault_of end))
-  ended a'' r' t end finish = subst (λ (x : Auditor). TakesLog game s c name a x log (taken_by (fault_of end))) (sym t.1) (record {
+  ended a'' r' t end finish = subst (λ (x : AuditState). TakesLog game s c name a x log (taken_by (fault_of end))) (sym t.1) (record {
     fetched = subst (Fetched s c name) (sym (not_failed (fault_of end))) (fetched_some s b c name at [] w.fetching t.0);
     short =
         let long = ap (λ (ps : List Piece). length (bytes_read ps)) (calls_now game s b c name a a' log r at (Some []) w t.0) ∙ long_now game s b name a a' log r at (Some []) w in
@@ -115,8 +114,8 @@ module _ (game : Game) (s b c : ShelfState) (name : List ℕ) (a a' : Auditor) (
   so_far content fronted = in_part game w.calls a a' log content (given_by_calls game w.calls).entries [] fronted (sym (append-nil (given_by_calls game w.calls).entries)) w.taken
 
   -- the shelf failed
-  pub failed : (a'' : Auditor) (r' : Fed) → TakesPiece b c name a' a'' log r r' at Failed → TakesLog game s c name a a'' log became.Failed
-  failed a'' r' t = subst (λ (x : Auditor). TakesLog game s c name a x log became.Failed) (sym t.1) (record {
+  pub failed : (a'' : AuditState) (r' : Fed) → TakesPiece b c name a' a'' log r r' at Failed → TakesLog game s c name a a'' log became.Failed
+  failed a'' r' t = subst (λ (x : AuditState). TakesLog game s c name a x log became.Failed) (sym t.1) (record {
     fetched = fetched_failed s b c name at w.fetching t.0;
     short =
         let long = ap (λ (ps : List Piece). length (bytes_read ps)) (calls_now game s b c name a a' log r at None w t.0) ∙ long_now game s b name a a' log r at None w in
@@ -137,8 +136,8 @@ module _ (game : Game) (s b c : ShelfState) (name : List ℕ) (a a' : Auditor) (
       let now = long_now game s b name a a' log r at (Some bytes) w in
       (fault_long game all (omega (arith, is, now, long)), so_far (Some all) fronted)
 
-  pub too_long : (a'' : Auditor) (r' : Fed) → TakesPiece b c name a' a'' log r r' at TooLong → TakesLog game s c name a a'' log (became.Bad LONGEST_LOG why.TooLong)
-  too_long a'' r' t = subst (λ (x : Auditor). TakesLog game s c name a x log (became.Bad LONGEST_LOG why.TooLong)) (sym t.4) (record {
+  pub too_long : (a'' : AuditState) (r' : Fed) → TakesPiece b c name a' a'' log r r' at TooLong → TakesLog game s c name a a'' log (became.Bad LONGEST_LOG why.TooLong)
+  too_long a'' r' t = subst (λ (x : AuditState). TakesLog game s c name a x log (became.Bad LONGEST_LOG why.TooLong)) (sym t.4) (record {
     fetched = fetched_some s b c name at t.0 w.fetching t.1;
     short =
         let long = ap (λ (ps : List Piece). length (bytes_read ps)) (calls_now game s b c name a a' log r at (Some t.0) w t.1) ∙ long_now game s b name a a' log r at (Some t.0) w in
@@ -152,7 +151,7 @@ module _ (game : Game) (s b c : ShelfState) (name : List ℕ) (a a' : Auditor) (
   })
 
   -- memory was wanting
-  pub wanting : (a'' : Auditor) (r' : Fed) → TakesPiece b c name a' a'' log r r' at Memory → a''.session ≡ a'.session → LeavesOthers a' a'' log →
+  pub wanting : (a'' : AuditState) (r' : Fed) → TakesPiece b c name a' a'' log r r' at Memory → a''.session ≡ a'.session → LeavesOthers a' a'' log →
       TakesLog game s c name a a'' log became.Memory
   wanting a'' r' t same others =
       let bytes : List ℕ = t.0 in

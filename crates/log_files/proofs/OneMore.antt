@@ -18,8 +18,7 @@ use Rattle.line_io.specs.Files.{AreContents, AreReadings, Calls, Contents, Reads
 use Rattle.line_io.proofs.Unread.{behind_are, none_at, none_in_turn, none_read, none_readings}
 use Rattle.frame_index.specs.declared.limits.TheConstants.{MOST_LOGS}
 use Rattle.session_log.specs.Laws as L
-use Rattle.auditor.specs.declared.auditor.Auditor.{Auditor}
-use Rattle.auditor.specs.Audits.{StandsFor, IsAuditOf, owner_in, padded}
+use Rattle.auditor.specs.Audits.{AuditState, IsAuditOf, StandsFor, owner_in, padded}
 use Rattle.auditor.specs.Taking.{LeavesOthers, Takes, with_entries}
 use Rattle.auditor.proofs.Behind.{item_last, item_more, next_log}
 use Rattle.log_files.specs.Logs.{entries_in, log_fault}
@@ -31,7 +30,7 @@ use Rattle.log_files.specs.declared.several.LogsTaken.{LogsTaken}
 use Rattle.log_files.specs.declared.several.LogsTaken.TheVariants.{Whole, Bad, Failed, Memory}
 
 -- the auditor stands for one log more
-pub one_more_log : (game : Game) (owners : List (Option ℕ)) (logs : List (List Entry)) (a a' : Auditor) (number : ℕ) (es : List Entry) (o : Option ℕ) → number < MOST_LOGS → length logs ≡ number →
+pub one_more_log : (game : Game) (owners : List (Option ℕ)) (logs : List (List Entry)) (a a' : AuditState) (number : ℕ) (es : List Entry) (o : Option ℕ) → number < MOST_LOGS → length logs ≡ number →
     StandsFor game owners logs a → Takes a a' number es → owner_in a' number ≡ o → LeavesOthers a a' number → StandsFor game (owners ++ o ∷ []) (logs ++ es ∷ []) a'
 one_more_log game owners logs a a' number es o few long stands takes owner others =
     let at : length owners ≡ number = stands.each ∙ long in
@@ -64,7 +63,7 @@ there_first (None ∷ files) P h = absurd h
 there_first (Some bytes ∷ files) P h = h
 
 -- no names
-pub none_taken : (game : Game) (s : ShelfState) (a : Auditor) (number : ℕ) → TakesFiles game s s [] a a number Whole
+pub none_taken : (game : Game) (s : ShelfState) (a : AuditState) (number : ℕ) → TakesFiles game s s [] a a number Whole
 none_taken game s a number = record {
   calls = [];
   reads = record { same = refl; answered = sym (append-nil s.pieces); readings = refl };
@@ -78,7 +77,7 @@ none_taken game s a number = record {
 }
 
 -- the first log is none, or wasn't read to its end: nothing is read behind it
-module _ (game : Game) (b c : ShelfState) (name : List ℕ) (names : List (List ℕ)) (a a' : Auditor) (number : ℕ) where
+module _ (game : Game) (b c : ShelfState) (name : List ℕ) (names : List (List ℕ)) (a a' : AuditState) (number : ℕ) where
   stopped : (one : LogTaken) (all : LogsTaken) → is_failed one ≡ is_shelf_failed all → TakesLog game b c name a a' number one →
       ((files : Contents) → IsAnswer game a a' number (item_or files 0 None) one → AreAnswered game a a' files number (length (name ∷ names)) all) → TakesFiles game b c (name ∷ names) a a' number all
   stopped one all same t answer =
@@ -111,7 +110,7 @@ module _ (game : Game) (b c : ShelfState) (name : List ℕ) (names : List (List 
   memory_taken t = stopped became.Memory Memory refl t (λ files is. tt)
 
 -- the first log was taken, and then the others
-module _ (game : Game) (b c d : ShelfState) (name : List ℕ) (names : List (List ℕ)) (a a' a'' : Auditor) (number : ℕ) (few : number < MOST_LOGS) where
+module _ (game : Game) (b c d : ShelfState) (name : List ℕ) (names : List (List ℕ)) (a a' a'' : AuditState) (number : ℕ) (few : number < MOST_LOGS) where
   sound_first : (files : Contents) (f : Option (ℕ × LogWhy)) (rest : Option LogFault) → f ≡ None → option_or (option_map (of_log number) f) rest ≡ rest
   sound_first files f rest e = ap (λ g. option_or (option_map (of_log number) g) rest) e
 

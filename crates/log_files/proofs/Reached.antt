@@ -10,8 +10,7 @@ use Rattle.line_io.specs.Fronts.{IsCall, bytes_given, bytes_read}
 use Rattle.line_io.proofs.Pieces.{Fetching, Fronted, all_split, call_split, fetching_more, fetching_none, front_more, front_none}
 use Rattle.session_log.specs.Fed.{Fed, IsFeedOf}
 use Rattle.session_log.specs.Feeding.{LogFeeding, feed_at_start, given_of}
-use Rattle.auditor.specs.declared.auditor.Auditor.{Auditor}
-use Rattle.auditor.specs.Audits.{count_in, owner_in}
+use Rattle.auditor.specs.Audits.{AuditState, count_in, owner_in}
 use Rattle.auditor.specs.Taking.{IsFeeding, LeavesOthers, Takes, TakesAll}
 use Rattle.auditor.proofs.Fed.{takes_more}
 use Rattle.log_files.specs.declared.pieces.PieceTurn.TheVariants.{More}
@@ -20,7 +19,7 @@ use Rattle.log_files.specs.Taken.{IsUntaken}
 use Rattle.log_files.proofs.Calls.{bytes_more, calls_entries, calls_feeding, given_by_calls}
 
 -- The file was read up to this place, by these calls, and all that they gave was taken.
-pub record Reached (game : Game) (before now : ShelfState) (name : List ℕ) (a a' : Auditor) (log : ℕ) (r : Fed) (at : ℕ) : Type 0 where
+pub record Reached (game : Game) (before now : ShelfState) (name : List ℕ) (a a' : AuditState) (log : ℕ) (r : Fed) (at : ℕ) : Type 0 where
   pub fetching : Fetching before now name at
   pub calls : List Piece
   pub are : since before.pieces now.pieces ≡ calls
@@ -37,7 +36,7 @@ pub record Reached (game : Game) (before now : ShelfState) (name : List ℕ) (a 
   pub others : LeavesOthers a a' log
 
 -- nothing was read yet
-pub reached_none : (game : Game) (s : ShelfState) (name : List ℕ) (a : Auditor) (log : ℕ) (r : Fed) → a.session ≡ game → IsUntaken a log → IsFeedOf r (feed_at_start game.id) → r.used ≡ 0 → Reached game s s name a a log r 0
+pub reached_none : (game : Game) (s : ShelfState) (name : List ℕ) (a : AuditState) (log : ℕ) (r : Fed) → a.session ≡ game → IsUntaken a log → IsFeedOf r (feed_at_start game.id) → r.used ≡ 0 → Reached game s s name a a log r 0
 reached_none game s name a log r session untaken feed used = record {
   fetching = fetching_none s name;
   calls = [];
@@ -59,7 +58,7 @@ reached_none game s name a log r session untaken feed used = record {
 abbrev pub call_at : (name : List ℕ) → (at : ℕ) → Option (List ℕ) → Piece
 call_at name at gave = record { name = name; at = at; gave = gave }
 
-pub calls_now : (game : Game) (s b c : ShelfState) (name : List ℕ) (a a' : Auditor) (log : ℕ) (r : Fed) (at : ℕ) (gave : Option (List ℕ)) (w : Reached game s b name a a' log r at) → IsCall b c name at gave →
+pub calls_now : (game : Game) (s b c : ShelfState) (name : List ℕ) (a a' : AuditState) (log : ℕ) (r : Fed) (at : ℕ) (gave : Option (List ℕ)) (w : Reached game s b name a a' log r at) → IsCall b c name at gave →
     since s.pieces c.pieces ≡ w.calls ++ call_at name at gave ∷ []
 calls_now game s b c name a a' log r at gave w call =
     let last : List Piece = call_at name at gave ∷ [] in
@@ -67,7 +66,7 @@ calls_now game s b c name a a' log r at gave w call =
     (ap (λ (x : ShelfState). x.pieces) call.after ∙ ap (λ (ps : List Piece). ps ++ last) w.fetching.grows ∙ append_assoc s.pieces (since s.pieces b.pieces) last ∙ ap (λ (ps : List Piece). s.pieces ++ (ps ++ last)) w.are)
 
 -- what it gave of a content, and what those before it gave
-pub given_at : (game : Game) (s b c : ShelfState) (name : List ℕ) (a a' : Auditor) (log : ℕ) (r : Fed) (at : ℕ) (gave : Option (List ℕ)) (w : Reached game s b name a a' log r at) → IsCall b c name at gave →
+pub given_at : (game : Game) (s b c : ShelfState) (name : List ℕ) (a a' : AuditState) (log : ℕ) (r : Fed) (at : ℕ) (gave : Option (List ℕ)) (w : Reached game s b name a a' log r at) → IsCall b c name at gave →
     (content : Option (List ℕ)) → AllGive content (since s.pieces c.pieces) → Fronted content (bytes_read w.calls) × GivesAt content at gave
 given_at game s b c name a a' log r at gave w call content h =
     let parts = call_split content s b c name at gave w.fetching call h in
@@ -77,23 +76,23 @@ front_at : (content : Option (List ℕ)) (text bytes items : List ℕ) (at : ℕ
 front_at content text bytes items at long front gives is = front_more content text bytes items front (subst (λ (n : ℕ). GivesAt content n (Some bytes)) (sym long) gives) is
 
 -- where it gave bytes
-pub front_now : (game : Game) (s b c : ShelfState) (name : List ℕ) (a a' : Auditor) (log : ℕ) (r : Fed) (at : ℕ) (bytes : List ℕ) (w : Reached game s b name a a' log r at) → IsCall b c name at (Some bytes) →
+pub front_now : (game : Game) (s b c : ShelfState) (name : List ℕ) (a a' : AuditState) (log : ℕ) (r : Fed) (at : ℕ) (bytes : List ℕ) (w : Reached game s b name a a' log r at) → IsCall b c name at (Some bytes) →
     (content : Option (List ℕ)) → AllGive content (since s.pieces c.pieces) → Fronted content (bytes_read (w.calls ++ call_at name at (Some bytes) ∷ []))
 front_now game s b c name a a' log r at bytes w call content h =
     let there = given_at game s b c name a a' log r at (Some bytes) w call content h in
     front_at content (bytes_read w.calls) bytes (bytes_read (w.calls ++ call_at name at (Some bytes) ∷ [])) at w.long there.0 there.1 (bytes_more w.calls (call_at name at (Some bytes)))
 
-pub long_now : (game : Game) (s b : ShelfState) (name : List ℕ) (a a' : Auditor) (log : ℕ) (r : Fed) (at : ℕ) (gave : Option (List ℕ)) (w : Reached game s b name a a' log r at) →
+pub long_now : (game : Game) (s b : ShelfState) (name : List ℕ) (a a' : AuditState) (log : ℕ) (r : Fed) (at : ℕ) (gave : Option (List ℕ)) (w : Reached game s b name a a' log r at) →
     length (bytes_read (w.calls ++ call_at name at gave ∷ [])) ≡ at + length (bytes_given gave)
 long_now game s b name a a' log r at gave w =
     ap (λ (x : List ℕ). length x) (bytes_more w.calls (call_at name at gave)) ∙ length-append (bytes_read w.calls) (bytes_given gave) ∙ ap (λ n. n + length (bytes_given gave)) w.long
 
 -- others are left alone by one and then by another
-pub others_on : (a b c : Auditor) (log : ℕ) → LeavesOthers a b log → LeavesOthers b c log → LeavesOthers a c log
+pub others_on : (a b c : AuditState) (log : ℕ) → LeavesOthers a b log → LeavesOthers b c log → LeavesOthers a c log
 others_on a b c log one two = λ i ne. let x = one i ne in let y = two i ne in (y.0 ∙ x.0, y.1 ∙ x.1)
 
 -- the bytes that it gave were taken
-pub reached_more : (game : Game) (s b c : ShelfState) (name : List ℕ) (a a' a'' : Auditor) (log : ℕ) (r r' : Fed) (at count : ℕ) → Reached game s b name a a' log r at →
+pub reached_more : (game : Game) (s b c : ShelfState) (name : List ℕ) (a a' a'' : AuditState) (log : ℕ) (r r' : Fed) (at count : ℕ) → Reached game s b name a a' log r at →
     TakesPiece b c name a' a'' log r r' at (More count) → a''.session ≡ a'.session → LeavesOthers a' a'' log → Reached game s c name a a'' log r' (at + count)
 reached_more game s b c name a a' a'' log r r' at count w t same others =
     let bytes : List ℕ = t.0 in

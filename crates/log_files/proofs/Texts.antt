@@ -21,11 +21,9 @@ use Rattle.session_log.specs.Reading.{read_log}
 use Rattle.session_log.proofs.Pieces.{log_pieces_same}
 use Rattle.session_log.proofs.ReadSo.{read_is_log, read_well_formed}
 use Rattle.evidence.specs.Laws.{IsLogOf}
-use Rattle.auditor.specs.declared.auditor.Auditor.{Auditor}
-use Rattle.auditor.specs.declared.report.Report.{Report}
 use Rattle.auditor.specs.Agreed.{AreOwned}
-use Rattle.auditor.specs.Audits.{StandsFor, owner_in}
-use Rattle.auditor.specs.Reports.{IsReportOf, found_in}
+use Rattle.auditor.specs.Audits.{AuditState, StandsFor, owner_in}
+use Rattle.auditor.specs.Reports.{IsReportOf, Reported, found_in}
 use Rattle.auditor.specs.Taking.{LeavesOthers, Takes, TakesAll}
 use Rattle.log_files.specs.Logs.{entries_in, fault_of, log_fault}
 use Rattle.log_files.specs.Several.{LogFault, of_log}
@@ -48,12 +46,12 @@ whole_read game bytes =
     }
 
 -- a text was taken, and its feed ended so
-pub record IsFed (game : Game) (a a' : Auditor) (log : ℕ) (bytes : List ℕ) (end : Next) : Type 0 where
+pub record IsFed (game : Game) (a a' : AuditState) (log : ℕ) (bytes : List ℕ) (end : Next) : Type 0 where
   pub fault : log_fault game bytes ≡ fault_of end
   pub taken : Takes a a' log (entries_in game bytes)
   pub owner : owner_in a' log ≡ L.owner_in game bytes
 
-pub text_fed : (game : Game) (a a' : Auditor) (log : ℕ) (r r' : Fed) (bytes : List ℕ) (end : Next) → a.session ≡ game → length bytes ≤ LONGEST_LOG → IsFeedOf r (feed_at_start game.id) →
+pub text_fed : (game : Game) (a a' : AuditState) (log : ℕ) (r r' : Fed) (bytes : List ℕ) (end : Next) → a.session ≡ game → length bytes ≤ LONGEST_LOG → IsFeedOf r (feed_at_start game.id) →
     ((f : LogFeeding) → IsFeedOf r f → TakesAll a.session a a' log r r' bytes f) → owner_in a' log ≡ r'.owner → ((f : LogFeeding) → IsFeedOf r' f → end ≡ finished f) → IsFed game a a' log bytes end
 text_fed game a a' log r r' bytes end same short start all owner finish =
     let read = whole_read game bytes in
@@ -64,7 +62,7 @@ text_fed game a a' log r r' bytes end same short start all owner finish =
       owner = owner ∙ taken.feed.owner ∙ read.owner;
     }
 
-pub sound_if : (game : Game) (a a' : Auditor) (log : ℕ) (bytes : List ℕ) (end : Next) (r : Result (Unit {0}) AuditFault) → r ≡ ended_by log (fault_of end) → IsFed game a a' log bytes end →
+pub sound_if : (game : Game) (a a' : AuditState) (log : ℕ) (bytes : List ℕ) (end : Next) (r : Result (Unit {0}) AuditFault) → r ≡ ended_by log (fault_of end) → IsFed game a a' log bytes end →
     OnOk r (IsTaken game a a' log bytes)
 sound_if game a a' log bytes end r is fed = subst (λ (x : Result (Unit {0}) AuditFault). OnOk x (IsTaken game a a' log bytes)) (sym is) (go (fault_of end) fed.fault)
   where
@@ -72,7 +70,7 @@ sound_if game a a' log bytes end r is fed = subst (λ (x : Result (Unit {0}) Aud
     go None e = record { sound = e; taken = fed.taken; owner = fed.owner }
     go (Some x) e = tt
 
-pub fault_if : (game : Game) (a a' : Auditor) (log : ℕ) (bytes : List ℕ) (end : Next) (r : Result (Unit {0}) AuditFault) → r ≡ ended_by log (fault_of end) → IsFed game a a' log bytes end →
+pub fault_if : (game : Game) (a a' : AuditState) (log : ℕ) (bytes : List ℕ) (end : Next) (r : Result (Unit {0}) AuditFault) → r ≡ ended_by log (fault_of end) → IsFed game a a' log bytes end →
     IfErr r (IsFaultOf game log bytes)
 fault_if game a a' log bytes end r is fed = subst (λ (x : Result (Unit {0}) AuditFault). IfErr x (IsFaultOf game log bytes)) (sym is) (go (fault_of end) fed.fault)
   where
@@ -81,7 +79,7 @@ fault_if game a a' log bytes end r is fed = subst (λ (x : Result (Unit {0}) Aud
     go (Some x) e = (refl, e)
 
 -- the first of several
-pub none_taken : (game : Game) (a : Auditor) (number : ℕ) (texts : List (List ℕ)) → texts ≡ [] → AreTaken game a a number texts
+pub none_taken : (game : Game) (a : AuditState) (number : ℕ) (texts : List (List ℕ)) → texts ≡ [] → AreTaken game a a number texts
 none_taken game a number texts none = subst (AreTaken game a a number) (sym none) (record {
   sound = refl;
   stands = λ owners logs long stands. subst (λ (os : List (Option ℕ)). StandsFor game os (logs ++ []) a) (sym (append-nil owners))
@@ -102,7 +100,7 @@ module _ (game : Game) (number : ℕ) (bytes : List ℕ) (rest : List (List ℕ)
   bad_behind (BadLog log at why) sound w = sound_first sound ∙ w
   bad_behind Memory sound w = tt
 
-  pub more_taken : (a a' a'' : Auditor) → number < MOST_LOGS → IsTaken game a a' number bytes → LeavesOthers a a' number → AreTaken game a' a'' (number + 1) rest → AreTaken game a a'' number (bytes ∷ rest)
+  pub more_taken : (a a' a'' : AuditState) → number < MOST_LOGS → IsTaken game a a' number bytes → LeavesOthers a a' number → AreTaken game a' a'' (number + 1) rest → AreTaken game a a'' number (bytes ∷ rest)
   more_taken a a' a'' few is others behind = record {
     sound = sound_first is.sound ∙ behind.sound;
     stands = λ owners logs long stands.
@@ -115,7 +113,7 @@ module _ (game : Game) (number : ℕ) (bytes : List ℕ) (rest : List (List ℕ)
   }
 
 -- nothing was taken of the logs behind
-pub untaken_behind : (a a' : Auditor) (number : ℕ) → LeavesOthers a a' number → ((i : ℕ) → number ≤ i → IsUntaken a i) → (i : ℕ) → number + 1 ≤ i → IsUntaken a' i
+pub untaken_behind : (a a' : AuditState) (number : ℕ) → LeavesOthers a a' number → ((i : ℕ) → number ≤ i → IsUntaken a i) → (i : ℕ) → number + 1 ≤ i → IsUntaken a' i
 untaken_behind a a' number others none i le =
     let other = others i (λ e. omega (arith, le, e)) in
     let was = none i (omega (arith, le)) in
@@ -145,7 +143,7 @@ pub texts_are_logs : (game : Game) (texts : List (List ℕ)) → EachIs (IsLogOf
 texts_are_logs game [] = tt
 texts_are_logs game (bytes ∷ texts) = (read_is_log game bytes, texts_are_logs game texts)
 
-pub audited : (game : Game) (texts : List (List ℕ)) (r : Report) → first_fault game 0 texts ≡ None → IsReportOf game (owners_of game texts) (logs_of game texts) r → Audits game texts r
+pub audited : (game : Game) (texts : List (List ℕ)) (r : Reported) → first_fault game 0 texts ≡ None → IsReportOf game (owners_of game texts) (logs_of game texts) r → Audits game texts r
 audited game texts r sound is = record { sound = sound; found = is.found; agreed = is.agreed (owned game texts); world = is.world (owned game texts); beyond = is.beyond }
 
 -- an item at a place stands in the list
@@ -155,6 +153,6 @@ item_Has (g ∷ fs) zero f within is = inl (sym is)
 item_Has (g ∷ fs) (suc i) f within is = inr (item_Has fs i f (omega (arith, within)) is)
 
 -- a finding at a place of the report on these texts is one of their logs
-pub reported : (game : Game) (texts : List (List ℕ)) (r : Report) (i : ℕ) (f : Finding) → Audits game texts r → i < length (found_in r) → f ≡ slice_index_or (found_in r) i f →
+pub reported : (game : Game) (texts : List (List ℕ)) (r : Reported) (i : ℕ) (f : Finding) → Audits game texts r → i < length (found_in r) → f ≡ slice_index_or (found_in r) i f →
     Has (findings game (logs_of game texts)) f
 reported game texts r i f is within at = subst (λ (fs : List Finding). Has fs f) is.found (item_Has (found_in r) i f within at)

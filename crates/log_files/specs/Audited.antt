@@ -6,11 +6,9 @@ use Rattle.definitions.specs.declared.logs.LogWhy.{LogWhy}
 use Rattle.definitions.specs.World.{Game, players_of}
 use Rattle.definitions.specs.Findings.{findings}
 use Rattle.session_log.specs.Laws as L
-use Rattle.auditor.specs.declared.auditor.Auditor.{Auditor}
-use Rattle.auditor.specs.declared.report.Report.{Report}
 use Rattle.auditor.specs.Agreed.{agreed_count, world}
-use Rattle.auditor.specs.Audits.{StandsFor}
-use Rattle.auditor.specs.Reports.{agreed_by, found_in, world_by}
+use Rattle.auditor.specs.Audits.{AuditState, StandsFor}
+use Rattle.auditor.specs.Reports.{Reported, agreed_by, found_in, world_by}
 use Rattle.log_files.specs.Logs.{entries_in, log_fault}
 use Rattle.log_files.specs.Several.{LogFault, of_log}
 use Rattle.log_files.specs.declared.audits.AuditFault.{AuditFault}
@@ -45,13 +43,13 @@ IsFirstFault game number texts (BadLog log at why) = first_fault game number tex
 IsFirstFault game number texts Memory = Unit {0}
 
 -- all texts are logs, and an auditor that stood for as many logs as the number says stands for them with these behind them
-pub record AreTaken (game : Game) (a a' : Auditor) (number : ℕ) (texts : List (List ℕ)) : Type 0 where
+pub record AreTaken (game : Game) (a a' : AuditState) (number : ℕ) (texts : List (List ℕ)) : Type 0 where
   pub sound : first_fault game number texts ≡ None
   pub stands : (owners : List (Option ℕ)) (logs : List (List Entry)) → length logs ≡ number → StandsFor game owners logs a →
       StandsFor game (owners ++ owners_of game texts) (logs ++ logs_of game texts) a'
 
 -- all texts are logs, and the report tells what they show, and nothing of players that the session lacks
-pub record Audits (game : Game) (texts : List (List ℕ)) (r : Report) : Type 0 where
+pub record Audits (game : Game) (texts : List (List ℕ)) (r : Reported) : Type 0 where
   pub sound : first_fault game 0 texts ≡ None
   pub found : found_in r ≡ findings game (logs_of game texts)
   pub agreed : (q : ℕ) → q < players_of game → agreed_by r q ≡ agreed_count game (owners_of game texts) (logs_of game texts) q

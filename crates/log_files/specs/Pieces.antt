@@ -5,14 +5,13 @@ use Rattle.station.specs.Shelves.{ShelfState}
 use Rattle.line_io.specs.Fronts.{IsCall}
 use Rattle.session_log.specs.Fed.{Fed, IsFeedOf}
 use Rattle.session_log.specs.Feeding.{LogFeeding}
-use Rattle.auditor.specs.declared.auditor.Auditor.{Auditor}
-use Rattle.auditor.specs.Audits.{owner_in}
+use Rattle.auditor.specs.Audits.{AuditState, owner_in}
 use Rattle.auditor.specs.Taking.{IsFeeding, TakesAll, TakesSome}
 use Rattle.log_files.specs.declared.pieces.PieceTurn.{PieceTurn}
 use Rattle.log_files.specs.declared.pieces.PieceTurn.TheVariants.{More, End, TooLong, Failed, Memory}
 
 -- All that these bytes give was taken, and the feed has come as far as they go.
-pub record TakesBytes (a a' : Auditor) (log : ℕ) (r r' : Fed) (bytes : List ℕ) : Type 0 where
+pub record TakesBytes (a a' : AuditState) (log : ℕ) (r r' : Fed) (bytes : List ℕ) : Type 0 where
   pub all : (f : LogFeeding) → IsFeedOf r f → TakesAll a.session a a' log r r' bytes f
   pub feeding : IsFeeding a' log r'
   pub used : r'.used ≤ r.used + length bytes
@@ -22,7 +21,7 @@ pub record TakesBytes (a a' : Auditor) (log : ℕ) (r r' : Fed) (bytes : List �
 -- file has ended; with these bytes it is too long; the call failed; or the first entries that the bytes give were taken, and then
 -- memory was wanting. No further than a byte past the longest log is asked for. In the three
 -- cases between, the auditor is as it was.
-abbrev pub TakesPiece : (before now : ShelfState) → (name : List ℕ) → (a a' : Auditor) → (log : ℕ) → (r r' : Fed) → (at : ℕ) → PieceTurn → Type 0
+abbrev pub TakesPiece : (before now : ShelfState) → (name : List ℕ) → (a a' : AuditState) → (log : ℕ) → (r r' : Fed) → (at : ℕ) → PieceTurn → Type 0
 TakesPiece before now name a a' log r r' at (More count) =
     (bytes : List ℕ) × IsCall before now name at (Some bytes) × (0 < count) × (count ≡ length bytes) × (at + count ≤ LONGEST_LOG) × TakesBytes a a' log r r' bytes
 TakesPiece before now name a a' log r r' at End = IsCall before now name at (Some []) × (a' ≡ a) × (r' ≡ r)

@@ -9,8 +9,7 @@ use Rattle.station.specs.Outside.{faults_behind}
 use Rattle.station.specs.Shelves.{ShelfState}
 use Rattle.line_io.specs.Files.{AreContents, Calls, Contents, ReadsFiles, behind_first}
 use Rattle.session_log.specs.Laws as L
-use Rattle.auditor.specs.declared.auditor.Auditor.{Auditor}
-use Rattle.auditor.specs.Audits.{StandsFor}
+use Rattle.auditor.specs.Audits.{AuditState, StandsFor}
 use Rattle.log_files.specs.Logs.{entries_in, log_fault}
 use Rattle.log_files.specs.declared.several.LogsTaken.{LogsTaken}
 use Rattle.log_files.specs.declared.several.LogsTaken.TheVariants.{Whole, Bad, Failed, Memory}
@@ -53,13 +52,13 @@ is_shelf_failed Failed = true
 is_shelf_failed Memory = false
 
 -- An auditor that stood for as many logs as the number says stands for them with these behind them, each its owner's.
-abbrev pub TakesLogs : Game → (a a' : Auditor) → Contents → (number many : ℕ) → Type 0
+abbrev pub TakesLogs : Game → (a a' : AuditState) → Contents → (number many : ℕ) → Type 0
 TakesLogs game a a' files number many =
     (owners : List (Option ℕ)) (logs : List (List Entry)) → length logs ≡ number → StandsFor game owners logs a →
     StandsFor game (owners ++ owners_in game files many) (logs ++ logs_in game files many) a'
 
 -- This was answered of files with these contents: all are logs, which were taken; or this is the first fault; or reading stopped before.
-abbrev pub AreAnswered : Game → (a a' : Auditor) → Contents → (number many : ℕ) → LogsTaken → Type 0
+abbrev pub AreAnswered : Game → (a a' : AuditState) → Contents → (number many : ℕ) → LogsTaken → Type 0
 AreAnswered game a a' files number many Whole = (first_fault game files number many ≡ None) × TakesLogs game a a' files number many
 AreAnswered game a a' files number many (Bad log at why) = first_fault game files number many ≡ Some (record { log = log; at = at; why = why })
 AreAnswered game a a' files number many Failed = Unit {0}
@@ -67,7 +66,7 @@ AreAnswered game a a' files number many Memory = Unit {0}
 
 -- Logs were taken from the files of these names, one behind the other, and of no file was anything read behind one that is no log. The
 -- answer is that of any contents that give what the shelf answered.
-pub record TakesFiles (game : Game) (before after : ShelfState) (names : List (List ℕ)) (a a' : Auditor) (number : ℕ) (taken : LogsTaken) : Type 0 where
+pub record TakesFiles (game : Game) (before after : ShelfState) (names : List (List ℕ)) (a a' : AuditState) (number : ℕ) (taken : LogsTaken) : Type 0 where
   pub calls : Calls
   pub reads : ReadsFiles names before after calls
   pub counted : after.faults ≡ faults_behind (is_shelf_failed taken) before.faults

@@ -2,8 +2,7 @@
 use Rattle.std.proofs.Common.{◌≡◌, ℕ, ◌≤◌, List, length, sym, ◌∙◌, ap, subst, arith}
 use Rattle.definitions.specs.World.{Game}
 use Rattle.auditor.specs.declared.world.WorldLine.{WorldLine}
-use Rattle.auditor.specs.declared.report.Report.{Report}
-use Rattle.auditor.specs.Reports.{found_in}
+use Rattle.auditor.specs.Reports.{Reported, found_in}
 use Rattle.make_command.specs.Making.{made_session}
 use Rattle.make_command.specs.declared.summary.Summary.{Summary}
 use Rattle.make_command.specs.Audits.{IsReportOn, world_lines}
@@ -23,7 +22,7 @@ unfolding made_match
 is_made number game first last made begun ended = ended ∙ ap (played most_steps) (begun ∙ ap (λ (g : Game). first_match g number) made)
 
 -- its logs show nothing
-pub none_found : (m : Match) (number : ℕ) (r : Report) → m ≡ made_match number → IsReportOn m.game m.logs r → length (found_in r) ≡ 0
+pub none_found : (m : Match) (number : ℕ) (r : Reported) → m ≡ made_match number → IsReportOn m.game m.logs r → length (found_in r) ≡ 0
 none_found m number r is told = ap length told.found ∙ ap found_in_match is ∙ (ends_fairly number).fair
 
 pub summed : (m : Match) (number found : ℕ) (players : List WorldLine) → m ≡ made_match number → found ≡ found_in_match m → players ≡ world_lines m.game m.logs →

@@ -23,19 +23,17 @@ use Rattle.grid_world.specs.Sessions.{IsSession}
 use Rattle.frame_index.specs.declared.limits.TheConstants.{MOST_LOGS}
 use Rattle.frame_index.specs.Appended.{with_entry}
 use Rattle.frame_index.proofs.Growing.{on_ok}
-use Rattle.auditor.specs.declared.auditor.Auditor.{Auditor}
-use Rattle.auditor.specs.Audits.{IsAuditOf, StandsFor, count_in, is_of_its_sender, owner_in, padded}
+use Rattle.auditor.specs.Audits.{AuditState, IsAuditOf, StandsFor, count_in, is_of_its_sender, owner_in, padded}
 use Rattle.auditor.specs.Taking.{Takes, with_entries}
-use Rattle.auditor.specs.declared.report.Report.{Report}
 use Rattle.auditor.specs.Agreed.{AreOwned}
-use Rattle.auditor.specs.Reports.{IsReportOf}
+use Rattle.auditor.specs.Reports.{IsReportOf, Reported}
 use Rattle.auditor.proofs.Fed.{takes_more, well_sent}
 use Rattle.auditor.proofs.Behind.{item_last, item_more, next_log}
 use Rattle.auditor.proofs.Padded.{if_ok}
 use Rattle.make_command.specs.Audits.{HasTaken, HasTakenOf, IsReportOn, entries_by, logs_of, owner_by, owners_of}
 
 -- an auditor that stood for these logs stands for one more, of which it took these entries
-one_more_log : (game : Game) (owners : List (Option ℕ)) (logs : List (List Entry)) (a a' : Auditor) (number : ℕ) (es : List Entry) (o : Option ℕ) → number < MOST_LOGS → length logs ≡ number →
+one_more_log : (game : Game) (owners : List (Option ℕ)) (logs : List (List Entry)) (a a' : AuditState) (number : ℕ) (es : List Entry) (o : Option ℕ) → number < MOST_LOGS → length logs ≡ number →
     StandsFor game owners logs a → Takes a a' number es → owner_in a' number ≡ o → ((i : ℕ) → (i ≡ number → ⊥) → owner_in a' i ≡ owner_in a i) → StandsFor game (owners ++ o ∷ []) (logs ++ es ∷ []) a'
 one_more_log game owners logs a a' number es o few long stands takes owner others =
     let at : length owners ≡ number = stands.each ∙ long in
@@ -76,7 +74,7 @@ module _ (game : Game) (logs : Logs) (p : ℕ) (below : p < MOST_LOGS) where
   many : length (owners_of logs p) ≡ p
   many = length-map-range_with_len (owner_by logs) 0 p
 
-  with_one : (a a' : Auditor) (o : Option ℕ) (es : List Entry) → owner_by logs p ≡ o → entries_by logs p ≡ es → a'.session ≡ a.session → HasTaken game logs p a → Takes a a' p es → owner_in a' p ≡ o →
+  with_one : (a a' : AuditState) (o : Option ℕ) (es : List Entry) → owner_by logs p ≡ o → entries_by logs p ≡ es → a'.session ≡ a.session → HasTaken game logs p a → Takes a a' p es → owner_in a' p ≡ o →
       ((i : ℕ) → (i ≡ p → ⊥) → (count_in a' i ≡ count_in a i) × (owner_in a' i ≡ owner_in a i)) → HasTaken game logs (p + 1) a'
   with_one a a' o es oe ee same t takes owner others = record {
     session = same ∙ t.session;
@@ -88,7 +86,7 @@ module _ (game : Game) (logs : Logs) (p : ℕ) (below : p < MOST_LOGS) where
   }
 
   -- a hostile player has no log
-  pub hostile_taken : (a : Auditor) → has_log logs p ≡ false → HasTaken game logs p a → HasTaken game logs (p + 1) a
+  pub hostile_taken : (a : AuditState) → has_log logs p ≡ false → HasTaken game logs p a → HasTaken game logs (p + 1) a
   hostile_taken a h t =
       let no_owner : owner_by logs p ≡ None = rw h refl in
       with_one a a None [] no_owner (empty (log_of logs p) h) refl t (λ g ls w. w) (t.stands.owners_are p ∙ owner_past (owners_of logs p) p (omega (arith, many))) (λ i not. (refl, refl))
@@ -98,7 +96,7 @@ module _ (game : Game) (logs : Logs) (p : ℕ) (below : p < MOST_LOGS) where
       empty (Some h) e = absurd (let never : true ≡ false = e in cc)
 
   -- an honest one has
-  pub honest_taken : (a a' : Auditor) (h : List Entry) → log_of logs p ≡ Some h → a'.session ≡ a.session → HasTaken game logs p a → Takes a a' p h → owner_in a' p ≡ Some p →
+  pub honest_taken : (a a' : AuditState) (h : List Entry) → log_of logs p ≡ Some h → a'.session ≡ a.session → HasTaken game logs p a → Takes a a' p h → owner_in a' p ≡ Some p →
       ((i : ℕ) → (i ≡ p → ⊥) → (count_in a' i ≡ count_in a i) × (owner_in a' i ≡ owner_in a i)) → HasTaken game logs (p + 1) a'
   honest_taken a a' h at same t takes owner others =
       let mine : owner_by logs p ≡ Some p = ap (λ (o : Option (List Entry)). if is_some o then Some p else None) at in
@@ -107,7 +105,7 @@ module _ (game : Game) (logs : Logs) (p : ℕ) (below : p < MOST_LOGS) where
 
 -- ---- the entries of a log one behind the other
 
-pub taken_none : (a : Auditor) (log : ℕ) → HasTakenOf a a log []
+pub taken_none : (a : AuditState) (log : ℕ) → HasTakenOf a a log []
 taken_none a log = record { taken = λ game logs w. w; session = refl; count = omega arith; owner = refl; others = λ i not. (refl, refl) }
 
 -- what stands past the end of a log
@@ -120,7 +118,7 @@ read_at (e ∷ es) zero lt = refl
 read_at (e ∷ es) (suc i) lt = read_at es i (omega (arith, lt))
 
 -- one entry more
-pub taken_more : (a b c : Auditor) (log i : ℕ) (es : List Entry) → i < length es → HasTakenOf a b log (take i es) →
+pub taken_more : (a b c : AuditState) (log i : ℕ) (es : List Entry) → i < length es → HasTakenOf a b log (take i es) →
     ((game : Game) (logs : List (List Entry)) → IsAuditOf game logs b → IsAuditOf game (with_entry logs log (get_or es i no_entry)) c) → c.session ≡ b.session → count_in c log ≡ count_in b log + 1 →
     ((k : ℕ) → (k ≡ log → ⊥) → count_in c k ≡ count_in b k) → ((k : ℕ) → owner_in c k ≡ owner_in b k) → HasTakenOf a c log (take (i + 1) es)
 taken_more a b c log i es lt t stands session counted others owners =
@@ -139,7 +137,7 @@ taken_more a b c log i es lt t stands session counted others owners =
 -- ---- the log of a player, and the report
 
 -- an honest log is short
-pub log_short : (game session : Game) (logs : Logs) (p : ℕ) (h : List Entry) (a b : Auditor) (k : ℕ) → IsSession session → session ≡ game → AreHonest game logs → p < players_of game → log_of logs p ≡ Some h → k ≡ p →
+pub log_short : (game session : Game) (logs : Logs) (p : ℕ) (h : List Entry) (a b : AuditState) (k : ℕ) → IsSession session → session ≡ game → AreHonest game logs → p < players_of game → log_of logs p ≡ Some h → k ≡ p →
     HasTaken game logs p a → ((i : ℕ) → count_in b i ≡ count_in a i) → count_in b k + length h ≤ LONGEST_LOG
 log_short game session logs p h a b k is same honest lt at kp t counts =
     let w : IsSession game = subst IsSession same is in
@@ -155,7 +153,7 @@ log_sent game session logs p h is same honest at =
     all_sent game p h (honest_well_formed game p h w.ahead.0 (honest p h at))
 
 -- a player's log was taken, whose owner was told
-pub log_taken : (game session : Game) (logs : Logs) (p : ℕ) (h : List Entry) (a b c : Auditor) (j k : ℕ) (r : Result (Unit {0}) AllocError) → IsSession session → session ≡ game → p < players_of game → log_of logs p ≡ Some h → j ≡ p → k ≡ p →
+pub log_taken : (game session : Game) (logs : Logs) (p : ℕ) (h : List Entry) (a b c : AuditState) (j k : ℕ) (r : Result (Unit {0}) AllocError) → IsSession session → session ≡ game → p < players_of game → log_of logs p ≡ Some h → j ≡ p → k ≡ p →
     HasTaken game logs p a → ((g : Game) (ls : List (List Entry)) → IsAuditOf g ls a → IsAuditOf g ls b) → b.session ≡ a.session → ((i : ℕ) → count_in b i ≡ count_in a i) → owner_in b j ≡ Some p →
     ((i : ℕ) → (i ≡ j → ⊥) → owner_in b i ≡ owner_in a i) → OnOk r (HasTakenOf b c k h) → OnOk r (HasTaken game logs (p + 1) c)
 log_taken game session logs p h a b c j k r is same lt at jp kp t stands session_is counts owner others took =
@@ -166,7 +164,7 @@ log_taken game session logs p h a b c j k r is same lt at jp kp t stands session
     honest_taken game logs p below a c h at (n.session ∙ session_is) t (λ g ls x. n.taken g ls (stands g ls x)) (n.owner ∙ subst (λ (i : ℕ). owner_in b i ≡ Some p) jp owner)
     (λ i not. ((n.others i not).0 ∙ counts i, (n.others i not).1 ∙ others i (λ e. not (e ∙ jp))))) took
 
-pub nothing_taken : (game : Game) (logs : Logs) (a : Auditor) → IsAuditOf game (replicate MOST_LOGS []) a → ((i : ℕ) → count_in a i ≡ 0) → ((i : ℕ) → owner_in a i ≡ None) → HasTaken game logs 0 a
+pub nothing_taken : (game : Game) (logs : Logs) (a : AuditState) → IsAuditOf game (replicate MOST_LOGS []) a → ((i : ℕ) → count_in a i ≡ 0) → ((i : ℕ) → owner_in a i ≡ None) → HasTaken game logs 0 a
 nothing_taken game logs a is counts owners = record {
   session = is.session;
   stands = record { audit = is; owners_are = λ i. owners i; each = refl };
@@ -210,7 +208,7 @@ all_owned game logs ahead honest i o h at owner = go (log_of logs i) refl (item_
         entries_is : (i : ℕ) (g : List Entry) → log_of logs i ≡ Some g → entries_by logs i ≡ g
         entries_is i g e = ap (λ (l : Option (List Entry)). unwrap_or l []) e
 
-pub all_reported : (game session : Game) (logs : Logs) (n : ℕ) (a : Auditor) (r : Result Report AllocError) → IsSession session → session ≡ game → AreHonest game logs → players_of game ≤ n → n ≤ players_of game → HasTaken game logs n a →
+pub all_reported : (game session : Game) (logs : Logs) (n : ℕ) (a : AuditState) (r : Result Reported AllocError) → IsSession session → session ≡ game → AreHonest game logs → players_of game ≤ n → n ≤ players_of game → HasTaken game logs n a →
     IfOk r (λ r. (g : Game) (owners : List (Option ℕ)) (ls : List (List Entry)) → StandsFor g owners ls a → IsReportOf g owners ls r) → IfOk r (IsReportOn game logs)
 all_reported game session logs n a r is same honest most least t told =
     let w : IsSession game = subst IsSession same is in

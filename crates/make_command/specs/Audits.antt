@@ -5,13 +5,11 @@ use Rattle.definitions.specs.declared.logs.Entry.{Entry}
 use Rattle.definitions.specs.World.{Game, players_of}
 use Rattle.definitions.specs.Steps.{Logs, has_log, log_of}
 use Rattle.definitions.specs.Findings.{findings}
-use Rattle.auditor.specs.declared.auditor.Auditor.{Auditor}
-use Rattle.auditor.specs.declared.report.Report.{Report}
 use Rattle.auditor.specs.declared.world.WorldLine.{WorldLine}
 use Rattle.auditor.specs.Agreed.{world}
-use Rattle.auditor.specs.Audits.{StandsFor, count_in, owner_in}
+use Rattle.auditor.specs.Audits.{AuditState, StandsFor, count_in, owner_in}
 use Rattle.auditor.specs.Taking.{LeavesOthers, Takes}
-use Rattle.auditor.specs.Reports.{found_in, world_by}
+use Rattle.auditor.specs.Reports.{Reported, found_in, world_by}
 
 -- whose log it is: the player's, if it is honest
 abbrev pub owner_by : Logs → (q : ℕ) → Option ℕ
@@ -29,7 +27,7 @@ abbrev pub logs_of : Logs → (many : ℕ) → List (List Entry)
 logs_of logs many = map (entries_by logs) (range_with_len 0 many)
 
 -- an auditor took these entries of a log, and left the other logs alone
-pub record HasTakenOf (before now : Auditor) (log : ℕ) (es : List Entry) : Type 0 where
+pub record HasTakenOf (before now : AuditState) (log : ℕ) (es : List Entry) : Type 0 where
   pub taken : Takes before now log es
   pub session : now.session ≡ before.session
   pub count : count_in now log ≡ count_in before log + length es
@@ -37,7 +35,7 @@ pub record HasTakenOf (before now : Auditor) (log : ℕ) (es : List Entry) : Typ
   pub others : LeavesOthers before now log
 
 -- an auditor took the logs of the first so many players, and nothing of others
-pub record HasTaken (game : Game) (logs : Logs) (many : ℕ) (a : Auditor) : Type 0 where
+pub record HasTaken (game : Game) (logs : Logs) (many : ℕ) (a : AuditState) : Type 0 where
   pub session : a.session ≡ game
   pub stands : StandsFor game (owners_of logs many) (logs_of logs many) a
   pub none : (i : ℕ) → many ≤ i → count_in a i ≡ 0
@@ -58,6 +56,6 @@ abbrev pub world_lines : Game → Logs → List WorldLine
 world_lines game logs = filter_map (world_line game logs) (range_with_len 0 (players_of game))
 
 -- It is a report on these players' logs, each of which is its player's.
-pub record IsReportOn (game : Game) (logs : Logs) (r : Report) : Type 0 where
+pub record IsReportOn (game : Game) (logs : Logs) (r : Reported) : Type 0 where
   pub found : found_in r ≡ findings game (audited_logs game logs)
   pub world_is : (q : ℕ) → q < players_of game → world_by r q ≡ world_line game logs q

@@ -1,6 +1,8 @@
-use Rattle.std.proofs.Common.{◌<◌, subst, sym, ◌∙◌, arith}
+use Rattle.std.proofs.Common.{◌<◌, ap, subst, sym, ◌∙◌, arith}
 use Rattle.grid_world.specs.Sessions.{IsSession}
 use Rattle.frame_index.specs.declared.limits.TheConstants.{MOST_LOGS}
+use Rattle.std.specs.Prelude.{Some}
+use Rattle.auditor.proofs.Viewed.{names_one}
 use Rattle.make_command.proofs.Taken.{hostile_taken, log_sent, log_short, log_taken}
 use Rattle.make_command.proofs.auditing.take_player.Goals as goal
 
@@ -15,7 +17,7 @@ returns-then-not-is_honest c =
 pub take_entries-requires-clause-few : goal.take_entries-requires-clause-few
 take_entries-requires-clause-few c =
     log_short c.args.table.now.game c.session.result.now c.args.table.now.logs c.args.player c.log_of.result.now c.args.auditor.now c.owner.new.self c.from-2.result c.facts-2.ensures c.session.ensures c.facts.ensures.honest
-    c.requires.player c.log_of.ensures c.from-2.ensures c.requires.taken c.owner.ensures.counts
+    c.requires.player c.log_of.ensures c.from-2.ensures c.requires.taken (names_one c.args.auditor.now c.owner.new.self c.from.result (Some c.args.player) c.owner.ensures.after).counts
 
 pub take_entries-requires-clause-senders : goal.take_entries-requires-clause-senders
 take_entries-requires-clause-senders c =
@@ -23,6 +25,7 @@ take_entries-requires-clause-senders c =
 
 pub returns : goal.returns
 returns c =
+    let one = names_one c.args.auditor.now c.owner.new.self c.from.result (Some c.args.player) c.owner.ensures.after in
     log_taken c.args.table.now.game c.session.result.now c.args.table.now.logs c.args.player c.log_of.result.now c.args.auditor.now c.owner.new.self c.take_entries.new.auditor c.from.result c.from-2.result c.take_entries.result
-    c.facts-2.ensures c.session.ensures c.requires.player c.log_of.ensures c.from.ensures c.from-2.ensures c.requires.taken c.owner.ensures.stands c.owner.ensures.session c.owner.ensures.counts c.owner.ensures.owner
-    c.owner.ensures.others c.take_entries.ensures
+    c.facts-2.ensures c.session.ensures c.requires.player c.log_of.ensures c.from.ensures c.from-2.ensures c.requires.taken c.owner.ensures.stands one.session one.counts one.owner_is
+    one.others c.take_entries.ensures

@@ -1,22 +1,28 @@
-use Rattle.std.proofs.Common.{List, ap, arith, sym, ℕ, ◌++◌, ◌∙◌, ◌≡◌, Option, length}
+use Rattle.std.proofs.Common.{List, ap, arith, subst, sym, ℕ, ◌++◌, ◌∙◌, ◌≡◌, Option, length}
 use Rattle.std.specs.Prelude.{filter_map, option_to_list}
 use Rattle.std.specs.List.{range_with_len}
 use Rattle.definitions.specs.declared.world.Move.{Move}
 use Rattle.auditor.specs.Agreed.{agreed_move, agreed_moves}
-use Rattle.auditor.specs.Audits.{crossed_logs}
+use Rattle.frame_index.specs.Heads.{AreOpen}
+use Rattle.auditor.specs.Audits.{AuditState, crossed_logs}
+use Rattle.auditor.proofs.Viewed.{none_read}
 use Rattle.auditor.proofs.Ranged.{picked_more}
 use Rattle.auditor.proofs.auditor.Auditor.agreed_each.Goals as goal
 
 pub loop-turn-init : goal.loop-turn-init
-loop-turn-init c = record {
-  few = let none = ap (λ (ms : List Move). length ms) c.new-moves.ensures.items in omega arith;
-  got = c.in_ok-start.ensures.opens;
-  made = c.in_ok-start-2.ensures.opens;
-  put = λ logs w. (
-    record { got = c.in_ok-start.ensures.stand logs w.audit.index; made = c.in_ok-start-2.ensures.stand (crossed_logs logs) w.audit.made },
-    c.new-moves.ensures.items,
-  );
-}
+loop-turn-init c =
+    let i = c.self.inside in
+    let seen : AuditState = record { session = i.session; index = i.index; made = i.made; counts = i.counts; owners = i.owners } in
+    record {
+      few = let none = ap (λ (ms : List Move). length ms) c.new-moves.ensures.items in omega arith;
+      got = subst (λ (a : AuditState). AreOpen a.session c.in_ok-got.got.after) c.self.view_is c.in_ok-got.ensures.opens;
+      made = subst (λ (a : AuditState). AreOpen a.session c.in_ok-made.made.after) c.self.view_is c.in_ok-made.ensures.opens;
+      put = λ logs w. (
+        none_read c.args.self.now seen c.self.view_is c.args.player logs (record { got = c.in_ok-got.got; made = c.in_ok-made.made }) (λ v. c.in_ok-got.ensures.stand logs v.audit.index)
+            (λ v. c.in_ok-made.ensures.stand (crossed_logs logs) v.audit.made) w,
+        c.new-moves.ensures.items,
+      );
+    }
 
 pub put_agreed-requires-clause-got : goal.put_agreed-requires-clause-got
 put_agreed-requires-clause-got c = c.loop-turn.invariant.got
@@ -37,12 +43,17 @@ loop-turn-preserved c = record {
 }
 
 pub returns-clause-few : goal.returns-clause-few
-returns-clause-few c = let few = c.loop-turn.invariant.few in let end = c.loop-turn.auto.turn-end in let value = c.turns-turn-end.ensures.value in omega arith
+returns-clause-few c =
+    let few = c.loop-turn.invariant.few in
+    let end = c.loop-turn.auto.turn-end in
+    let value = c.turns-turn-end.ensures.value in
+    let same = ap (λ (a : AuditState). a.session.turns) c.self.view_is in
+    omega (arith, few, end, value, same)
 
 pub returns-clause-moves : goal.returns-clause-moves
 unfolding agreed_moves
 returns-clause-moves c = λ logs w.
     let f : ℕ → Option Move = agreed_move c.args.self.now.session c.args.self.now.owners logs c.args.player in
     let all : c.loop-turn.turn ≡ c.args.self.now.session.turns =
-    (let end = c.loop-turn.auto.turn-end in let value = c.turns-turn-end.ensures.value in omega (arith, c.loop-turn-test.false, end, value)) in
+    (let end = c.loop-turn.auto.turn-end in let value = c.turns-turn-end.ensures.value in let same = ap (λ (a : AuditState). a.session.turns) c.self.view_is in omega (arith, c.loop-turn-test.false, end, value, same)) in
     (c.loop-turn.invariant.put logs w).1 ∙ ap (λ (n : ℕ). filter_map f (range_with_len 0 n)) all

@@ -1,29 +1,44 @@
-use Rattle.std.proofs.Common.{◌∙◌, List, arith, length, map, subst, sym}
-use Rattle.std.proofs.lemmas.Option.{get_or_from_slice_get}
+use Rattle.std.proofs.Common.{◌≡◌, List, refl, subst, sym, ℕ}
+use Rattle.std.specs.Prelude.{Ok, Err, slice_index}
 use Rattle.definitions.specs.declared.logs.Entry.{Entry}
 use Rattle.definitions.specs.World.{Game}
-use Rattle.definition_laws.proofs.Nexts.{some_at}
 use Rattle.frame_index.specs.Appended.{with_entry}
-use Rattle.frame_index.specs.Frames.{IsIndex}
-use Rattle.auditor.specs.Audits.{crossed, crossed_logs}
-use Rattle.auditor.proofs.Crossed.{crossed_length, crossed_there, crossed_with}
-use Rattle.auditor.proofs.Counted.{counts_grown, length-with_entry}
+use Rattle.auditor.specs.Audits.{AuditState, IsAuditOf}
+use Rattle.auditor.proofs.Viewed.{after_entry, taken_stands, untaken_stands}
 use Rattle.auditor.proofs.auditor.Auditor.take.Goals as goal
 
-pub returns-clause-stands : goal.returns-clause-stands
-returns-clause-stands c = λ game logs w.
-    let many = w.many in
-    let there = some_at logs c.args.log (omega (arith, c.requires.log)) in
-    let last = get_or_from_slice_get c.args.self.now.counts c.args.log (length there.0) 0 (w.counted c.args.log there.0 there.1) in
-    let old = subst (λ (g : Game). IsIndex g logs c.args.self.now.index) (sym w.session) w.index in
-    let new = c.in_ok-take_entry.ensures.got logs there.0 there.1 last old in
-    let old_made = subst (λ (g : Game). IsIndex g (crossed_logs logs) c.args.self.now.made) (sym w.session) w.made in
-    let new_made = c.in_ok-take_entry.ensures.made (crossed_logs logs) (map crossed there.0) (crossed_there logs c.args.log there.0 there.1) (last ∙ sym (crossed_length there.0)) old_made in
-    record {
-      session = w.session;
-      many = length-with_entry logs c.args.log c.args.entry.now ∙ many;
-      index = subst (λ (g : Game). IsIndex g (with_entry logs c.args.log c.args.entry.now) c.take_entry.new.index) w.session new;
-      made = subst (λ (g : Game). IsIndex g (crossed_logs (with_entry logs c.args.log c.args.entry.now)) c.take_entry.new.made) w.session
-          (subst (λ (ls : List (List Entry)). IsIndex c.args.self.now.session ls c.take_entry.new.made) (crossed_with logs c.args.log c.args.entry.now) new_made);
-      counted = counts_grown logs c.args.self.now.counts c.args.log there.0 c.args.entry.now there.1 w.counted;
-    }
+pub returns-in-Ok-clause-after : goal.returns-in-Ok-clause-after
+returns-in-Ok-clause-after c =
+    let w = c.self.inside in
+    let seen : List ℕ → AuditState = λ counts. record { session = w.session; index = c.take_entry.new.index; made = c.take_entry.new.made; counts = counts; owners = w.owners } in
+    subst (λ (a : AuditState). seen c.count_one.new.counts ≡ after_entry (Ok tt) a c.args.log c.take_entry.new.index c.take_entry.new.made) c.self.view_is
+    (λ j. seen (c.count_one.ensures j))
+
+pub returns-in-Ok-clause-stands : goal.returns-in-Ok-clause-stands
+returns-in-Ok-clause-stands c =
+    let w = c.self.inside in
+    let index = c.take_entry.new.index in
+    let made = c.take_entry.new.made in
+    let seen : List ℕ → AuditState = λ counts. record { session = w.session; index = index; made = made; counts = counts; owners = w.owners } in
+    let old : AuditState = record { session = w.session; index = w.index; made = w.made; counts = w.counts; owners = w.owners } in
+    subst (λ (a : AuditState). (game : Game) (logs : List (List Entry)) → IsAuditOf game logs a → IsAuditOf game (with_entry logs c.args.log c.args.entry.now) (seen c.count_one.new.counts)) c.self.view_is
+    (λ game logs is. subst (λ (counts : List ℕ). IsAuditOf game (with_entry logs c.args.log c.args.entry.now) (seen counts)) (sym c.count_one.ensures)
+    (taken_stands old index made c.args.log (slice_index w.counts c.args.log) c.args.entry.now tt c.requires.log refl c.in-Ok.ensures.got c.in-Ok.ensures.made game logs is))
+
+pub returns-in-Err-clause-after : goal.returns-in-Err-clause-after
+returns-in-Err-clause-after c =
+    let w = c.self.inside in
+    let index = c.take_entry.new.index in
+    let made = c.take_entry.new.made in
+    let new : AuditState = record { session = w.session; index = index; made = made; counts = w.counts; owners = w.owners } in
+    subst (λ (a : AuditState). new ≡ after_entry (Err c.in-Err.wanting) a c.args.log index made) c.self.view_is refl
+
+pub returns-in-Err-clause-stands : goal.returns-in-Err-clause-stands
+returns-in-Err-clause-stands c =
+    let w = c.self.inside in
+    let index = c.take_entry.new.index in
+    let made = c.take_entry.new.made in
+    let old : AuditState = record { session = w.session; index = w.index; made = w.made; counts = w.counts; owners = w.owners } in
+    let new : AuditState = record { session = w.session; index = index; made = made; counts = w.counts; owners = w.owners } in
+    subst (λ (a : AuditState). (game : Game) (logs : List (List Entry)) → IsAuditOf game logs a → IsAuditOf game logs new) c.self.view_is
+    (untaken_stands old index made c.args.log c.in-Err.wanting c.in-Err.ensures.got_err c.in-Err.ensures.made_err)
