@@ -13,7 +13,6 @@ use Rattle.definitions.specs.Logs.{player_of, turn_of}
 use Rattle.definitions.specs.Entries.{is_well_formed}
 use Rattle.definitions.specs.Answers.{is_of_another}
 use Rattle.frame_index.specs.Appended.{with_entry}
-use Rattle.session_log.specs.declared.feed.LogFedWhat.TheVariants as what
 use Rattle.session_log.specs.Feeding.{LogFeeding, LogGiven, fed_step, given_of}
 use Rattle.session_log.specs.Fed.{Fed, IsFeedOf}
 use Rattle.session_log.proofs.FedWell.{fed_well}
@@ -32,7 +31,7 @@ well_sent game me (Made f) w = refl
 well_sent game me (Got q f) w = (and_parts (nat_lt q (players_of game) && not (q == me)) (player_of f == q) (and_parts (nat_lt (turn_of f) game.turns) (is_of_another game me q f) w).1).1
 
 -- an entry that a feed gives is of its sender
-pub fed_sent : (game : Game) (f : LogFeeding) (bytes : List ℕ) (e : Entry) → (fed_step game f bytes).fed.what ≡ what.Entry e → is_of_its_sender e ≡ true
+pub fed_sent : (game : Game) (f : LogFeeding) (bytes : List ℕ) (e : Entry) → (fed_step game f bytes).fed.what ≡ Ok (Some e) → is_of_its_sender e ≡ true
 fed_sent game f bytes e h = let w = fed_well game f bytes e h in well_sent game w.0 e w.1
 
 -- entries behind entries

@@ -14,7 +14,7 @@ ghost use Rattle.auditor.specs.Taking as T;
 use definitions::Entry;
 use definitions::limits::LONGEST_LOG;
 use grid_world::Session;
-use session_log::{LogFeed, LogStepWhat};
+use session_log::LogFeed;
 
 /// How many entries were read, and the place in the piece behind the last of them.
 #[derive(Clone, Copy)]
@@ -45,8 +45,8 @@ fn read_next(
 {
     let step = feed.feed_at(session, piece, at, entry);
     match step.what {
-        LogStepWhat::Entry => Some(step.used),
-        _ => None,
+        Ok(came) => { if came { Some(step.used) } else { None } }
+        Err(_) => None,
     }
 }
 

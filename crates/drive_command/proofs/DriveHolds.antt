@@ -18,7 +18,8 @@ use Rattle.run_frame.specs.declared.statuses.Status.{Status}
 use Rattle.run_frame.specs.declared.statuses.Status.TheVariants.{InputFault, NoMemory, OutputFault, Usage, BadSession, BadLog}
 use Rattle.run_frame.proofs.SessionRead.{fault_said}
 use Rattle.run_frame.proofs.Working.{Holds}
-use Rattle.old_log.specs.Old.{Fault, dropped_at, old_entries, old_fault}
+use Rattle.session_log.specs.declared.faults.LogFault.{LogFault}
+use Rattle.old_log.specs.Old.{dropped_at, old_entries, old_fault}
 use Rattle.old_log.specs.Beginnings.{Beginning}
 use Rattle.old_log.specs.Begun.{begun, empty_beginning, log_front_of, old_beginning, with_old}
 use Rattle.old_log.specs.Files.{log_names}
@@ -55,7 +56,7 @@ module _ (d : Driving) (contents : Contents) (input : Input) (ends : ending_of i
   begins b set = begun_so b set (begun_answer d.player b input).status (drive_caused d.player b input ends)
 
   -- a log that is named, by the fault for which the player can't go on from it
-  named_log : (game : Game) (name : List ℕ) → IsSeated d contents game → d.old ≡ Some name → (fault : Option Fault) → old_fault game d.player (log_front_of (content contents 1)) ≡ fault →
+  named_log : (game : Game) (name : List ℕ) → IsSeated d contents game → d.old ≡ Some name → (fault : Option LogFault) → old_fault game d.player (log_front_of (content contents 1)) ≡ fault →
       HasCause (drive_law d) contents input (drive_answer d.player (old_beginning game (log_front_of (content contents 1)) fault) input).status
   named_log game name seated n None e =
       let bytes = log_front_of (content contents 1) in

@@ -1,5 +1,6 @@
 -- Plays: a line that is read and answered, and the ends to which reading comes.
 use Rattle.std.proofs.Common.{◌≡◌, ℕ, Bool, true, false, Option, Some, None, List, ◌∷◌, ◌++◌, refl, ap, subst, sym, ◌∙◌}
+use Rattle.std.specs.Prelude.{Result, Ok, Err}
 use Rattle.definitions.specs.Findings.{is_clean}
 use Rattle.station.specs.Since.{since}
 use Rattle.station.specs.Sinks.{SinkState}
@@ -11,8 +12,6 @@ use Rattle.line_io.specs.Readings.{Drew}
 use Rattle.run_frame.specs.Turns.{Plays, PlaysTurn, Turns}
 use Rattle.run_frame.specs.declared.statuses.Status.{Status}
 use Rattle.run_frame.specs.declared.statuses.Status.TheVariants.{Caught, Done, InputFault, NoMemory, OutputFault}
-use Rattle.run_frame.specs.declared.turns.LoopTurn.{LoopTurn}
-use Rattle.run_frame.specs.declared.turns.LoopTurn.TheVariants.{On, Over}
 use Rattle.line_io.proofs.Drawing.{drew_none}
 use Rattle.line_io.proofs.Inputs.{line_read}
 use Rattle.drive_command.specs.Drive.{drive_from, status_for}
@@ -75,11 +74,11 @@ module _ (i j : SourceState) (a b : SinkState) (d d' : Driven) (held held' line 
   over_plays OutputFault e = record { drew = drew; ends = λ behind m. ends_so OutputFault e behind; over = tt }
   over_plays s e = record { drew = drew; ends = λ behind m. ends_so s e behind; over = tt }
 
-  pub line_plays : (turn : LoopTurn) → ((input : Input) → Turns a b (driven_from d (Line line input)) (driven_from d' input) turn) →
+  pub line_plays : (turn : Result (Unit {0}) Status) → ((input : Input) → Turns a b (driven_from d (Line line input)) (driven_from d' input) turn) →
       PlaysTurn i j a b (driven_from d) (driven_from d') held held' turn
-  line_plays On turned = record {
+  line_plays (Ok done) turned = record {
     drew = drew;
     onward = λ ending behind.
         subst (λ (i : Input). Onward a b (driven_from d i) (driven_from d' (input_of ending (held' ++ behind)))) (sym (due_line ending behind)) (turned (input_of ending (held' ++ behind)));
   }
-  line_plays (Over s) turned = over_plays s turned
+  line_plays (Err s) turned = over_plays s turned

@@ -1,9 +1,9 @@
 //! Lines that are answered.
 
-ghost use Rattle.std.specs.Prelude.{◌≡◌, ◌≤◌, ◌<◌, ◌+◌, ◌∷◌, List, ℕ, length, drop, IsTrue};
+ghost use Rattle.std.specs.Prelude.{◌≡◌, ◌≤◌, ◌<◌, ◌+◌, ◌∷◌, List, ℕ, length, drop, IsTrue, OnOk};
 ghost use Rattle.definitions.specs.Findings.{is_clean};
 ghost use Rattle.line_io.specs.Inputs.{Input, Line};
-ghost use Rattle.run_frame.specs.Turns.{Turns, OnTurn};
+ghost use Rattle.run_frame.specs.Turns.{Turns};
 ghost use Rattle.drive_command.specs.Outcomes.{driven_from, bytes_from, MayCome};
 ghost use Rattle.drive_command.specs.Bringing.{BringsPart, OnMore};
 
@@ -12,20 +12,9 @@ use crate::outcomes::{Outcome, is_last};
 use crate::printing::{put_answered, put_part};
 use definitions::PlayerId;
 use definitions::limits::{LONGEST_LINE, MOST_LINES};
-use line_io::Written;
-use run_frame::{LoopTurn, Status, TextName};
+use line_io::SinkFault;
+use run_frame::{Status, TextName};
 use station::Sink;
-
-/// Whether more of a line's bytes are to be read.
-#[derive(Clone, Copy)]
-pub(crate) enum PartTurn {
-    /// Yes, behind so many of them.
-    On(usize),
-    /// No: all are read, or one is bad, or there is a finding, behind which the rest is dropped.
-    Over,
-    /// The sink failed.
-    Failed,
-}
 
 /// The status of the line that comes next, if it is in no grammar.
 pub(crate) fn bad_line_status(driver: &Driver) -> Status
@@ -37,8 +26,15 @@ pub(crate) fn bad_line_status(driver: &Driver) -> Status
     }
 }
 
-/// Reads on in bytes that come from a player, up to the end of a frame, and tells of it.
-fn bring_part<O: Sink>(driver: &mut Driver, from: PlayerId, bytes: &[u8], out: &mut O) -> PartTurn
+/// Reads on in bytes that come from a player, up to the end of a frame, and tells of it. Where more
+/// of the bytes are to be read, says how many were used. None are where all are read, where one is
+/// bad, or where there is a finding, after which the rest is dropped.
+fn bring_part<O: Sink>(
+    driver: &mut Driver,
+    from: PlayerId,
+    bytes: &[u8],
+    out: &mut O,
+) -> Result<Option<usize>, SinkFault>
     requires { MayCome driver.old from bytes.now }
     ensures text { (input : Input) →
         BringsPart (O.state out.old) (O.state out.new) (bytes_from driver.old from bytes.now input) driver.new from bytes.now input result }
@@ -47,50 +43,48 @@ fn bring_part<O: Sink>(driver: &mut Driver, from: PlayerId, bytes: &[u8], out: &
 {
     let part = driver.take_part(from, bytes);
     let arrival = part.arrival;
-    match put_part(driver.peer(), from, &arrival, out) {
-        Written::Failed => PartTurn::Failed,
-        Written::All => {
-            if is_last(&arrival) || driver.peer().finding().is_some() {
-                PartTurn::Over
-            } else {
-                PartTurn::On(part.used)
-            }
-        }
+    put_part(driver.peer(), from, &arrival, out)?;
+    if is_last(&arrival) || driver.peer().finding().is_some() {
+        Ok(None)
+    } else {
+        Ok(Some(part.used))
     }
 }
 
-/// Reads the bytes that come from a player, and tells of each frame that they make whole, up to the first that makes a finding,
-/// and of a bad byte.
-fn bring<O: Sink>(driver: &mut Driver, from: PlayerId, bytes: &[u8], out: &mut O) -> LoopTurn
+/// Reads the bytes that come from a player, and tells of each frame that they make whole, up to the
+/// first that makes a finding, and of a bad byte. An error is the status with which the run ends.
+fn bring<O: Sink>(
+    driver: &mut Driver,
+    from: PlayerId,
+    bytes: &[u8],
+    out: &mut O,
+) -> Result<(), Status>
     requires { MayCome driver.old from bytes.now }
     ensures text { (input : Input) →
         Turns (O.state out.old) (O.state out.new) (bytes_from driver.old from bytes.now input) (driven_from driver.new input) result }
-    ensures lines { OnTurn result (driver.new.lines ≡ driver.old.lines) }
+    ensures lines { OnOk result (driver.new.lines ≡ driver.old.lines) }
 {
     let mut rest = bytes;
-    'parts: loop {
-        match bring_part(driver, from, rest, out) {
-            PartTurn::On(used) => rest = rest.split_at(used).1,
-            PartTurn::Over => return LoopTurn::On,
-            PartTurn::Failed => return LoopTurn::Over(Status::OutputFault),
-        }
+    'parts: while let Some(used) = bring_part(driver, from, rest, out)? {
+        rest = rest.split_at(used).1;
     }
+    Ok(())
 }
 
-/// Takes the line that was read, and answers it.
-pub(crate) fn answer<O: Sink>(driver: &mut Driver, line: &[u8], out: &mut O) -> LoopTurn
+/// Takes the line that was read, and answers it. An error is the status with which the run ends.
+pub(crate) fn answer<O: Sink>(driver: &mut Driver, line: &[u8], out: &mut O) -> Result<(), Status>
     requires short { length line.now ≤ LONGEST_LINE }
     requires clean { IsTrue (is_clean driver.old.game driver.old.state.log) }
     ensures text { (input : Input) →
         Turns (O.state out.old) (O.state out.new) (driven_from driver.old (Line line.now input)) (driven_from driver.new input) result }
-    ensures counted { OnTurn result ((driver.new.lines ≡ driver.old.lines + 1) × (driver.new.lines ≤ MOST_LINES)) }
+    ensures counted { OnOk result ((driver.new.lines ≡ driver.old.lines + 1) × (driver.new.lines ≤ MOST_LINES)) }
 {
     match driver.take_line(line) {
-        Outcome::Bad => LoopTurn::Over(bad_line_status(driver)),
+        Outcome::Bad => Err(bad_line_status(driver)),
         Outcome::Bytes(from, piece) => bring(driver, from, piece.as_slice(), out),
-        Outcome::AtOnce(answered) => match put_answered(driver.peer(), &answered, out) {
-            Written::All => LoopTurn::On,
-            Written::Failed => LoopTurn::Over(Status::OutputFault),
-        },
+        Outcome::AtOnce(answered) => {
+            put_answered(driver.peer(), &answered, out)?;
+            Ok(())
+        }
     }
 }

@@ -1,6 +1,6 @@
 //! The log so far, printed.
 
-ghost use Rattle.std.specs.Prelude.{◌≡◌, ◌≤◌, ◌++◌, codes};
+ghost use Rattle.std.specs.Prelude.{◌≡◌, ◌≤◌};
 ghost use Rattle.hex.specs.Hex.{encode_lower};
 ghost use Rattle.line_io.specs.Texts.{Puts};
 ghost use Rattle.session_log.specs.Writing.{written, after, all_written, fresh};
@@ -10,7 +10,7 @@ ghost use Rattle.session_log.specs.Spelling.{log_bytes};
 use arrayvec::ArrayVec;
 use definitions::Entry;
 use hex::encode_to_slice;
-use line_io::{Written, put};
+use line_io::{SinkFault, put};
 use peer_core::Peer;
 use session_log::LogWriter;
 use station::Sink;
@@ -36,20 +36,21 @@ fn entry_digits(writer: &mut LogWriter, entry: &Entry) -> ArrayVec<u8, ENTRY_DIG
 }
 
 /// Writes the digits of the bytes of these entries of a log.
-fn put_digits<O: Sink>(writer: &mut LogWriter, entries: &[Entry], out: &mut O) -> Written
+fn put_digits<O: Sink>(
+    writer: &mut LogWriter,
+    entries: &[Entry],
+    out: &mut O,
+) -> Result<(), SinkFault>
     ensures { Puts (O.state out.old) (O.state out.new) (encode_lower (all_written writer.old entries.now)) result }
 {
     'entries: for entry in entries {
-        match put(out, entry_digits(writer, entry).as_slice()) {
-            Written::All => {}
-            Written::Failed => return Written::Failed,
-        }
+        put(out, entry_digits(writer, entry).as_slice())?;
     }
-    Written::All
+    Ok(())
 }
 
 /// Writes the digits of a log as a field of a line; nothing where the log has no bytes.
-fn put_field<O: Sink>(peer: &Peer, out: &mut O) -> Written
+fn put_field<O: Sink>(peer: &Peer, out: &mut O) -> Result<(), SinkFault>
     ensures { Puts (O.state out.old) (O.state out.new) (log_field (log_bytes peer.now.game.id peer.now.me peer.now.entries)) result }
 {
     let entries = peer.entries();
@@ -57,29 +58,16 @@ fn put_field<O: Sink>(peer: &Peer, out: &mut O) -> Written
         return put(out, b"");
     }
     let mut writer = LogWriter::new(peer.session(), peer.me());
-    match put(out, b" ") {
-        Written::All => put_digits(&mut writer, entries, out),
-        Written::Failed => Written::Failed,
-    }
-}
-
-/// Writes the word and the log.
-fn put_word_and_field<O: Sink>(peer: &Peer, out: &mut O) -> Written
-    ensures { Puts (O.state out.old) (O.state out.new) (codes "log" ++ log_field (log_bytes peer.now.game.id peer.now.me peer.now.entries)) result }
-{
-    match put(out, b"log") {
-        Written::All => put_field(peer, out),
-        Written::Failed => Written::Failed,
-    }
+    put(out, b" ")?;
+    put_digits(&mut writer, entries, out)
 }
 
 /// Writes the line that prints the log so far, all of its bytes, entry by entry.
 #[tactic(auto, unfolding(crate::specs::Report::log_text))]
-pub(crate) fn put_log<O: Sink>(peer: &Peer, out: &mut O) -> Written
+pub(crate) fn put_log<O: Sink>(peer: &Peer, out: &mut O) -> Result<(), SinkFault>
     ensures { Puts (O.state out.old) (O.state out.new) (log_text peer.now.game peer.now.me peer.now.entries) result }
 {
-    match put_word_and_field(peer, out) {
-        Written::All => put(out, b"\n"),
-        Written::Failed => Written::Failed,
-    }
+    put(out, b"log")?;
+    put_field(peer, out)?;
+    put(out, b"\n")
 }

@@ -1,12 +1,12 @@
 //! A script that is answered line by line.
 
-ghost use Rattle.std.specs.Prelude.{◌≡◌, ◌≤◌, ◌+◌, ◌++◌, [], false, length, IsTrue};
+ghost use Rattle.std.specs.Prelude.{◌≡◌, ◌≤◌, ◌+◌, ◌++◌, [], false, length, IsTrue, OnOk};
 ghost use Rattle.definitions.specs.Advance.{advance};
 ghost use Rattle.definitions.specs.Findings.{is_clean};
 ghost use Rattle.definition_laws.specs.First.{finding_of_log};
 ghost use Rattle.line_io.specs.Inputs.{Input, Line, End};
 ghost use Rattle.run_frame.specs.Frame.{Ends, after_text};
-ghost use Rattle.run_frame.specs.Turns.{Plays, PlaysTurn, OnTurn};
+ghost use Rattle.run_frame.specs.Turns.{Plays, PlaysTurn};
 ghost use Rattle.drive_command.specs.Begin.{begun_answer};
 ghost use Rattle.drive_command.specs.Drive as D;
 ghost use Rattle.report_lines.specs.Lines.{added_text, found_text};
@@ -16,10 +16,10 @@ use crate::answering::{answer, bad_line_status};
 use crate::driver::Driver;
 use crate::printing::{put_end, put_start};
 use definitions::limits::{LONGEST_LINE, MOST_LINES};
-use line_io::{LineReader, NextLine, Written};
+use line_io::{LineReader, NextLine};
 use peer_core::Peer;
 use report_lines::put_dropped;
-use run_frame::{LoopTurn, Status};
+use run_frame::Status;
 use station::{Sink, Source};
 
 /// Writes the end of a peer whose log has a finding.
@@ -28,8 +28,8 @@ fn end_caught<O: Sink>(driver: &Driver, out: &mut O) -> Status
     ensures { (input : Input) → Ends (O.state out.old) (O.state out.new) (driven_from driver.now input) result }
 {
     match put_end(driver.peer(), out) {
-        Written::All => Status::Caught,
-        Written::Failed => Status::OutputFault,
+        Ok(()) => Status::Caught,
+        Err(fault) => Status::from(fault),
     }
 }
 
@@ -41,8 +41,8 @@ fn end<O: Sink>(driver: &Driver, out: &mut O) -> Status
         return end_caught(driver, out);
     }
     match put_end(driver.peer(), out) {
-        Written::All => Status::Done,
-        Written::Failed => Status::OutputFault,
+        Ok(()) => Status::Done,
+        Err(fault) => Status::from(fault),
     }
 }
 
@@ -53,30 +53,31 @@ fn answer_last<O: Sink>(driver: &mut Driver, line: &[u8], out: &mut O) -> Status
     ensures { Ends (O.state out.old) (O.state out.new) (driven_from driver.old (Line line.now End)) result }
 {
     match answer(driver, line, out) {
-        LoopTurn::On => end(driver, out),
-        LoopTurn::Over(status) => status,
+        Ok(()) => end(driver, out),
+        Err(status) => status,
     }
 }
 
-/// Reads the next line and answers it; after a finding nothing is read.
+/// Reads the next line and answers it; after a finding nothing is read. An error is the status with
+/// which the run ends.
 fn answer_line<I: Source, O: Sink>(
     driver: &mut Driver,
     reader: &mut LineReader,
     input: &mut I,
     out: &mut O,
-) -> LoopTurn
+) -> Result<(), Status>
     ensures text { PlaysTurn (I.state input.old) (I.state input.new) (O.state out.old) (O.state out.new)
         (driven_from driver.old) (driven_from driver.new) reader.old.pending reader.new.pending result }
-    ensures counted { OnTurn result ((driver.new.lines ≡ driver.old.lines + 1) × (driver.new.lines ≤ MOST_LINES)) }
+    ensures counted { OnOk result ((driver.new.lines ≡ driver.old.lines + 1) × (driver.new.lines ≤ MOST_LINES)) }
 {
     if driver.peer().finding().is_some() {
-        return LoopTurn::Over(end_caught(driver, out));
+        return Err(end_caught(driver, out));
     }
     match reader.next(input) {
-        NextLine::Failed => LoopTurn::Over(Status::InputFault),
-        NextLine::TooLong => LoopTurn::Over(bad_line_status(driver)),
-        NextLine::End => LoopTurn::Over(end(driver, out)),
-        NextLine::Last => LoopTurn::Over(answer_last(driver, reader.line(), out)),
+        NextLine::Failed => Err(Status::InputFault),
+        NextLine::TooLong => Err(bad_line_status(driver)),
+        NextLine::End => Err(end(driver, out)),
+        NextLine::Last => Err(answer_last(driver, reader.line(), out)),
         NextLine::Line => answer(driver, reader.line(), out),
     }
 }
@@ -92,8 +93,8 @@ fn answer_lines<I: Source, O: Sink>(
 {
     'lines: loop {
         match answer_line(driver, reader, input, out) {
-            LoopTurn::On => {}
-            LoopTurn::Over(status) => return status,
+            Ok(()) => {}
+            Err(status) => return status,
         }
     }
 }
@@ -113,14 +114,14 @@ fn follow<I: Source, O: Sink>(
 {
     let mut reader = LineReader::new();
     match put_start(driver.peer(), entries, out) {
-        Written::All => {
+        Ok(()) => {
             // the input is left alone after a finding with which the peer begins
             if driver.peer().finding().is_some() {
                 return end_caught(driver, out);
             }
             answer_lines(driver, &mut reader, input, out)
         }
-        Written::Failed => Status::OutputFault,
+        Err(fault) => Status::from(fault),
     }
 }
 
@@ -151,7 +152,7 @@ pub fn drive<I: Source, O: Sink>(
     ensures untouched { is_clean peer.game (advance peer.game peer.me peer.entries) ≡ false → input.new ≡ input.old }
 {
     match put_dropped(dropped, out) {
-        Written::All => play(peer, input, out),
-        Written::Failed => Status::OutputFault,
+        Ok(()) => play(peer, input, out),
+        Err(fault) => Status::from(fault),
     }
 }

@@ -8,6 +8,7 @@ ghost use Rattle.definitions.specs.World.{players_of};
 
 use crate::link::Link;
 use definitions::{Entry, GotAnswer, Move, Nonce, OwnFault, PlayerId, Progress};
+use old_log::Resumed;
 use peer_core::Peer;
 use session_log::LogWriter;
 use std::alloc::AllocError;
@@ -67,17 +68,26 @@ fn put_made(peer: &Peer, place: u32, out: &mut Vec<u8>) -> Result<(), AllocError
 }
 
 impl Seat {
-    /// A seat for this peer. The entries that its log has are stored already: those from which it
-    /// goes on, or none.
+    /// A seat for a peer that has logged nothing yet.
     pub fn new(peer: Peer, other: PlayerId) -> Seat
         requires { other < players_of peer.game }
     {
-        let mut writer = LogWriter::new(peer.session(), peer.me());
-        let entries = peer.entries();
-        for entry in entries {
-            writer.put(entry, &mut [0; 96]);
-        }
-        let stored = entries.len();
+        let writer = LogWriter::new(peer.session(), peer.me());
+        Seat::behind(peer, writer, other)
+    }
+
+    /// A seat for a peer that goes on from a log, whose entries are stored already.
+    pub fn resumed(resumed: Resumed, other: PlayerId) -> Seat
+        requires { other < players_of resumed.peer.game }
+    {
+        Seat::behind(resumed.peer, resumed.writer, other)
+    }
+
+    /// A seat for this peer, whose log is stored, and the writer behind that.
+    fn behind(peer: Peer, writer: LogWriter, other: PlayerId) -> Seat
+        requires { other < players_of peer.game }
+    {
+        let stored = peer.entries().len();
         Seat {
             peer,
             other,

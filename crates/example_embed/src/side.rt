@@ -6,7 +6,7 @@ use crate::moves::{next_move, staying};
 use crate::seat::{Came, Seat};
 use definitions::{GotAnswer, LogWhy, MoveFault, Nonce, OwnFault, PlayerId, Progress};
 use grid_world::Session;
-use old_log::{OldFault, resume_from};
+use old_log::{LogFault, OldFault, resume_from};
 use peer_core::{Choice, Peer, PlayerView};
 use std::alloc::{AllocError, Global};
 use std::io;
@@ -46,16 +46,14 @@ impl Side {
         mut disk: Vec<u8>,
     ) -> Result<Side, OldFault> {
         if me > 1 || me >= session.players() {
-            return Err(OldFault::Bad {
+            return Err(OldFault::Bad(LogFault {
                 at: 0,
                 why: LogWhy::NotReplayed,
-            });
+            }));
         }
         let resumed = resume_from(alloc, session, me, disk.as_slice())?;
-        if let Some(at) = resumed.dropped {
-            disk.truncate(at as usize);
-        }
-        let seat = Seat::new(resumed.peer, 1 - me);
+        disk.truncate(resumed.kept as usize);
+        let seat = Seat::resumed(resumed, 1 - me);
         let inbox = Vec::new(alloc);
         Ok(Side { seat, disk, inbox })
     }

@@ -12,7 +12,7 @@ use Rattle.grid_world.proofs.Found.{game_found}
 use Rattle.line_io.specs.Files.{Contents, behind_first, content}
 use Rattle.line_io.specs.Inputs.{Input}
 use Rattle.line_io.proofs.Unread.{none_at}
-use Rattle.log_files.specs.Several.{LogFault, first_fault, logs_in, owners_in}
+use Rattle.log_files.specs.Several.{FaultyLog, first_fault, logs_in, owners_in}
 use Rattle.run_frame.specs.Frame.{Answer}
 use Rattle.run_frame.specs.Law.{HasCause}
 use Rattle.run_frame.specs.Sessions.{ended_by, front_of, session_in}
@@ -24,7 +24,7 @@ use Rattle.file_commands.specs.AuditLaw.{AreAudited, audit_by, audit_for, audit_
 use Rattle.file_commands.specs.AuditWords.{Auditing}
 use Rattle.file_commands.proofs.AuditMeant.{two_faces}
 
-audit_caused : (a : Auditing) (contents : Contents) (input : Input) (game : Game) → game_at (front_of (content contents 0)) ≡ Ok game → (f : Option LogFault) →
+audit_caused : (a : Auditing) (contents : Contents) (input : Input) (game : Game) → game_at (front_of (content contents 0)) ≡ Ok game → (f : Option FaultyLog) →
     first_fault game (behind_first contents) 0 (length a.logs) ≡ f → HasCause (audit_law a) contents input (audit_by f game (behind_first contents) (length a.logs)).status
 audit_caused a contents input game read (Some fault) e = record { game = game; read = read; fault_is = e }
 audit_caused a contents input game read None e = go (findings game (logs_in game (behind_first contents) (length a.logs))) refl
@@ -43,7 +43,7 @@ audit_answer_is : (a : Auditing) (contents : Contents) (game : Game) → AreAudi
     audit_for (session_in (content contents 0)) (behind_first contents) (length a.logs) ≡ audit_answer game (owners_in game (behind_first contents) (length a.logs)) (logs_in game (behind_first contents) (length a.logs))
 audit_answer_is a contents game is =
     ap (λ (r : Result Game SessionFault). audit_for (ended_by r) (behind_first contents) (length a.logs)) is.read ∙
-    ap (λ (f : Option LogFault). audit_by f game (behind_first contents) (length a.logs)) is.sound
+    ap (λ (f : Option FaultyLog). audit_by f game (behind_first contents) (length a.logs)) is.sound
 
 pub audit_holds : (a : Auditing) → Holds (audit_law a)
 audit_holds a = record {

@@ -1,7 +1,7 @@
 -- AuditOpened: the logs of a session are taken from their files, or not.
 use Rattle.std.proofs.Common.{◌≡◌, ◌⊎◌, inl, inr, ℕ, suc, List, [], ◌∷◌, ◌++◌, Option, length, refl, ap, sym, ◌∙◌, subst, append_assoc, append-nil}
 use Rattle.std.specs.Prelude.{Result, Ok, Err}
-use Rattle.definitions.specs.declared.logs.LogWhy.{LogWhy}
+use Rattle.session_log.specs.declared.faults.LogFault.{LogFault}
 use Rattle.definitions.specs.Lists.{item_or}
 use Rattle.definitions.specs.World.{Game}
 use Rattle.station.specs.Outside.{faults_behind}
@@ -31,8 +31,8 @@ module _ (game : Game) (b c : ShelfState) (names : List (List ℕ)) (a a' : Audi
     answer = λ files h. let w = t.answer files h in (w.0, w.1 [] [] refl stands);
   }
 
-  pub bad_all : (log at : ℕ) (why : LogWhy) → TakesFiles game b c names a a' 0 (became.Bad log at why) → TakesAll game b c names (Err (BadLog log at why))
-  bad_all log at why t = record { calls = t.calls; reads = t.reads; counted = t.counted; due = t.due; answer = t.answer }
+  pub bad_all : (log : ℕ) (fault : LogFault) → TakesFiles game b c names a a' 0 (became.Bad log fault) → TakesAll game b c names (Err (BadLog log fault.at fault.why))
+  bad_all log fault t = record { calls = t.calls; reads = t.reads; counted = t.counted; due = t.due; answer = t.answer }
 
   pub failed_all : TakesFiles game b c names a a' 0 became.Failed → TakesAll game b c names (Err InputFault)
   failed_all t = record { calls = t.calls; reads = t.reads; counted = t.counted; due = t.due; answer = t.answer }

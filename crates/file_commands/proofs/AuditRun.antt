@@ -8,7 +8,7 @@ use Rattle.station.specs.Sinks.{SinkState}
 use Rattle.line_io.specs.Files.{Contents}
 use Rattle.auditor.specs.Agreed.{AreOwned}
 use Rattle.auditor.specs.Audits.{StandsFor}
-use Rattle.log_files.specs.Several.{LogFault, logs_in, owners_in}
+use Rattle.log_files.specs.Several.{FaultyLog, logs_in, owners_in}
 use Rattle.run_frame.specs.Frame.{Answer, Ran}
 use Rattle.run_frame.specs.declared.statuses.Status.{Status}
 use Rattle.run_frame.specs.declared.statuses.Status.TheVariants.{BadLog, BadSession, InputFault, NoMemory}
@@ -30,7 +30,7 @@ audit_refused due files many NoMemory d = tt
 audit_refused due files many InputFault d = tt
 audit_refused due files many (BadSession line what) d = ap (λ r. audit_for r files many) d
 audit_refused due files many (BadLog log at why) (game, read, fault) =
-    ap (λ r. audit_for r files many) read ∙ ap (λ (f : Option LogFault). audit_by f game files many) fault
+    ap (λ r. audit_for r files many) read ∙ ap (λ (f : Option FaultyLog). audit_by f game files many) fault
 audit_refused due files many s d = absurd d
 
 -- what was printed of the logs is what is due
@@ -39,5 +39,5 @@ pub audit_told : (before now : SinkState) (due : Result Game Status) (files : Co
     Ran before now (audit_for due files many) true ⊥ ⊥ s
 audit_told before now due files many a s is ran =
     let same : audit_for due files many ≡ audit_answer a.session (owners_in a.session files many) (logs_in a.session files many) =
-    ap (λ r. audit_for r files many) is.read ∙ ap (λ (f : Option LogFault). audit_by f a.session files many) is.sound in
+    ap (λ r. audit_for r files many) is.read ∙ ap (λ (f : Option FaultyLog). audit_by f a.session files many) is.sound in
     subst (λ (d : Answer). Ran before now d true ⊥ ⊥ s) (sym same) (ran (owners_in a.session files many) (logs_in a.session files many) is.stands (logs_owned a.session files many))

@@ -3,17 +3,18 @@ use Rattle.std.proofs.Common.{◌≡◌, ℕ, suc, ◌+◌, ◌<◌, List, [], �
 use Rattle.std.proofs.lemmas.List.{take-append-drop, take-append-le}
 use Rattle.std.proofs.Math.Seq.{drop-append_seam, take-append_seam}
 use Rattle.definitions.specs.declared.findings.Kind.TheVariants.{TwoCommits}
-use Rattle.std.specs.Prelude.{Result, Err}
+use Rattle.std.specs.Prelude.{Result, Ok, Err}
 use Rattle.definitions.specs.declared.logs.Entry.{Entry}
 use Rattle.definitions.specs.declared.findings.Finding.{Finding}
 use Rattle.definitions.specs.World.{Game}
 use Rattle.station.specs.Sinks.{SinkState, after_bytes}
-use Rattle.line_io.specs.Texts.{Puts, Underway}
-use Rattle.line_io.specs.declared.texts.Written.{Written}
+use Rattle.line_io.specs.Texts.{CutShort, Underway}
 use Rattle.run_frame.specs.Frame.{Answer, Lacked, Ran}
-use Rattle.line_io.proofs.Writing.{bytes_both, underway_on}
+use Rattle.line_io.proofs.Writing.{bytes_both, underway_cut, underway_on}
 use Rattle.file_commands.specs.Audit.{all_found_text, found_text, status_by}
-use Rattle.file_commands.specs.AuditPrinting.{IsBegun, Prints}
+use Rattle.file_commands.specs.AuditPrinting.{IsBegun, Prints, status_of_print}
+use Rattle.file_commands.specs.declared.audit_printing.PrintFault.{PrintFault}
+use Rattle.file_commands.specs.declared.audit_printing.PrintFault.TheVariants.{NoMemory, Output}
 
 -- nothing is written yet
 pub begun_none : (s : SinkState) (text : List ℕ) → IsBegun s s text
@@ -71,15 +72,24 @@ pub ended : (before now : SinkState) (due : Answer) (fs : List Finding) → now 
 ended before now due [] e s = (e, s)
 ended before now due (f ∷ fs) e s = (e, s)
 
--- where memory was wanting
-pub begun_err : {E : Type 0} (before now : SinkState) (text : List ℕ) (r : Result Written E) (e : E) → r ≡ Err e → IsBegun before now text → Prints before now text r
-begun_err before now text r e is b = subst (Prints before now text) (sym is) b
+-- memory was wanting, or the sink failed
+pub prints_begun : (before now : SinkState) (text : List ℕ) (r : Result (Unit {0}) PrintFault) (fault : PrintFault) → r ≡ Err fault → fault ≡ NoMemory → IsBegun before now text → Prints before now text r
+prints_begun before now text r fault is e b = rw (is, e) b
 
--- the sink failed in a text, or all of it was written
-pub puts_as : (before now : SinkState) (text : List ℕ) (r s : Written) → r ≡ s → Puts before now text r → Puts before now text s
-puts_as before now text r s e p = subst (Puts before now text) e p
+pub prints_cut : (before now : SinkState) (text : List ℕ) (r : Result (Unit {0}) PrintFault) (fault : PrintFault) → r ≡ Err fault → fault ≡ Output → CutShort before now text → Prints before now text r
+prints_cut before now text r fault is e c = rw (is, e) c
 
--- memory was wanting in the first of two texts
-pub begun_first : (before now : SinkState) (text first more : List ℕ) → text ≡ first → IsBegun before now text → IsBegun before now (first ++ more)
-begun_first before now text first more e b =
-    begun_on before before now (first ++ more) (first ++ more) text more (record { longer = omega arith; whole = refl }) (ap (λ t. t ++ more) (sym e)) b
+-- the same in a piece of a text
+pub prints_piece : (a b c : SinkState) (text rest piece more : List ℕ) (fault : PrintFault) → Underway a b text rest → rest ≡ piece ++ more → Prints b c piece (Err fault) → Prints a c text (Err fault)
+prints_piece a b c text rest piece more NoMemory u e p = begun_on a b c text rest piece more u e p
+prints_piece a b c text rest piece more Output u e p = underway_cut a b c text rest piece more u e p
+
+-- the same in the first of two texts
+pub prints_first : (before now : SinkState) (first more : List ℕ) (fault : PrintFault) → Prints before now first (Err fault) → Prints before now (first ++ more) (Err fault)
+prints_first before now first more fault p =
+    prints_piece before before now (first ++ more) (first ++ more) first more fault (record { longer = omega arith; whole = refl }) refl p
+
+-- how a run ends whose text was not printed to its end
+pub printed_so : (before now : SinkState) (due : Answer) (fault : PrintFault) → Prints before now due.body (Err fault) → Ran before now due true ⊥ ⊥ (status_of_print fault)
+printed_so before now due NoMemory p = begun_lacked before now due.body p
+printed_so before now due Output p = p

@@ -9,7 +9,8 @@ use Rattle.run_frame.specs.declared.statuses.Status.{Status}
 use Rattle.run_frame.specs.declared.statuses.Status.TheVariants.{BadSession, BadLog}
 use Rattle.grid_world.specs.declared.fault.SessionFault.TheVariants.{At}
 use Rattle.grid_world.specs.Reading.{game_at, session_fault}
-use Rattle.log_files.specs.Several.{LogFault, first_fault, logs_in, owners_in}
+use Rattle.session_log.specs.Reading.{fault_at}
+use Rattle.log_files.specs.Several.{FaultyLog, first_fault, logs_in, of_log, owners_in}
 use Rattle.file_commands.specs.Audit.{AuditCause, audit_answer}
 use Rattle.file_commands.specs.AuditLaws.{TellsAudit}
 use Rattle.file_commands.specs.AuditWords.{Auditing}
@@ -18,8 +19,8 @@ use Rattle.run_frame.specs.Sessions.{front_of, session_in}
 use Rattle.run_frame.specs.Law.{Law, law_without_input}
 
 -- the answer for so many logs, of which the first that is none has this fault
-abbrev pub audit_by : Option LogFault → Game → (files : Contents) → (many : ℕ) → Answer
-audit_by (Some fault) game files many = bare_answer (BadLog fault.log fault.at fault.why)
+abbrev pub audit_by : Option FaultyLog → Game → (files : Contents) → (many : ℕ) → Answer
+audit_by (Some bad) game files many = bare_answer (BadLog bad.log bad.fault.at bad.fault.why)
 audit_by None game files many = audit_answer game (owners_in game files many) (logs_in game files many)
 
 -- the answer by the session and the files of so many logs
@@ -36,7 +37,7 @@ pub record AreAudited (contents : Contents) (many : ℕ) (game : Game) : Type 0 
 pub record IsBadLog (contents : Contents) (many log at : ℕ) (why : LogWhy) : Type 0 where
   pub game : Game
   pub read : game_at (front_of (content contents 0)) ≡ Ok game
-  pub fault_is : first_fault game (behind_first contents) 0 many ≡ Some (record { log = log; at = at; why = why })
+  pub fault_is : first_fault game (behind_first contents) 0 many ≡ Some (of_log log (fault_at at why))
 
 -- The files have a session and logs, of whose findings the status tells.
 pub record IsAuditedSo (contents : Contents) (many : ℕ) (status : Status) : Type 0 where

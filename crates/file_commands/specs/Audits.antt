@@ -8,8 +8,9 @@ use Rattle.station.specs.Shelves.{ShelfState}
 use Rattle.line_io.specs.Files.{AreContents, Calls, Contents, ReadsFiles, content, behind_first}
 use Rattle.grid_world.specs.Reading.{game_at}
 use Rattle.session_log.specs.Laws.{AreBytes}
+use Rattle.session_log.specs.Reading.{fault_at}
 use Rattle.auditor.specs.Audits.{AuditState, StandsFor}
-use Rattle.log_files.specs.Several.{first_bytes, first_fault, logs_in, owners_in}
+use Rattle.log_files.specs.Several.{first_bytes, first_fault, logs_in, of_log, owners_in}
 use Rattle.run_frame.specs.declared.statuses.Status.{Status}
 use Rattle.run_frame.specs.declared.statuses.Status.TheVariants.{NoMemory, InputFault, BadLog, BadSession}
 use Rattle.file_commands.specs.declared.audits.Audited.{Audited}
@@ -36,7 +37,7 @@ abbrev pub IsTakenFor : Game → (files : Contents) → (many : ℕ) → Result 
 IsTakenFor game files many (Ok a) = (first_fault game files 0 many ≡ None) × StandsFor game (owners_in game files many) (logs_in game files many) a
 IsTakenFor game files many (Err NoMemory) = Unit {0}
 IsTakenFor game files many (Err InputFault) = Unit {0}
-IsTakenFor game files many (Err (BadLog log at why)) = first_fault game files 0 many ≡ Some (record { log = log; at = at; why = why })
+IsTakenFor game files many (Err (BadLog log at why)) = first_fault game files 0 many ≡ Some (of_log log (fault_at at why))
 IsTakenFor game files many (Err status) = ⊥
 
 -- The logs of a session were taken, each from its file, and none behind one that is no log.
@@ -59,7 +60,7 @@ IsAuditDue due files many (Ok a) = IsAuditFor due files many a
 IsAuditDue due files many (Err NoMemory) = Unit {0}
 IsAuditDue due files many (Err InputFault) = Unit {0}
 IsAuditDue due files many (Err (BadSession line what)) = due ≡ Err (BadSession line what)
-IsAuditDue due files many (Err (BadLog log at why)) = (game : Game) × (due ≡ Ok game) × (first_fault game files 0 many ≡ Some (record { log = log; at = at; why = why }))
+IsAuditDue due files many (Err (BadLog log at why)) = (game : Game) × (due ≡ Ok game) × (first_fault game files 0 many ≡ Some (of_log log (fault_at at why)))
 IsAuditDue due files many (Err status) = ⊥
 
 -- The session was read, and then the logs, each from its file.

@@ -6,9 +6,9 @@ use Rattle.run_frame.specs.declared.statuses.Status.{Status}
 use Rattle.run_frame.specs.declared.statuses.Status.TheVariants.{NoMemory, InputFault, BadLine, BadSession}
 use Rattle.run_frame.specs.declared.statuses.TextName.TheVariants.{Evidence}
 use Rattle.text_fields.specs.declared.fault.TextFault.{TextFault}
-use Rattle.text_fields.specs.declared.fault.TextFault.TheVariants.{At, Memory}
 use Rattle.evidence.specs.declared.exhibit.Exhibit.{Exhibit}
 use Rattle.evidence.specs.Reading.{exhibit_at}
+use Rattle.run_frame.specs.Faults.{read_by}
 use Rattle.run_frame.specs.Sessions.{session_in}
 
 -- the bytes of an exhibit's file that are read
@@ -17,9 +17,7 @@ evidence_front_of content = take EVIDENCE_FRONT (unwrap_or content [])
 
 -- the exhibit that is read, or how the run ends where none is
 abbrev pub exhibit_by : Result Exhibit TextFault → Result Exhibit Status
-exhibit_by (Err (At line)) = Err (BadLine Evidence line)
-exhibit_by (Err Memory) = Err NoMemory
-exhibit_by (Ok x) = Ok x
+exhibit_by r = read_by Evidence r
 
 -- the exhibit of a file
 abbrev pub exhibit_in : Option (List ℕ) → Result Exhibit Status

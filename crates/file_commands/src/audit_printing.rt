@@ -1,6 +1,6 @@
 //! The text of an audit, written piece by piece.
 
-ghost use Rattle.std.specs.Prelude.{◌≡◌, ◌++◌, ℕ, List, Option, IfOk, is_some};
+ghost use Rattle.std.specs.Prelude.{◌≡◌, ℕ, List, Option, IfOk, is_some};
 ghost use Rattle.definitions.specs.declared.logs.Entry.{Entry};
 ghost use Rattle.definitions.specs.Findings as D;
 ghost use Rattle.definitions.specs.Lists.{EachIs};
@@ -12,25 +12,53 @@ ghost use Rattle.auditor.specs.Audits.{StandsFor};
 ghost use Rattle.auditor.specs.Reports.{agreed_by, found_in, world_by};
 ghost use Rattle.file_commands.specs.AuditLines as L;
 ghost use Rattle.file_commands.specs.Audit as A;
-ghost use Rattle.file_commands.specs.AuditPrinting.{Prints};
+ghost use Rattle.file_commands.specs.AuditPrinting.{Prints, status_of_print};
+ghost use Rattle.file_commands.specs.declared.audit_printing.PrintFault.TheVariants.{NoMemory, Output};
 
 use crate::audit_lines::{agreed_line, finding_line};
 use auditor::{Auditor, Report};
 use definitions::{Finding, PlayerId};
 use evidence::print_exhibit;
 use grid_world::Session;
-use line_io::{Written, put};
+use line_io::{SinkFault, put};
 use report_lines::{end_line, world_line};
+use run_frame::Status;
 use station::Sink;
 use std::alloc::{AllocError, Global};
 
-/// Writes one text behind another.
-fn put_both<O: Sink>(first: &[u8], second: &[u8], out: &mut O) -> Written
-    ensures { Puts (O.state out.old) (O.state out.new) (first.now ++ second.now) result }
-{
-    match put(out, first) {
-        Written::All => put(out, second),
-        Written::Failed => Written::Failed,
+/// Why a text was not printed to its end.
+#[derive(Clone, Copy, Debug, PartialEq, Eq)]
+pub(crate) enum PrintFault {
+    /// Memory was wanting before a piece of the text. All that comes before the piece is printed.
+    NoMemory,
+    /// The sink failed in the text.
+    Output,
+}
+
+impl From<AllocError> for PrintFault {
+    ghost from_gives = { λ _ fault. fault ≡ NoMemory };
+
+    fn from(_fault: AllocError) -> PrintFault {
+        PrintFault::NoMemory
+    }
+}
+
+impl From<SinkFault> for PrintFault {
+    ghost from_gives = { λ _ fault. fault ≡ Output };
+
+    fn from(_fault: SinkFault) -> PrintFault {
+        PrintFault::Output
+    }
+}
+
+impl From<PrintFault> for Status {
+    ghost from_gives = { λ fault s. s ≡ status_of_print fault };
+
+    fn from(fault: PrintFault) -> Status {
+        match fault {
+            PrintFault::NoMemory => Status::NoMemory,
+            PrintFault::Output => Status::OutputFault,
+        }
     }
 }
 
@@ -48,11 +76,13 @@ fn put_finding<O: Sink>(
     auditor: &Auditor,
     finding: &Finding,
     out: &mut O,
-) -> Result<Written, AllocError>
+) -> Result<(), PrintFault>
     ensures { (game : Game) (owners : List (Option ℕ)) (logs : List (List Entry)) → StandsFor game owners logs auditor.now → Has (D.findings game logs) finding.now → Prints (O.state out.old) (O.state out.new) (A.found_text game logs finding.now) result }
 {
     let evidence = evidence_text(alloc, auditor, finding)?;
-    Ok(put_both(finding_line(finding).as_slice(), &evidence, out))
+    put(out, finding_line(finding).as_slice())?;
+    put(out, &evidence)?;
+    Ok(())
 }
 
 /// Writes these findings, each with its evidence. Of one exhibit alone is memory held at a time.
@@ -61,33 +91,27 @@ fn put_findings<O: Sink>(
     auditor: &Auditor,
     found: &[Finding],
     out: &mut O,
-) -> Result<Written, AllocError>
+) -> Result<(), PrintFault>
     ensures { (game : Game) (owners : List (Option ℕ)) (logs : List (List Entry)) → StandsFor game owners logs auditor.now → EachIs (Has (D.findings game logs)) found.now → Prints (O.state out.old) (O.state out.new) (A.all_found_text game logs found.now) result }
 {
     'findings: for finding in found {
-        match put_finding(alloc, auditor, finding, out)? {
-            Written::All => {}
-            Written::Failed => return Ok(Written::Failed),
-        }
+        put_finding(alloc, auditor, finding, out)?;
     }
-    Ok(Written::All)
+    Ok(())
 }
 
 /// Writes how many turns of each player are agreed.
-fn put_agreed<O: Sink>(session: &Session, report: &Report, out: &mut O) -> Written
+fn put_agreed<O: Sink>(session: &Session, report: &Report, out: &mut O) -> Result<(), SinkFault>
     ensures { Puts (O.state out.old) (O.state out.new) (L.agreed_lines (agreed_by report.now) 0 (players_of session.now)) result }
 {
     'players: for player in 0..session.players() {
-        match put(out, agreed_line(player, report.agreed(player)).as_slice()) {
-            Written::All => {}
-            Written::Failed => return Written::Failed,
-        }
+        put(out, agreed_line(player, report.agreed(player)).as_slice())?;
     }
-    Written::All
+    Ok(())
 }
 
 /// Writes where the player stands behind the last turn, if that is told.
-fn put_told<O: Sink>(report: &Report, player: PlayerId, out: &mut O) -> Written
+fn put_player<O: Sink>(report: &Report, player: PlayerId, out: &mut O) -> Result<(), SinkFault>
     ensures { Puts (O.state out.old) (O.state out.new) (L.told_line player (world_by report.now player)) result }
 {
     match report.world(player) {
@@ -100,20 +124,17 @@ fn put_told<O: Sink>(report: &Report, player: PlayerId, out: &mut O) -> Written
 }
 
 /// Writes what is told of each player.
-fn put_players<O: Sink>(session: &Session, report: &Report, out: &mut O) -> Written
+fn put_players<O: Sink>(session: &Session, report: &Report, out: &mut O) -> Result<(), SinkFault>
     ensures { Puts (O.state out.old) (O.state out.new) (L.world_lines (world_by report.now) 0 (players_of session.now)) result }
 {
     'players: for player in 0..session.players() {
-        match put_told(report, player, out) {
-            Written::All => {}
-            Written::Failed => return Written::Failed,
-        }
+        put_player(report, player, out)?;
     }
-    Written::All
+    Ok(())
 }
 
 /// Writes where each player stands behind the last turn, or that this isn't told.
-fn put_world<O: Sink>(session: &Session, report: &Report, out: &mut O) -> Written
+fn put_world<O: Sink>(session: &Session, report: &Report, out: &mut O) -> Result<(), SinkFault>
     ensures { Puts (O.state out.old) (O.state out.new) (A.world_text session.now (is_some (world_by report.now 0)) (world_by report.now)) result }
 {
     if report.world(0).is_some() {
@@ -123,39 +144,21 @@ fn put_world<O: Sink>(session: &Session, report: &Report, out: &mut O) -> Writte
     }
 }
 
-/// Writes where each player stands, and that this is the end.
-fn put_last<O: Sink>(session: &Session, report: &Report, out: &mut O) -> Written
-    ensures { Puts (O.state out.old) (O.state out.new) (A.last_text session.now (is_some (world_by report.now 0)) (world_by report.now)) result }
-{
-    match put_world(session, report, out) {
-        Written::All => put(out, end_line()),
-        Written::Failed => Written::Failed,
-    }
-}
-
-/// Writes what stands after the findings.
+/// Writes what the report tells: the findings with their evidence, how many turns of each player
+/// are agreed, where each player stands, and that this is the end.
 #[tactic(auto, unfolding(crate::specs::Audit::rest_text))]
-fn put_rest<O: Sink>(session: &Session, report: &Report, out: &mut O) -> Written
-    ensures { Puts (O.state out.old) (O.state out.new) (A.rest_text session.now (agreed_by report.now) (is_some (world_by report.now 0)) (world_by report.now)) result }
-{
-    match put_agreed(session, report, out) {
-        Written::All => put_last(session, report, out),
-        Written::Failed => Written::Failed,
-    }
-}
-
-/// Writes what the report tells, with the evidence of its findings.
 pub(crate) fn put_report<O: Sink>(
     alloc: Global,
     auditor: &Auditor,
     session: &Session,
     report: &Report,
     out: &mut O,
-) -> Result<Written, AllocError>
+) -> Result<(), PrintFault>
     ensures { (owners : List (Option ℕ)) (logs : List (List Entry)) → StandsFor session.now owners logs auditor.now → EachIs (Has (D.findings session.now logs)) (found_in report.now) → Prints (O.state out.old) (O.state out.new) (A.report_text session.now logs report.now) result }
 {
-    match put_findings(alloc, auditor, report.findings(), out)? {
-        Written::All => Ok(put_rest(session, report, out)),
-        Written::Failed => Ok(Written::Failed),
-    }
+    put_findings(alloc, auditor, report.findings(), out)?;
+    put_agreed(session, report, out)?;
+    put_world(session, report, out)?;
+    put(out, end_line())?;
+    Ok(())
 }

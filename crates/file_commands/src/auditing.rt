@@ -11,7 +11,6 @@ use crate::audit_printing::put_report;
 use auditor::Auditor;
 use definitions::Finding;
 use grid_world::Session;
-use line_io::Written;
 use run_frame::Status;
 use station::Sink;
 use std::alloc::Global;
@@ -45,8 +44,7 @@ pub fn put_audit<O: Sink>(
         return Status::NoMemory;
     };
     match put_report(alloc, auditor, session, &report, out) {
-        Ok(Written::All) => status_by(report.findings()),
-        Ok(Written::Failed) => Status::OutputFault,
-        Err(_) => Status::NoMemory,
+        Ok(()) => status_by(report.findings()),
+        Err(fault) => Status::from(fault),
     }
 }

@@ -29,15 +29,15 @@ fn take_all<H: Shelf>(
     requires room { length names.now ≤ MOST_LOGS }
     ensures { TakesAll session.now (H.state shelf.old) (H.state shelf.new) (map (λ w. w.items) names.now) result }
 {
-    let Ok(mut auditor) = Auditor::new(alloc, session) else {
-        return Err(Status::NoMemory);
-    };
-    let Ok(mut buf) = piece_buffer(alloc) else {
-        return Err(Status::NoMemory);
-    };
+    let mut auditor = Auditor::new(alloc, session)?;
+    let mut buf = piece_buffer(alloc)?;
     match take_logs(shelf, names, session, &mut auditor, 0, buf.as_mut_slice()) {
         LogsTaken::Whole => Ok(auditor),
-        LogsTaken::Bad { log, at, why } => Err(Status::BadLog { log, at, why }),
+        LogsTaken::Bad { log, fault } => Err(Status::BadLog {
+            log,
+            at: fault.at,
+            why: fault.why,
+        }),
         LogsTaken::Failed => Err(Status::InputFault),
         LogsTaken::Memory => Err(Status::NoMemory),
     }
@@ -53,12 +53,7 @@ pub(crate) fn open_audit<H: Shelf>(
     requires room { length logs.now ≤ MOST_LOGS }
     ensures { OpensAudit (H.state shelf.old) (H.state shelf.new) session.now (map (λ w. w.items) logs.now) result }
 {
-    let session = match open_session(alloc, shelf, session) {
-        Ok(session) => session,
-        Err(status) => return Err(status),
-    };
-    match take_all(alloc, shelf, &session, logs) {
-        Ok(auditor) => Ok(Audited { session, auditor }),
-        Err(status) => Err(status),
-    }
+    let session = open_session(alloc, shelf, session)?;
+    let auditor = take_all(alloc, shelf, &session, logs)?;
+    Ok(Audited { session, auditor })
 }

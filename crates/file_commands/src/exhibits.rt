@@ -12,11 +12,10 @@ ghost use Rattle.run_frame.specs.Sessions.{is_shelf_fault};
 use definitions::limits::EVIDENCE_FRONT;
 use evidence::{Exhibit, read_exhibit};
 use grid_world::Session;
-use line_io::{FrontFault, read_front};
-use run_frame::{Status, TextName, open_session};
+use line_io::read_front;
+use run_frame::{Status, TextName, open_session, status_of_text};
 use station::Shelf;
 use std::alloc::Global;
-use text_fields::TextFault;
 
 /// A session, and an exhibit that is to be judged in it.
 #[derive(Drop)]
@@ -31,12 +30,8 @@ fn exhibit_of(alloc: Global, text: &[u8]) -> Result<Exhibit, Status>
     ensures calm { is_shelf_fault result ≡ false }
 {
     match read_exhibit(alloc, text) {
-        Err(TextFault::Memory) => Err(Status::NoMemory),
-        Err(TextFault::At(line)) => Err(Status::BadLine {
-            text: TextName::Evidence,
-            line,
-        }),
         Ok(exhibit) => Ok(exhibit),
+        Err(fault) => Err(status_of_text(TextName::Evidence, fault)),
     }
 }
 
@@ -45,11 +40,8 @@ fn exhibit_of(alloc: Global, text: &[u8]) -> Result<Exhibit, Status>
 fn open_exhibit<H: Shelf>(alloc: Global, shelf: &mut H, name: &[u8]) -> Result<Exhibit, Status>
     ensures { OpensExhibit (H.state shelf.old) (H.state shelf.new) name.now result }
 {
-    match read_front(alloc, shelf, name, EVIDENCE_FRONT) {
-        Err(FrontFault::NoMemory) => Err(Status::NoMemory),
-        Err(FrontFault::Failed) => Err(Status::InputFault),
-        Ok(text) => exhibit_of(alloc, text.as_slice()),
-    }
+    let text = read_front(alloc, shelf, name, EVIDENCE_FRONT)?;
+    exhibit_of(alloc, text.as_slice())
 }
 
 /// The session of a file, and the exhibit of another. The second file is left alone where the first has no
@@ -62,12 +54,7 @@ pub(crate) fn open_case<H: Shelf>(
 ) -> Result<Case, Status>
     ensures { OpensCase (H.state shelf.old) (H.state shelf.new) session.now evidence.now (case_seen result) }
 {
-    let session = match open_session(alloc, shelf, session) {
-        Ok(session) => session,
-        Err(status) => return Err(status),
-    };
-    match open_exhibit(alloc, shelf, evidence) {
-        Ok(exhibit) => Ok(Case { session, exhibit }),
-        Err(status) => Err(status),
-    }
+    let session = open_session(alloc, shelf, session)?;
+    let exhibit = open_exhibit(alloc, shelf, evidence)?;
+    Ok(Case { session, exhibit })
 }

@@ -6,7 +6,7 @@ ghost use Rattle.file_commands.specs.Judge.{judge_answer, verdict_answer};
 
 use evidence::{Exhibit, judge};
 use grid_world::Session;
-use line_io::{Written, put};
+use line_io::put;
 use move_rules::Walker;
 use run_frame::Status;
 use station::Sink;
@@ -18,8 +18,8 @@ fn tell<O: Sink>(shown: bool, out: &mut O) -> Status
 {
     let text: &[u8] = if shown { b"yes\n" } else { b"no\n" };
     match put(out, text) {
-        Written::Failed => Status::OutputFault,
-        Written::All => { if shown { Status::Caught } else { Status::Done } }
+        Ok(()) => { if shown { Status::Caught } else { Status::Done } }
+        Err(fault) => Status::from(fault),
     }
 }
 

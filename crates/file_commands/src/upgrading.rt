@@ -6,7 +6,7 @@ ghost use Rattle.run_frame.specs.Frame.{Ran};
 ghost use Rattle.file_commands.specs.Upgrade.{upgrade_answer};
 
 use grid_world::{Session, print_session, upgraded};
-use line_io::{Written, put};
+use line_io::put;
 use run_frame::Status;
 use station::Sink;
 use std::alloc::{AllocError, Global};
@@ -27,7 +27,7 @@ pub fn upgrade<O: Sink>(alloc: Global, session: &Session, out: &mut O) -> Status
         return Status::NoMemory;
     };
     match put(out, &text) {
-        Written::All => Status::Done,
-        Written::Failed => Status::OutputFault,
+        Ok(()) => Status::Done,
+        Err(fault) => Status::from(fault),
     }
 }

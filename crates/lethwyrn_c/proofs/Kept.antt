@@ -1,14 +1,16 @@
 -- Kept: what is read of a log before its first fault is written as the log's first bytes.
 use Rattle.std.proofs.Common.{◌≡◌, ℕ, ◌+◌, ◌≤◌, inl, inr, Bool, true, false, List, [], ◌∷◌, ◌++◌, length, replicate, take, refl, sym, ap, ◌∙◌, subst, arith, append-nil}
-use Rattle.std.specs.Prelude.{Option, Some, None, nat_lt, if◌then◌else◌}
+use Rattle.std.specs.Prelude.{Option, Some, None, Ok, Err, nat_lt, if◌then◌else◌}
 use Rattle.definitions.specs.declared.logs.Entry.{Entry}
+use Rattle.session_log.specs.declared.faults.LogFault.{LogFault}
+use Rattle.definitions.specs.declared.logs.LogWhy.{LogWhy}
+use Rattle.definitions.specs.declared.logs.LogWhy.TheVariants.{TooLong, Torn, BadChain, BadEntry, NotReplayed}
 use Rattle.definitions.specs.World.{Game}
-use Rattle.session_log.specs.declared.reader.Next.{Next}
-use Rattle.session_log.specs.declared.reader.Next.TheVariants as next
 use Rattle.session_log.specs.Spelling.{entries_bytes, first_chain, log_bytes}
-use Rattle.session_log.specs.Laws.{AreBytes, EndsSo, IsLogOf}
+use Rattle.session_log.specs.Laws.{AreBytes, EndsSo, IsFaultAt, IsLogOf}
+use Rattle.session_log.specs.Reading.{Ending, fault_at}
 use Rattle.session_log.proofs.Logs.{log_ends}
-use Rattle.old_log.specs.Old.{Fault, dropped_at, fault_place, old_entries, old_fault, place_said}
+use Rattle.old_log.specs.Old.{dropped_at, fault_place, old_entries, old_fault, place_said}
 use Rattle.std.proofs.lemmas.Bool.{ltb-false}
 use Rattle.std.proofs.Math.Seq.{take-length}
 use Rattle.definitions.specs.declared.limits.TheConstants.{LONGEST_LOG}
@@ -18,12 +20,12 @@ use Rattle.wire_frames.specs.Reading.{at_start}
 use Rattle.lethwyrn_c.specs.declared.link.TheConstants.{LINKS}
 use Rattle.lethwyrn_c.specs.Calls.{IsGoneOn, IsThere, kept_at}
 use Rattle.lethwyrn_c.specs.Standings.{Standing}
-use Rattle.lethwyrn_c.proofs.Owners.{own_first}
+use Rattle.old_log.proofs.Owners.{own_first}
 
 -- ---- the log begins with the bytes of what was read
 
 -- the log is these entries' bytes and a rest: none without a fault, and else the fault is where it begins
-record IsFront (id : List ℕ) (me : ℕ) (log : List ℕ) (es : List Entry) (last : Next) : Type 0 where
+record IsFront (id : List ℕ) (me : ℕ) (log : List ℕ) (es : List Entry) (last : Ending) : Type 0 where
   rest : List ℕ
   bytes_are : log ≡ log_bytes id me es ++ rest
   whole : fault_place last ≡ None → rest ≡ []
@@ -37,10 +39,10 @@ Begins me log es = (e : Entry) (more : List Entry) → es ≡ e ∷ more → (re
 owner_is : (me m : ℕ) (log rest : List ℕ) (e : Entry) (es : List Entry) → log ≡ m ∷ rest → Begins me log (e ∷ es) → m ≡ me
 owner_is me m log rest e es at begins = let b : log ≡ me ∷ (begins e es refl).0 = (begins e es refl).1 in cc
 
-empty_front : (id : List ℕ) (me : ℕ) (log : List ℕ) (last : Next) → (fault_place last ≡ None → log ≡ []) → IsFront id me log [] last
+empty_front : (id : List ℕ) (me : ℕ) (log : List ℕ) (last : Ending) → (fault_place last ≡ None → log ≡ []) → IsFront id me log [] last
 empty_front id me log last h = record { rest = log; bytes_are = refl; whole = h; at = refl }
 
-there_front : (game : Game) (me place : ℕ) (log : List ℕ) (e : Entry) (es : List Entry) (last : Next) (m : ℕ) (rest : List ℕ) → fault_place last ≡ Some place → Begins me log (e ∷ es) →
+there_front : (game : Game) (me place : ℕ) (log : List ℕ) (e : Entry) (es : List Entry) (last : Ending) (m : ℕ) (rest : List ℕ) → fault_place last ≡ Some place → Begins me log (e ∷ es) →
     log ≡ m ∷ (entries_bytes (first_chain game.id m) (e ∷ es) ++ rest) → place ≡ 1 + length (entries_bytes (first_chain game.id m) (e ∷ es)) → IsFront game.id me log (e ∷ es) last
 there_front game me place log e es last m rest some begins bytes there =
     let same = owner_is me m log _ e es bytes begins in
@@ -53,7 +55,7 @@ there_front game me place log e es last m rest some begins bytes there =
       at = long ∙ ap (λ (o : Option ℕ). kept_at (e ∷ es) o (length log)) (sym some);
     }
 
-whole_front : (game : Game) (me : ℕ) (log : List ℕ) (e : Entry) (es : List Entry) → Begins me log (e ∷ es) → IsLogOf game log (e ∷ es) → IsFront game.id me log (e ∷ es) next.End
+whole_front : (game : Game) (me : ℕ) (log : List ℕ) (e : Entry) (es : List Entry) → Begins me log (e ∷ es) → IsLogOf game log (e ∷ es) → IsFront game.id me log (e ∷ es) (Ok tt)
 whole_front game me log e es begins l =
     let same = owner_is me l.me log _ e es l.bytes_are begins in
     let is : log ≡ log_bytes game.id me (e ∷ es) = l.bytes_are ∙ ap (λ (o : ℕ). log_bytes game.id o (e ∷ es)) same in
@@ -62,18 +64,21 @@ whole_front game me log e es begins l =
 none_of_all : (e : Entry) (es : List Entry) → e ∷ es ≡ [] → ⊥
 none_of_all e es h = cc
 
-front_by : (game : Game) (me : ℕ) (log : List ℕ) (es : List Entry) (last : Next) → Begins me log es → EndsSo game log es last → IsFront game.id me log es last
-front_by game me log es (next.Entry d) own h = absurd h
-front_by game me log [] next.End own h = empty_front game.id me log next.End (λ n. h.bytes_are)
-front_by game me log [] (next.Torn at) own h = empty_front game.id me log (next.Torn at) (λ n. absurd (let k : Some at ≡ None = n in cc))
-front_by game me log [] (next.BadChain at) own h = empty_front game.id me log (next.BadChain at) (λ n. absurd (let k : Some at ≡ None = n in cc))
-front_by game me log [] (next.BadEntry at) own h = empty_front game.id me log (next.BadEntry at) (λ n. absurd (let k : Some at ≡ None = n in cc))
-front_by game me log (e ∷ es) next.End own h = whole_front game me log e es own h
-front_by game me log (e ∷ es) (next.Torn at) own h =
-    elim h [ inl s ↦ there_front game me at log e es (next.Torn at) s.me s.rest refl own s.bytes_are s.place_is | inr a ↦ absurd (none_of_all e es a.3) ]
-front_by game me log (e ∷ es) (next.BadChain at) own h = there_front game me at log e es (next.BadChain at) h.me h.rest refl own h.bytes_are h.place_is
-front_by game me log (e ∷ es) (next.BadEntry at) own h =
-    elim h [ inl s ↦ there_front game me at log e es (next.BadEntry at) s.me s.rest refl own s.bytes_are s.place_is | inr a ↦ absurd (none_of_all e es a.4) ]
+-- a fault is where the entries end
+fault_front : (game : Game) (me : ℕ) (log : List ℕ) (e : Entry) (es : List Entry) (at : ℕ) (why : LogWhy) → Begins me log (e ∷ es) → IsFaultAt game log (e ∷ es) at why → IsFront game.id me log (e ∷ es) (Err (fault_at at why))
+fault_front game me log e es at TooLong own h = absurd h
+fault_front game me log e es at Torn own h =
+    elim h [ inl s ↦ there_front game me at log e es (Err (fault_at at Torn)) s.me s.rest refl own s.bytes_are s.place_is | inr a ↦ absurd (none_of_all e es a.3) ]
+fault_front game me log e es at BadChain own h = there_front game me at log e es (Err (fault_at at BadChain)) h.me h.rest refl own h.bytes_are h.place_is
+fault_front game me log e es at BadEntry own h =
+    elim h [ inl s ↦ there_front game me at log e es (Err (fault_at at BadEntry)) s.me s.rest refl own s.bytes_are s.place_is | inr a ↦ absurd (none_of_all e es a.4) ]
+fault_front game me log e es at NotReplayed own h = absurd h
+
+front_by : (game : Game) (me : ℕ) (log : List ℕ) (es : List Entry) (last : Ending) → Begins me log es → EndsSo game log es last → IsFront game.id me log es last
+front_by game me log [] (Ok whole) own h = empty_front game.id me log (Ok whole) (λ n. h.bytes_are)
+front_by game me log [] (Err fault) own h = empty_front game.id me log (Err fault) (λ n. absurd (let k : Some fault.at ≡ None = n in cc))
+front_by game me log (e ∷ es) (Ok whole) own h = whole_front game me log e es own h
+front_by game me log (e ∷ es) (Err fault) own h = fault_front game me log e es fault.at fault.why own h
 
 -- what a log that isn't refused keeps
 pub record IsKeptOf (game : Game) (me : ℕ) (log : List ℕ) (es : List Entry) (dropped : Option ℕ) : Type 0 where
@@ -92,7 +97,7 @@ kept_of game me log are fit =
 -- ---- a peer that goes on from a log
 
 -- a log that isn't refused isn't too long
-short_log : (b : Bool) (f : Fault) (h : Option Fault) → (if b then Some f else h) ≡ None → b ≡ false
+short_log : (b : Bool) (f : LogFault) (h : Option LogFault) → (if b then Some f else h) ≡ None → b ≡ false
 short_log true f h e = absurd (let k : Some f ≡ None = e in cc)
 short_log false f h e = refl
 

@@ -4,7 +4,6 @@ pub mod Fronts
 pub mod Marks
 pub mod Runs
 pub mod Fair
-pub mod Owners
 pub mod Kept
 pub mod Storing
 pub mod Convicting

@@ -2,6 +2,7 @@
 use Rattle.std.specs.Prelude.{◌≡◌, ℕ, ℤ, ◌⊎◌, List, [], ◌∷◌, ◌++◌, Option, Some, None, Result, Ok, Err, length, pos, slice_get, replicate, nat_le, if◌then◌else◌}
 use Rattle.std.specs.Option.{is_some}
 use Rattle.definitions.specs.declared.logs.Entry.{Entry}
+use Rattle.session_log.specs.declared.faults.LogFault.{LogFault}
 use Rattle.definitions.specs.declared.logs.Entry.TheVariants as E
 use Rattle.definitions.specs.declared.answers.OwnFault.{OwnFault}
 use Rattle.definitions.specs.declared.answers.Need.{Need}
@@ -19,7 +20,7 @@ use Rattle.grid_world.specs.declared.fault.SessionFault.{SessionFault}
 use Rattle.grid_world.specs.declared.fault.SessionFault.TheVariants.{At, Memory}
 use Rattle.grid_world.specs.Answers.{IsReadFrom}
 use Rattle.grid_world.specs.Reading.{game_at}
-use Rattle.old_log.specs.Old.{Fault, dropped_at, old_entries, old_fault}
+use Rattle.old_log.specs.Old.{dropped_at, old_entries, old_fault}
 use Rattle.peer_core.specs.Views.{PeerState, player_view, choice_of}
 use Rattle.peer_core.specs.declared.views.PlayerView.{PlayerView}
 use Rattle.peer_core.specs.Scoring.{settled_score}
@@ -105,7 +106,7 @@ IsUnread text old new code = ((code ≡ pos 3) × (session_code (λ game. 0) (ga
 
 -- ---- a peer goes on from a log
 
-abbrev pub log_code : Option Fault → ℕ
+abbrev pub log_code : Option LogFault → ℕ
 log_code None = 0
 log_code (Some f) = 5
 
@@ -122,7 +123,7 @@ kept_at (e ∷ es) None len = len
 kept_at (e ∷ es) (Some at) len = at
 
 -- the byte from which on the log can't be used, and why; or how many bytes are kept, and whether others follow
-abbrev pub log_told : Option Fault → ℕ → Option ℕ → Refusal → Refusal
+abbrev pub log_told : Option LogFault → ℕ → Option ℕ → Refusal → Refusal
 log_told (Some f) kept dropped old = record { line = old.line; rule = old.rule; at = f.at; why = code_of_log f.why; dropped = old.dropped }
 log_told None kept dropped old = record { line = old.line; rule = old.rule; at = kept; why = old.why; dropped = is_some dropped }
 

@@ -8,9 +8,11 @@ ghost use Rattle.old_log.specs.Old.{old_fault};
 ghost use Rattle.wire_frames.specs.Reading.{at_start};
 ghost use Rattle.lethwyrn_c.specs.declared.link.TheConstants.{LINKS};
 ghost use Rattle.lethwyrn_c.specs.Calls as C;
+ghost use Rattle.lethwyrn_c.specs.Marks.{IsMarkOf};
 
 use crate::codes;
 use crate::handle::{Handle, open, shut};
+use crate::mark::Mark;
 use crate::seat::Seat;
 use crate::views::Refusal;
 use definitions::Entry;
@@ -36,13 +38,16 @@ fn read(alloc: Global, text: &[u8], why: &mut Refusal) -> Result<Session, i32>
     }
 }
 
-/// Puts a peer into a handle that has none, if there is memory for it.
-fn seat(alloc: Global, handle: &mut Handle, peer: Peer) -> i32
+/// Puts a peer into a handle that has none, if there is memory for it. The mark is that of its
+/// whole log.
+fn seat(alloc: Global, handle: &mut Handle, peer: Peer, mark: Mark) -> i32
+    requires all { mark.entries ≡ length peer.entries }
+    requires stands { IsMarkOf peer mark }
     ensures made { result ≡ pos 0 → handle.new.value ≡ Some (record { peer = peer; links = replicate LINKS at_start; given = length peer.entries; stored = length peer.entries; sent = 0 }) }
     ensures refused { result ≢ pos 0 → handle.new.value ≡ handle.old.value }
     ensures code { (result ≡ pos 0) ⊎ (result ≡ pos 2) }
 {
-    match Box::new(alloc, Seat::new(peer)) {
+    match Box::new(alloc, Seat::new(peer, mark)) {
         Err(_) => codes::NO_MEMORY,
         Ok(seat) => {
             shut(handle, seat);
@@ -79,7 +84,10 @@ pub extern "C" fn lethwyrn_make(
     }
     match Peer::new(alloc, &session, player) {
         Err(_) => codes::NO_MEMORY,
-        Ok(peer) => seat(alloc, handle, peer),
+        Ok(peer) => {
+            let mark = Mark::first(&peer);
+            seat(alloc, handle, peer, mark)
+        }
     }
 }
 
@@ -113,15 +121,17 @@ fn resume(
 {
     match resume_from(alloc, session, player, log) {
         Err(OldFault::NoMemory) => codes::NO_MEMORY,
-        Err(OldFault::Bad { at, why: cause }) => {
-            why.at = at;
-            why.why = codes::of_log(&cause);
+        Err(OldFault::Bad(fault)) => {
+            why.at = fault.at;
+            why.why = codes::of_log(&fault.why);
             codes::BAD_LOG
         }
         Ok(resumed) => {
+            let writer = resumed.writer;
             let kept = kept_at(resumed.peer.entries(), resumed.dropped, log);
             let dropped = resumed.dropped.is_some();
-            let code = seat(alloc, handle, resumed.peer);
+            let mark = Mark::whole(&resumed.peer, writer, resumed.kept);
+            let code = seat(alloc, handle, resumed.peer, mark);
             if code == codes::OK {
                 why.at = kept;
                 why.dropped = dropped;

@@ -1,12 +1,13 @@
 //! How far the bytes of a log go.
 
-ghost use Rattle.std.specs.Prelude.{◌≡◌, ℕ, List, ◌+◌, ◌*◌, ◌≤◌, ◌<◌, ◌^◌, ◌⊎◌, take, length};
+ghost use Rattle.std.specs.Prelude.{◌≡◌, ℕ, List, [], ◌+◌, ◌*◌, ◌≤◌, ◌<◌, ◌^◌, ◌⊎◌, take, length};
 ghost use Rattle.definitions.specs.declared.logs.Entry.{Entry};
-ghost use Rattle.session_log.specs.Writing.{fresh, written, after};
+ghost use Rattle.session_log.specs.Spelling.{log_bytes};
+ghost use Rattle.session_log.specs.Writing.{after, all_after, fresh, written};
 ghost use Rattle.lethwyrn_c.specs.Fronts.{GoesOn, StandsAt};
 
-use definitions::{Entry, PlayerId};
-use grid_world::Session;
+use definitions::Entry;
+use peer_core::Peer;
 use session_log::LogWriter;
 
 /// The front of a log: the writer behind it, and how many entries and bytes it has.
@@ -15,34 +16,38 @@ pub(crate) struct Mark {
     pub(crate) writer: LogWriter,
     pub(crate) entries: usize,
     pub(crate) bytes: u128,
-    ghost few: { bytes ≤ 96 * entries },
+    ghost few: { bytes ≤ 2 ^ 32 + 96 * entries },
 }
 
 impl Mark {
-    /// The front that has no entry.
-    fn first(session: &Session, me: PlayerId) -> Mark
-        ensures writer { result.writer ≡ fresh session.now.id me }
-        ensures entries { result.entries ≡ 0 }
-        ensures bytes { result.bytes ≡ 0 }
+    /// The front of the log of a peer that has logged nothing.
+    #[tactic(auto, using(crate::proofs::Fronts::stands_all))]
+    pub(crate) fn first(peer: &Peer) -> Mark
+        requires { peer.now.entries ≡ [] }
+        ensures all { result.entries ≡ length peer.now.entries }
+        ensures stands { StandsAt peer.now.game.id peer.now.me peer.now.entries result.entries result.writer result.bytes }
     {
         Mark {
-            writer: LogWriter::new(session, me),
+            writer: LogWriter::new(peer.session(), peer.me()),
             entries: 0,
             bytes: 0,
         }
     }
 
-    /// The front of all of these entries.
-    #[tactic(auto, using(crate::proofs::Fronts::begins))]
-    pub(crate) fn behind(session: &Session, me: PlayerId, entries: &[Entry]) -> Mark
-        ensures entries { result.entries ≡ length entries.now }
-        ensures stands { StandsAt session.now.id me entries.now result.entries result.writer result.bytes }
+    /// The front of the whole log of a peer: its writer and its bytes are known, so that nothing
+    /// is hashed.
+    #[tactic(auto, using(crate::proofs::Fronts::stands_all))]
+    pub(crate) fn whole(peer: &Peer, writer: LogWriter, bytes: u32) -> Mark
+        requires writer { writer ≡ all_after (fresh peer.now.game.id peer.now.me) peer.now.entries }
+        requires bytes { bytes ≡ length (log_bytes peer.now.game.id peer.now.me peer.now.entries) }
+        ensures all { result.entries ≡ length peer.now.entries }
+        ensures stands { StandsAt peer.now.game.id peer.now.me peer.now.entries result.entries result.writer result.bytes }
     {
-        let mut mark = Mark::first(session, me);
-        for entry in entries {
-            mark.add(entry, &mut [0; 96]);
+        Mark {
+            writer,
+            entries: peer.entries().len(),
+            bytes: u128::from(bytes),
         }
-        mark
     }
 
     /// The same front once more. Nothing is hashed for it.

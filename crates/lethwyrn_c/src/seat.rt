@@ -5,6 +5,7 @@ ghost use Rattle.wire_frames.specs.Reading.{at_start};
 ghost use Rattle.lethwyrn_c.specs.declared.link.TheConstants.{LINKS};
 ghost use Rattle.lethwyrn_c.specs.Calls as C;
 ghost use Rattle.lethwyrn_c.specs.Heard as H;
+ghost use Rattle.lethwyrn_c.specs.Marks.{IsMarkOf};
 ghost use Rattle.lethwyrn_c.specs.Sending as S;
 
 use crate::codes;
@@ -70,14 +71,15 @@ fn tell_greeting(session: &Session, what: &FedWhat, greet: &mut GreetView)
 }
 
 impl Seat {
-    /// A seat of a peer, whose log's entries count as handed out and stored.
-    pub(crate) fn new(peer: Peer) -> Seat
+    /// A seat of a peer, whose log's entries count as handed out and stored. The mark is that of
+    /// its whole log.
+    pub(crate) fn new(peer: Peer, given: Mark) -> Seat
+        requires all { given.entries ≡ length peer.entries }
+        requires stands { IsMarkOf peer given }
         ensures { result ≡ record { peer = peer; links = replicate LINKS at_start; given = length peer.entries; stored = length peer.entries; sent = 0 } }
     {
-        let entries = peer.entries();
-        let given = Mark::behind(peer.session(), peer.me(), entries);
         let ahead = given.copy();
-        let stored = entries.len();
+        let stored = given.entries;
         Seat {
             peer,
             links: Links::new(),

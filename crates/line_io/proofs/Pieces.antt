@@ -10,7 +10,6 @@ use Rattle.station.specs.Pieces.{Piece, GivesAt, AllGive}
 use Rattle.station.specs.Shelves.{ShelfState, GivesShown}
 use Rattle.station.specs.Since.{since, Grows, since_is, since_none, since_on, grows_by, grows_none, grows_on}
 use Rattle.line_io.specs.Fronts.{AllShown, Fetched, IsCall, IsFrontOf, IsReading, ReadsFront, TakesPiece, bytes_given}
-use Rattle.line_io.specs.declared.fronts.PieceTurn.TheVariants.{End, Fault}
 use Rattle.line_io.specs.declared.fronts.FrontFault.{FrontFault}
 use Rattle.line_io.specs.declared.fronts.FrontFault.TheVariants.{NoMemory, Failed}
 
@@ -202,18 +201,26 @@ front_full None text limit front some full = absurd (omega (arith, some, full, a
 front_full (Some bytes) text limit front some full = front ∙ ap (λ (k : ℕ). take k bytes) full
 
 -- reading ends without a text
-pub front_refused : (a b c : ShelfState) (name text text' : List ℕ) (room limit : ℕ) (fault : FrontFault) → Fetching a b name (length text) → TakesPiece b c name text text' room (Fault fault) →
+pub front_refused : (a b c : ShelfState) (name text text' : List ℕ) (room limit : ℕ) (fault : FrontFault) → Fetching a b name (length text) → TakesPiece b c name text text' room (Err fault) →
     ReadsFront a c name limit (Err fault)
 front_refused a b c name text text' room limit NoMemory f call = record { fetched = fetched_some a b c name (length text) call.0 f call.1; front_is = λ content h. tt; short = tt }
 front_refused a b c name text text' room limit Failed f call = record { fetched = fetched_failed a b c name (length text) f call; front_is = λ content h. tt; short = tt }
 
-pub front_stopped : (a b c : ShelfState) (name text text' : List ℕ) (room limit : ℕ) → Fetching a b name (length text) →
-    ((content : Option (List ℕ)) → AllGive content (since a.pieces b.pieces) → Fronted content text) → length text ≤ limit → TakesPiece b c name text text' room End →
-    ReadsFront a c name limit (Ok text')
-front_stopped a b c name text text' room limit f fronted short call = record {
-  fetched = fetched_some a b c name (length text) [] f call.0;
-  front_is = λ content h.
-      let r = call_split content a b c name (length text) (Some []) f call.0 h in
-      subst (λ (t : List ℕ). IsFrontOf limit content t) (sym call.1) (front_ended content text limit (fronted content r.0) r.1 short);
-  short = subst (λ (t : List ℕ). length t ≤ limit) (sym call.1) short;
-}
+pub front_stopped : (a b c : ShelfState) (name text text' : List ℕ) (room limit count : ℕ) → Fetching a b name (length text) →
+    ((content : Option (List ℕ)) → AllGive content (since a.pieces b.pieces) → Fronted content text) → length text ≤ limit → TakesPiece b c name text text' room (Ok count) →
+    count ≡ 0 → ReadsFront a c name limit (Ok text')
+front_stopped a b c name text text' room limit count f fronted short piece none =
+    let empty : piece.0 ≡ [] = empty_of piece.0 (piece.2 ∙ none) in
+    let call : IsCall b c name (length text) (Some []) = subst (λ (bs : List ℕ). IsCall b c name (length text) (Some bs)) empty piece.1 in
+    let same : text' ≡ text = piece.4 ∙ ap (λ (bs : List ℕ). text ++ bs) empty ∙ append-nil text in
+    record {
+      fetched = fetched_some a b c name (length text) [] f call;
+      front_is = λ content h.
+          let r = call_split content a b c name (length text) (Some []) f call h in
+          subst (λ (t : List ℕ). IsFrontOf limit content t) (sym same) (front_ended content text limit (fronted content r.0) r.1 short);
+      short = subst (λ (t : List ℕ). length t ≤ limit) (sym same) short;
+    }
+  where
+    empty_of : (bs : List ℕ) → length bs ≡ 0 → bs ≡ []
+    empty_of [] e = refl
+    empty_of (b ∷ bs) e = absurd (omega (arith, e))

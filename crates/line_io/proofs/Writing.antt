@@ -2,11 +2,11 @@
 use Rattle.std.proofs.Common.{◌≡◌, ℕ, ◌+◌, ◌<◌, ◌≤◌, List, [], ◌++◌, length, take, refl, ap, sym, ◌∙◌, subst, append_assoc, append-nil, length-append, arith}
 use Rattle.std.proofs.lemmas.List.{take-append-le}
 use Rattle.std.proofs.Math.Seq.{take-append_seam}
+use Rattle.std.specs.Prelude.{Result, Ok, Err, IsErr, true, false}
 use Rattle.station.specs.Outside.{one_more}
 use Rattle.station.specs.Sinks.{SinkState, after_bytes}
 use Rattle.line_io.specs.Texts.{CutShort, Puts, Underway}
-use Rattle.line_io.specs.declared.texts.Written.{Written}
-use Rattle.line_io.specs.declared.texts.Written.TheVariants.{All, Failed}
+use Rattle.line_io.specs.declared.texts.SinkFault.{SinkFault}
 
 -- nothing is written, and one text behind another
 pub bytes_none : (s : SinkState) → after_bytes s [] ≡ s
@@ -80,7 +80,17 @@ underway_failed before mid now text rest u some e =
       rose = ap (λ (s : SinkState). s.faults) e;
     })
 
--- one text behind another that was written
-pub puts_behind : (a b c : SinkState) (t u : List ℕ) (r : Written) → b ≡ after_bytes a t → Puts b c u r → Puts a c (t ++ u) r
-puts_behind a b c t u All e w = w ∙ ap (λ (s : SinkState). after_bytes s u) e ∙ bytes_both a t u
-puts_behind a b c t u Failed e w = cut_behind a b c t u e w
+-- the first text was written, and then the second or a part of it
+pub puts_behind : (a b c : SinkState) (t u : List ℕ) (r : Result (Unit {0}) SinkFault) → b ≡ after_bytes a t → Puts b c u r → Puts a c (t ++ u) r
+puts_behind a b c t u (Ok done) e w = w ∙ ap (λ (s : SinkState). after_bytes s u) e ∙ bytes_both a t u
+puts_behind a b c t u (Err fault) e w = cut_behind a b c t u e w
+
+-- the sink failed in the first text, and the second was not begun
+pub puts_first : (a b : SinkState) (t u : List ℕ) (r : Result (Unit {0}) SinkFault) → IsErr r → CutShort a b t → Puts a b (t ++ u) r
+puts_first a b t u (Ok done) e c = absurd (let never : false ≡ true = e in cc)
+puts_first a b t u (Err fault) e c = cut_longer a b t u c
+
+-- the sink failed in the text
+pub puts_cut : (a b : SinkState) (t : List ℕ) (r : Result (Unit {0}) SinkFault) → IsErr r → CutShort a b t → Puts a b t r
+puts_cut a b t (Ok done) e c = absurd (let never : false ≡ true = e in cc)
+puts_cut a b t (Err fault) e c = c

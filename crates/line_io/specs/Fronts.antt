@@ -4,8 +4,6 @@ use Rattle.station.specs.Outside.{faults_behind}
 use Rattle.station.specs.Pieces.{Piece, AllGive}
 use Rattle.station.specs.Shelves.{ShelfState, GivesShown, after_piece}
 use Rattle.station.specs.Since.{since, Grows}
-use Rattle.line_io.specs.declared.fronts.PieceTurn.{PieceTurn}
-use Rattle.line_io.specs.declared.fronts.PieceTurn.TheVariants.{More, End, Fault}
 use Rattle.line_io.specs.declared.fronts.FrontFault.{FrontFault}
 use Rattle.line_io.specs.declared.fronts.FrontFault.TheVariants.{NoMemory, Failed}
 
@@ -45,14 +43,13 @@ pub record IsCall (before now : ShelfState) (name : List ℕ) (place : ℕ) (giv
   pub after : now ≡ after_piece before (record { name = name; at = place; gave = given })
   pub shown : GivesShown before.files name place given
 
--- One call for the file of this name, where the text ends: its bytes stand behind the text, where there are any; the file has ended;
--- or why not.
-abbrev pub TakesPiece : (before now : ShelfState) → (name text text' : List ℕ) → (room : ℕ) → PieceTurn → Type 0
-TakesPiece before now name text text' room More =
-    (bytes : List ℕ) × IsCall before now name (length text) (Some bytes) × (0 < length bytes) × (length bytes ≤ room) × (text' ≡ text ++ bytes)
-TakesPiece before now name text text' room End = IsCall before now name (length text) (Some []) × (text' ≡ text)
-TakesPiece before now name text text' room (Fault NoMemory) = (bytes : List ℕ) × IsCall before now name (length text) (Some bytes)
-TakesPiece before now name text text' room (Fault Failed) = IsCall before now name (length text) None
+-- One call for the file of this name, where the text ends: so many bytes came, which stand after the
+-- text; or why not. None came exactly where the file has ended.
+abbrev pub TakesPiece : (before now : ShelfState) → (name text text' : List ℕ) → (room : ℕ) → Result ℕ FrontFault → Type 0
+TakesPiece before now name text text' room (Ok count) =
+    (bytes : List ℕ) × IsCall before now name (length text) (Some bytes) × (length bytes ≡ count) × (count ≤ room) × (text' ≡ text ++ bytes)
+TakesPiece before now name text text' room (Err NoMemory) = (bytes : List ℕ) × IsCall before now name (length text) (Some bytes)
+TakesPiece before now name text text' room (Err Failed) = IsCall before now name (length text) None
 
 -- The file is there, and the text is its first bytes up to the limit.
 abbrev pub IsFrontOf : ℕ → Option (List ℕ) → List ℕ → Type 0

@@ -15,4 +15,4 @@ pub mod texts;
 pub use bytes::{ByteReader, NextByte};
 pub use fronts::{FrontFault, piece_buffer, read_front};
 pub use lines::{LineReader, NextLine};
-pub use texts::{Written, put, text_of};
+pub use texts::{SinkFault, put, text_of};

@@ -6,14 +6,9 @@ ghost use Rattle.line_io.specs.Texts.{Puts};
 use arrayvec::ArrayVec;
 use station::{Push, Sink};
 
-/// Whether a text was written.
+/// The sink failed, and holds only a first part of the text.
 #[derive(Clone, Copy, Debug, PartialEq, Eq)]
-pub enum Written {
-    /// All of it.
-    All,
-    /// The sink failed, and holds only a first part of the text.
-    Failed,
-}
+pub struct SinkFault;
 
 /// The text that is these bytes, in a buffer with room for `N` of them.
 pub fn text_of<const N: usize>(bytes: &[u8]) -> ArrayVec<u8, N>
@@ -25,16 +20,17 @@ pub fn text_of<const N: usize>(bytes: &[u8]) -> ArrayVec<u8, N>
     text
 }
 
-/// Writes the bytes, all of them unless the sink fails. An empty text is written without a call of the sink.
-pub fn put<O: Sink>(out: &mut O, bytes: &[u8]) -> Written
+/// Writes the bytes, all of them unless the sink fails. An empty text is written without a call of
+/// the sink. An error comes exactly where the sink failed.
+pub fn put<O: Sink>(out: &mut O, bytes: &[u8]) -> Result<(), SinkFault>
     ensures { Puts (O.state out.old) (O.state out.new) bytes.now result }
 {
     let mut rest = bytes;
     while !rest.is_empty() {
         match out.write(rest) {
-            Push::Failed => return Written::Failed,
+            Push::Failed => return Err(SinkFault),
             Push::Gave(count) => rest = &rest[count..],
         }
     }
-    Written::All
+    Ok(())
 }

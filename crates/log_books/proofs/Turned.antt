@@ -1,43 +1,17 @@
 -- Turned: a page goes on with the bytes that came.
 use Rattle.std.proofs.Common.{◌≡◌, ℕ, ◌+◌, ◌≤◌, Bool, true, false, List, [], ◌∷◌, ◌++◌, length, refl, sym, ap, subst, ◌∙◌, append-nil, arith}
-use Rattle.std.specs.Prelude.{Option, Some, None, ◌&&◌, ◌==◌, is_some, if◌then◌else◌}
+use Rattle.std.specs.Prelude.{Option, ◌&&◌, ◌==◌, is_some, if◌then◌else◌}
 use Rattle.definitions.specs.declared.limits.TheConstants.{LONGEST_LOG}
 use Rattle.definitions.specs.World.{Game}
-use Rattle.session_log.specs.declared.reader.Next.TheVariants as next
-use Rattle.session_log.specs.declared.feed.Fault.{Fault}
-use Rattle.session_log.specs.declared.feed.Fault.TheVariants.{BadChain, BadEntry}
+use Rattle.session_log.specs.declared.faults.LogFault.{LogFault}
 use Rattle.session_log.specs.Fed.{IsFeedOf}
-use Rattle.session_log.specs.Feeding.{LogFeeding, given_of, end_at, end_by_owner, end_unless, finished, torn_at}
+use Rattle.session_log.specs.Feeding.{LogFeeding, given_of}
 use Rattle.auditor.specs.Audits.{AuditState, owner_in}
 use Rattle.auditor.specs.Taking.{IsFeeding, LeavesOthers, TakesAll}
 use Rattle.watch_rules.specs.Streams.{Stream, count_of, entries_of, feeding_of, gone_on, is_others, took}
 use Rattle.log_books.specs.declared.pages.Page.{Page}
-use Rattle.log_books.specs.Pages.{GoesOn, IsPageOf, begins_others, is_fault}
+use Rattle.log_books.specs.Pages.{GoesOn, IsPageOf, begins_others}
 use Rattle.watch_rules.proofs.Streams.{count_more, entries_more, feeding_more, owner_is}
-
--- a log has a fault exactly where its end so far is one
-fault_at : (at : ℕ) → is_fault (end_at at) ≡ false
-fault_at at = go (at == 1)
-  where
-    go : (b : Bool) → is_fault (if b then next.Torn 0 else next.End) ≡ false
-    go true = refl
-    go false = refl
-
-fault_torn : (at : ℕ) (held : List ℕ) → is_fault (torn_at at held) ≡ false
-fault_torn at [] = fault_at at
-fault_torn at (b ∷ held) = refl
-
-fault_none : (owner : Option ℕ) (at : ℕ) (held : List ℕ) → is_fault (end_by_owner owner at held) ≡ false
-fault_none None at held = refl
-fault_none (Some me) at held = fault_torn at held
-
-pub fault_is : (f : LogFeeding) → is_fault (finished f) ≡ is_some f.fault
-fault_is f = go f.fault
-  where
-    go : (o : Option Fault) → is_fault (end_unless o (end_by_owner f.owner f.at f.held)) ≡ is_some o
-    go None = fault_none f.owner f.at f.held
-    go (Some (BadChain at)) = refl
-    go (Some (BadEntry at)) = refl
 
 others_test : (game : Game) (a : AuditState) (q : ℕ) (s : Stream) (p : Page) (bytes : List ℕ) → IsPageOf game a q s p → begins_others p q bytes ≡ ((count_of s == 0) && is_others q bytes)
 others_test game a q s p bytes w = ap (λ (n : ℕ). (n == 0) && is_others q bytes) w.count
@@ -66,7 +40,7 @@ pub record WasFed (game : Game) (a b : AuditState) (q : ℕ) (s : Stream) (p m :
   pub others : LeavesOthers a b q
   pub count : m.count ≡ p.count + length bytes
   pub few : p.count + length bytes ≤ LONGEST_LOG
-  pub closed : (f : LogFeeding) → IsFeedOf m.feed f → m.is_closed ≡ is_fault (finished f)
+  pub closed : m.is_closed ≡ is_some m.feed.fault
 
 pub fed_goes : (game : Game) (a b : AuditState) (q : ℕ) (s : Stream) (p m : Page) (bytes : List ℕ) → IsPageOf game a q s p → begins_others p q bytes ≡ false → WasFed game a b q s p m bytes → GoesOn game a b q s (took game q s bytes) m
 fed_goes game a b q s p m bytes w h k =
@@ -76,7 +50,7 @@ fed_goes game a b q s p m bytes w h k =
     let is : IsFeedOf m.feed f = subst (IsFeedOf m.feed) (sym (feeding_more game s.pieces bytes)) k.all.feed in
     subst (λ (c : Bool). GoesOn game a b q s (if c then record s { is_closed = true } else t) m) (sym e) (record {
       page = record {
-        closed = k.closed f is ∙ fault_is f;
+        closed = k.closed ∙ ap (λ (o : Option LogFault). is_some o) is.fault;
         count = k.count ∙ ap (λ n. n + length bytes) w.count ∙ sym (count_more game s bytes);
         most = (let few = k.few in let n = k.count in omega (arith, few, n));
         feed = is;

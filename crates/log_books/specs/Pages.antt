@@ -1,23 +1,13 @@
 -- Pages: how far one player's log came, and what bytes that come make of it.
-use Rattle.std.specs.Prelude.{◌≡◌, ℕ, ◌≤◌, Bool, true, false, ◌==◌, ◌&&◌, List, ◌++◌}
+use Rattle.std.specs.Prelude.{◌≡◌, ℕ, ◌≤◌, Bool, ◌==◌, ◌&&◌, List, ◌++◌}
 use Rattle.definitions.specs.declared.limits.TheConstants.{LONGEST_LOG}
 use Rattle.definitions.specs.declared.logs.Entry.{Entry}
 use Rattle.definitions.specs.World.{Game}
-use Rattle.session_log.specs.declared.reader.Next.{Next}
-use Rattle.session_log.specs.declared.reader.Next.TheVariants as next
 use Rattle.session_log.specs.Fed.{IsFeedOf}
 use Rattle.auditor.specs.Audits.{AuditState, count_in, owner_in}
 use Rattle.auditor.specs.Taking.{LeavesOthers, Takes}
 use Rattle.watch_rules.specs.Streams.{Stream, count_of, entries_of, feeding_of, is_others, owner_of}
 use Rattle.log_books.specs.declared.pages.Page.{Page}
-
--- the end of a log so far is a fault
-abbrev pub is_fault : Next → Bool
-is_fault (next.Entry e) = false
-is_fault next.End = false
-is_fault (next.Torn at) = false
-is_fault (next.BadChain at) = true
-is_fault (next.BadEntry at) = true
 
 -- these are the first bytes of the log, and of another player
 abbrev pub begins_others : Page → (q : ℕ) → List ℕ → Bool

@@ -11,7 +11,7 @@ use auditor::{Auditor, MOST_LOGS};
 use definitions::PlayerId;
 use definitions::limits::LONGEST_LOG;
 use grid_world::Session;
-use session_log::{LogFeed, Next};
+use session_log::LogFeed;
 use std::alloc::AllocError;
 
 /// How far a player's log came, whichever sockets brought it.
@@ -23,16 +23,6 @@ pub struct Page {
     pub count: u32,
     /// Whether a byte closed the player: nothing more is taken of its log.
     pub is_closed: bool,
-}
-
-/// Whether the end of a log so far is a fault.
-fn is_fault(end: Next) -> bool
-    ensures { result ≡ P.is_fault end }
-{
-    match end {
-        Next::BadChain(_) | Next::BadEntry(_) => true,
-        Next::Entry(_) | Next::End | Next::Torn(_) => false,
-    }
 }
 
 impl Page {
@@ -89,6 +79,6 @@ pub fn take(
     }
     auditor.take_bytes(u32::from(player), &mut page.feed, bytes)?;
     page.count += bytes.len() as u32;
-    page.is_closed = is_fault(page.feed.finish());
+    page.is_closed = page.feed.fault().is_some();
     Ok(())
 }

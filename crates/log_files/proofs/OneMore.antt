@@ -1,12 +1,12 @@
 -- OneMore: logs are taken one behind the other.
 use Rattle.std.proofs.Common.{◌≡◌, ◌⊎◌, inl, inr, ℕ, zero, suc, ◌+◌, ◌-◌, ◌<◌, ◌≤◌, Bool, true, false, List, [], ◌∷◌, ◌++◌, Option, None, Some, length, map, drop, take, refl, sym, ◌∙◌, ap, subst, append_assoc, append-nil, length-append, arith}
-use Rattle.std.specs.Prelude.{option_map, slice_index_or}
+use Rattle.std.specs.Prelude.{Err, option_map, slice_index_or}
 use Rattle.std.proofs.lemmas.List.{take_all}
 use Rattle.std.proofs.Math.ListN.{get_or-map}
 use Rattle.std.specs.Option.{option_or}
 use Rattle.std.proofs.lemmas.Bool.{cases_lt}
 use Rattle.definitions.specs.declared.logs.Entry.{Entry}
-use Rattle.definitions.specs.declared.logs.LogWhy.{LogWhy}
+use Rattle.session_log.specs.declared.faults.LogFault.{LogFault}
 use Rattle.definitions.specs.Lists.{item_or}
 use Rattle.definitions.specs.World.{Game}
 use Rattle.definitions.proofs.Items.{item_is}
@@ -21,9 +21,11 @@ use Rattle.session_log.specs.Laws as L
 use Rattle.auditor.specs.Audits.{AuditState, IsAuditOf, StandsFor, owner_in, padded}
 use Rattle.auditor.specs.Taking.{LeavesOthers, Takes, with_entries}
 use Rattle.auditor.proofs.Behind.{item_last, item_more, next_log}
-use Rattle.log_files.specs.Logs.{entries_in, log_fault}
+use Rattle.log_files.specs.declared.faults.FileFault.{FileFault}
+use Rattle.log_files.specs.declared.faults.FileFault.TheVariants as file
+use Rattle.log_files.specs.Logs.{entries_in, log_fault, taken_of}
 use Rattle.log_files.specs.Taken.{IsAnswer, IsTaken, IsThere, TakesLog, is_failed}
-use Rattle.log_files.specs.Several.{AreAnswered, LogFault, TakesFiles, TakesLogs, first_bytes, first_fault, is_shelf_failed, logs_in, of_log, owners_in}
+use Rattle.log_files.specs.Several.{AreAnswered, FaultyLog, TakesFiles, TakesLogs, first_bytes, first_fault, is_shelf_failed, logs_in, of_log, owners_in, stopped_by}
 use Rattle.log_files.specs.declared.taking.LogTaken.{LogTaken}
 use Rattle.log_files.specs.declared.taking.LogTaken.TheVariants as became
 use Rattle.log_files.specs.declared.several.LogsTaken.{LogsTaken}
@@ -98,20 +100,25 @@ module _ (game : Game) (b c : ShelfState) (name : List ℕ) (names : List (List 
       due files zero = inr refl
       due files (suc i) = inl (none_at names i)
 
-  pub bad_taken : (at : ℕ) (why : LogWhy) → TakesLog game b c name a a' number (became.Bad at why) → TakesFiles game b c (name ∷ names) a a' number (Bad number at why)
-  bad_taken at why t = stopped (became.Bad at why) (Bad number at why) refl t (λ files is.
+  bad_taken : (fault : LogFault) → TakesLog game b c name a a' number (became.Bad fault.at fault.why) → TakesFiles game b c (name ∷ names) a a' number (Bad number fault)
+  bad_taken fault t = stopped (became.Bad fault.at fault.why) (Bad number fault) refl t (λ files is.
       ap (λ f. option_or (option_map (of_log number) f) (first_fault game (behind_first files) (number + 1) (length names)))
-      (there_first files (λ bytes. log_fault game bytes ≡ Some (at, why)) is.0))
+      (there_first files (λ bytes. log_fault game bytes ≡ Some fault) is.0))
 
-  pub failed_taken : TakesLog game b c name a a' number became.Failed → TakesFiles game b c (name ∷ names) a a' number Failed
+  failed_taken : TakesLog game b c name a a' number became.Failed → TakesFiles game b c (name ∷ names) a a' number Failed
   failed_taken t = stopped became.Failed Failed refl t (λ files is. tt)
 
-  pub memory_taken : TakesLog game b c name a a' number became.Memory → TakesFiles game b c (name ∷ names) a a' number Memory
+  memory_taken : TakesLog game b c name a a' number became.Memory → TakesFiles game b c (name ∷ names) a a' number Memory
   memory_taken t = stopped became.Memory Memory refl t (λ files is. tt)
+
+  pub stopped_taken : (x : FileFault) → TakesLog game b c name a a' number (taken_of (Err x)) → TakesFiles game b c (name ∷ names) a a' number (stopped_by number x)
+  stopped_taken (file.Bad fault) t = bad_taken fault t
+  stopped_taken file.Failed t = failed_taken t
+  stopped_taken file.Memory t = memory_taken t
 
 -- the first log was taken, and then the others
 module _ (game : Game) (b c d : ShelfState) (name : List ℕ) (names : List (List ℕ)) (a a' a'' : AuditState) (number : ℕ) (few : number < MOST_LOGS) where
-  sound_first : (files : Contents) (f : Option (ℕ × LogWhy)) (rest : Option LogFault) → f ≡ None → option_or (option_map (of_log number) f) rest ≡ rest
+  sound_first : (files : Contents) (f : Option LogFault) (rest : Option FaultyLog) → f ≡ None → option_or (option_map (of_log number) f) rest ≡ rest
   sound_first files f rest e = ap (λ g. option_or (option_map (of_log number) g) rest) e
 
   answers : (files : Contents) (all : LogsTaken) → IsTaken game a a' number (first_bytes files) → LeavesOthers a a' number → AreAnswered game a' a'' (behind_first files) (number + 1) (length names) all →
@@ -126,7 +133,7 @@ module _ (game : Game) (b c d : ShelfState) (name : List ℕ) (names : List (Lis
         subst (λ (os : List (Option ℕ)). StandsFor game os (logs ++ logs_in game files (length (name ∷ names))) a'') (append_assoc owners (o ∷ []) (owners_in game (behind_first files) (length names)))
         (subst (λ (ls : List (List Entry)). StandsFor game ((owners ++ o ∷ []) ++ owners_in game (behind_first files) (length names)) ls a'') (append_assoc logs (es ∷ []) (logs_in game (behind_first files) (length names))) all),
   )
-  answers files (Bad log at why) is others rest = sound_first files (log_fault game (first_bytes files)) (first_fault game (behind_first files) (number + 1) (length names)) is.sound ∙ rest
+  answers files (Bad log fault) is others rest = sound_first files (log_fault game (first_bytes files)) (first_fault game (behind_first files) (number + 1) (length names)) is.sound ∙ rest
   answers files Failed is others rest = tt
   answers files Memory is others rest = tt
 

@@ -1,5 +1,6 @@
 -- Reached: a log's file is being read, and what its calls gave was taken.
 use Rattle.std.proofs.Common.{◌≡◌, ℕ, ◌+◌, ◌<◌, ◌≤◌, List, [], ◌∷◌, ◌++◌, Option, Some, length, refl, sym, ◌∙◌, ap, subst, append_assoc, length-append, arith}
+use Rattle.std.specs.Prelude.{Ok}
 use Rattle.definitions.specs.declared.limits.TheConstants.{LONGEST_LOG}
 use Rattle.definitions.specs.declared.logs.Entry.{Entry}
 use Rattle.definitions.specs.World.{Game}
@@ -13,7 +14,6 @@ use Rattle.session_log.specs.Feeding.{LogFeeding, feed_at_start, given_of}
 use Rattle.auditor.specs.Audits.{AuditState, count_in, owner_in}
 use Rattle.auditor.specs.Taking.{IsFeeding, LeavesOthers, Takes, TakesAll}
 use Rattle.auditor.proofs.Fed.{takes_more}
-use Rattle.log_files.specs.declared.pieces.PieceTurn.TheVariants.{More}
 use Rattle.log_files.specs.Pieces.{TakesPiece}
 use Rattle.log_files.specs.Taken.{IsUntaken}
 use Rattle.log_files.proofs.Calls.{bytes_more, calls_entries, calls_feeding, given_by_calls}
@@ -93,7 +93,7 @@ others_on a b c log one two = λ i ne. let x = one i ne in let y = two i ne in (
 
 -- the bytes that it gave were taken
 pub reached_more : (game : Game) (s b c : ShelfState) (name : List ℕ) (a a' a'' : AuditState) (log : ℕ) (r r' : Fed) (at count : ℕ) → Reached game s b name a a' log r at →
-    TakesPiece b c name a' a'' log r r' at (More count) → a''.session ≡ a'.session → LeavesOthers a' a'' log → Reached game s c name a a'' log r' (at + count)
+    TakesPiece b c name a' a'' log r r' at (Ok (Some count)) → a''.session ≡ a'.session → LeavesOthers a' a'' log → Reached game s c name a a'' log r' (at + count)
 reached_more game s b c name a a' a'' log r r' at count w t same others =
     let bytes : List ℕ = t.0 in
     let p : Piece = call_at name at (Some bytes) in

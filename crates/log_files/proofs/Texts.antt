@@ -5,7 +5,6 @@ use Rattle.std.specs.Option.{option_or}
 use Rattle.std.proofs.lemmas.List.{take_all}
 use Rattle.definitions.specs.declared.limits.TheConstants.{LONGEST_LOG}
 use Rattle.definitions.specs.declared.logs.Entry.{Entry}
-use Rattle.definitions.specs.declared.logs.LogWhy.{LogWhy}
 use Rattle.definitions.specs.declared.findings.Finding.{Finding}
 use Rattle.definitions.specs.Entries.{AreWellFormed}
 use Rattle.definitions.specs.Findings.{findings}
@@ -13,11 +12,11 @@ use Rattle.definitions.specs.Lists.{EachIs, item_or}
 use Rattle.definitions.specs.World.{Game}
 use Rattle.definition_laws.specs.Members.{Has}
 use Rattle.frame_index.specs.declared.limits.TheConstants.{MOST_LOGS}
-use Rattle.session_log.specs.declared.reader.Next.{Next}
+use Rattle.session_log.specs.declared.faults.LogFault.{LogFault}
 use Rattle.session_log.specs.Fed.{Fed, IsFeedOf}
 use Rattle.session_log.specs.Feeding.{LogFeeding, feed_at_start, finished, given_of}
 use Rattle.session_log.specs.Laws as L
-use Rattle.session_log.specs.Reading.{read_log}
+use Rattle.session_log.specs.Reading.{Ending, fault_at, read_log}
 use Rattle.session_log.proofs.Pieces.{log_pieces_same}
 use Rattle.session_log.proofs.ReadSo.{read_is_log, read_well_formed}
 use Rattle.evidence.specs.Laws.{IsLogOf}
@@ -26,7 +25,7 @@ use Rattle.auditor.specs.Audits.{AuditState, StandsFor, owner_in}
 use Rattle.auditor.specs.Reports.{IsReportOf, Reported, found_in}
 use Rattle.auditor.specs.Taking.{LeavesOthers, Takes, TakesAll}
 use Rattle.log_files.specs.Logs.{entries_in, fault_of, log_fault}
-use Rattle.log_files.specs.Several.{LogFault, of_log}
+use Rattle.log_files.specs.Several.{FaultyLog, of_log}
 use Rattle.log_files.specs.Taken.{IsTaken, IsUntaken}
 use Rattle.log_files.proofs.Ended.{fault_short}
 use Rattle.log_files.proofs.OneMore.{one_more_log}
@@ -46,35 +45,35 @@ whole_read game bytes =
     }
 
 -- a text was taken, and its feed ended so
-pub record IsFed (game : Game) (a a' : AuditState) (log : ℕ) (bytes : List ℕ) (end : Next) : Type 0 where
+pub record IsFed (game : Game) (a a' : AuditState) (log : ℕ) (bytes : List ℕ) (end : Ending) : Type 0 where
   pub fault : log_fault game bytes ≡ fault_of end
   pub taken : Takes a a' log (entries_in game bytes)
   pub owner : owner_in a' log ≡ L.owner_in game bytes
 
-pub text_fed : (game : Game) (a a' : AuditState) (log : ℕ) (r r' : Fed) (bytes : List ℕ) (end : Next) → a.session ≡ game → length bytes ≤ LONGEST_LOG → IsFeedOf r (feed_at_start game.id) →
+pub text_fed : (game : Game) (a a' : AuditState) (log : ℕ) (r r' : Fed) (bytes : List ℕ) (end : Ending) → a.session ≡ game → length bytes ≤ LONGEST_LOG → IsFeedOf r (feed_at_start game.id) →
     ((f : LogFeeding) → IsFeedOf r f → TakesAll a.session a a' log r r' bytes f) → owner_in a' log ≡ r'.owner → ((f : LogFeeding) → IsFeedOf r' f → end ≡ finished f) → IsFed game a a' log bytes end
 text_fed game a a' log r r' bytes end same short start all owner finish =
     let read = whole_read game bytes in
     let taken : TakesAll game a a' log r r' bytes (feed_at_start game.id) = subst (λ (g : Game). TakesAll g a a' log r r' bytes (feed_at_start game.id)) same (all (feed_at_start game.id) start) in
     record {
-      fault = fault_short game bytes end short (read.last ∙ ap (λ (n : Next). Some n) (sym (finish (given_of game (feed_at_start game.id) bytes).feeding taken.feed)));
+      fault = fault_short game bytes end short (read.last ∙ ap (λ (n : Ending). Some n) (sym (finish (given_of game (feed_at_start game.id) bytes).feeding taken.feed)));
       taken = subst (Takes a a' log) read.entries taken.taken;
       owner = owner ∙ taken.feed.owner ∙ read.owner;
     }
 
-pub sound_if : (game : Game) (a a' : AuditState) (log : ℕ) (bytes : List ℕ) (end : Next) (r : Result (Unit {0}) AuditFault) → r ≡ ended_by log (fault_of end) → IsFed game a a' log bytes end →
+pub sound_if : (game : Game) (a a' : AuditState) (log : ℕ) (bytes : List ℕ) (end : Ending) (r : Result (Unit {0}) AuditFault) → r ≡ ended_by log (fault_of end) → IsFed game a a' log bytes end →
     OnOk r (IsTaken game a a' log bytes)
 sound_if game a a' log bytes end r is fed = subst (λ (x : Result (Unit {0}) AuditFault). OnOk x (IsTaken game a a' log bytes)) (sym is) (go (fault_of end) fed.fault)
   where
-    go : (f : Option (ℕ × LogWhy)) → log_fault game bytes ≡ f → OnOk (ended_by log f) (IsTaken game a a' log bytes)
+    go : (f : Option LogFault) → log_fault game bytes ≡ f → OnOk (ended_by log f) (IsTaken game a a' log bytes)
     go None e = record { sound = e; taken = fed.taken; owner = fed.owner }
     go (Some x) e = tt
 
-pub fault_if : (game : Game) (a a' : AuditState) (log : ℕ) (bytes : List ℕ) (end : Next) (r : Result (Unit {0}) AuditFault) → r ≡ ended_by log (fault_of end) → IsFed game a a' log bytes end →
+pub fault_if : (game : Game) (a a' : AuditState) (log : ℕ) (bytes : List ℕ) (end : Ending) (r : Result (Unit {0}) AuditFault) → r ≡ ended_by log (fault_of end) → IsFed game a a' log bytes end →
     IfErr r (IsFaultOf game log bytes)
 fault_if game a a' log bytes end r is fed = subst (λ (x : Result (Unit {0}) AuditFault). IfErr x (IsFaultOf game log bytes)) (sym is) (go (fault_of end) fed.fault)
   where
-    go : (f : Option (ℕ × LogWhy)) → log_fault game bytes ≡ f → IfErr (ended_by log f) (IsFaultOf game log bytes)
+    go : (f : Option LogFault) → log_fault game bytes ≡ f → IfErr (ended_by log f) (IsFaultOf game log bytes)
     go None e = tt
     go (Some x) e = (refl, e)
 
@@ -89,7 +88,7 @@ none_taken game a number texts none = subst (AreTaken game a a number) (sym none
 module _ (game : Game) (number : ℕ) (bytes : List ℕ) (rest : List (List ℕ)) where
   pub bad_first : (f : AuditFault) → IsFaultOf game number bytes f → IsFirstFault game number (bytes ∷ rest) f
   bad_first (BadLog log at why) (same, e) =
-      let of : ℕ → LogFault = λ n. record { log = n; at = at; why = why } in
+      let of : ℕ → FaultyLog = λ n. of_log n (fault_at at why) in
       ap (λ o. option_or (option_map (of_log number) o) (first_fault game (number + 1) rest)) e ∙ ap (λ (n : ℕ). Some (of n)) (sym same)
   bad_first Memory w = tt
 

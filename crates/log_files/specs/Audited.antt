@@ -2,15 +2,16 @@
 use Rattle.std.specs.Prelude.{◌≡◌, ◌<◌, ◌≤◌, ◌+◌, ℕ, List, [], ◌∷◌, ◌++◌, Option, None, Some, Result, Ok, Err, length, map, option_map}
 use Rattle.std.specs.Option.{option_or}
 use Rattle.definitions.specs.declared.logs.Entry.{Entry}
-use Rattle.definitions.specs.declared.logs.LogWhy.{LogWhy}
 use Rattle.definitions.specs.World.{Game, players_of}
 use Rattle.definitions.specs.Findings.{findings}
+use Rattle.session_log.specs.declared.faults.LogFault.{LogFault}
 use Rattle.session_log.specs.Laws as L
+use Rattle.session_log.specs.Reading.{fault_at}
 use Rattle.auditor.specs.Agreed.{agreed_count, world}
 use Rattle.auditor.specs.Audits.{AuditState, StandsFor}
 use Rattle.auditor.specs.Reports.{Reported, agreed_by, found_in, world_by}
 use Rattle.log_files.specs.Logs.{entries_in, log_fault}
-use Rattle.log_files.specs.Several.{LogFault, of_log}
+use Rattle.log_files.specs.Several.{FaultyLog, of_log}
 use Rattle.log_files.specs.declared.audits.AuditFault.{AuditFault}
 use Rattle.log_files.specs.declared.audits.AuditFault.TheVariants.{BadLog, Memory}
 
@@ -23,23 +24,27 @@ abbrev pub owners_of : Game → List (List ℕ) → List (Option ℕ)
 owners_of game texts = map (λ bytes. L.owner_in game bytes) texts
 
 -- the fault of the first text that is no log, where the first text's log has this number
-abbrev pub first_fault : Game → ℕ → List (List ℕ) → Option LogFault
+abbrev pub first_fault : Game → ℕ → List (List ℕ) → Option FaultyLog
 first_fault game number [] = None
 first_fault game number (bytes ∷ texts) = option_or (option_map (of_log number) (log_fault game bytes)) (first_fault game (number + 1) texts)
 
+-- the fault as it is answered of the log of this number
+abbrev pub of_fault : ℕ → LogFault → AuditFault
+of_fault log fault = BadLog log fault.at fault.why
+
 -- the answer for the log of this number, where it has this fault or none
-abbrev pub ended_by : ℕ → Option (ℕ × LogWhy) → Result (Unit {0}) AuditFault
+abbrev pub ended_by : ℕ → Option LogFault → Result (Unit {0}) AuditFault
 ended_by log None = Ok tt
-ended_by log (Some fault) = Err (BadLog log fault.0 fault.1)
+ended_by log (Some fault) = Err (of_fault log fault)
 
 -- the text has this fault, as the log of this number; want of memory has its cause outside
 abbrev pub IsFaultOf : Game → ℕ → List ℕ → AuditFault → Type 0
-IsFaultOf game number bytes (BadLog log at why) = (log ≡ number) × (log_fault game bytes ≡ Some (at, why))
+IsFaultOf game number bytes (BadLog log at why) = (log ≡ number) × (log_fault game bytes ≡ Some (fault_at at why))
 IsFaultOf game number bytes Memory = Unit {0}
 
 -- this is the first fault of the texts
 abbrev pub IsFirstFault : Game → ℕ → List (List ℕ) → AuditFault → Type 0
-IsFirstFault game number texts (BadLog log at why) = first_fault game number texts ≡ Some (record { log = log; at = at; why = why })
+IsFirstFault game number texts (BadLog log at why) = first_fault game number texts ≡ Some (of_log log (fault_at at why))
 IsFirstFault game number texts Memory = Unit {0}
 
 -- all texts are logs, and an auditor that stood for as many logs as the number says stands for them with these behind them

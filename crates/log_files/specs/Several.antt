@@ -2,15 +2,17 @@
 use Rattle.std.specs.Prelude.{◌≡◌, ◌⊎◌, ℕ, zero, suc, ◌+◌, Bool, true, false, List, [], ◌∷◌, ◌++◌, Option, None, Some, length, option_map, unwrap_or}
 use Rattle.std.specs.Option.{option_or}
 use Rattle.definitions.specs.declared.logs.Entry.{Entry}
-use Rattle.definitions.specs.declared.logs.LogWhy.{LogWhy}
 use Rattle.definitions.specs.Lists.{item_or}
 use Rattle.definitions.specs.World.{Game}
 use Rattle.station.specs.Outside.{faults_behind}
 use Rattle.station.specs.Shelves.{ShelfState}
 use Rattle.line_io.specs.Files.{AreContents, Calls, Contents, ReadsFiles, behind_first}
+use Rattle.session_log.specs.declared.faults.LogFault.{LogFault}
 use Rattle.session_log.specs.Laws as L
 use Rattle.auditor.specs.Audits.{AuditState, StandsFor}
 use Rattle.log_files.specs.Logs.{entries_in, log_fault}
+use Rattle.log_files.specs.declared.faults.FileFault.{FileFault}
+use Rattle.log_files.specs.declared.faults.FileFault.TheVariants as file
 use Rattle.log_files.specs.declared.several.LogsTaken.{LogsTaken}
 use Rattle.log_files.specs.declared.several.LogsTaken.TheVariants.{Whole, Bad, Failed, Memory}
 
@@ -19,18 +21,17 @@ abbrev pub first_bytes : Contents → List ℕ
 first_bytes [] = []
 first_bytes (content ∷ files) = unwrap_or content []
 
--- a fault of a log: the log's number, the byte where the faulty entry begins, and the reason
-pub record LogFault : Type 0 where
+-- a log that can't be used: its number, and its first fault
+pub record FaultyLog : Type 0 where
   pub log : ℕ
-  pub at : ℕ
-  pub why : LogWhy
+  pub fault : LogFault
 
 -- the fault as one of the log of this number
-abbrev pub of_log : ℕ → ℕ × LogWhy → LogFault
-of_log number fault = record { log = number; at = fault.0; why = fault.1 }
+abbrev pub of_log : ℕ → LogFault → FaultyLog
+of_log number fault = record { log = number; fault = fault }
 
 -- the fault of the first of so many files that is no log, where the first file's log has this number
-abbrev pub first_fault : Game → Contents → (number many : ℕ) → Option LogFault
+abbrev pub first_fault : Game → Contents → (number many : ℕ) → Option FaultyLog
 first_fault game files number zero = None
 first_fault game files number (suc many) = option_or (option_map (of_log number) (log_fault game (first_bytes files))) (first_fault game (behind_first files) (number + 1) many)
 
@@ -47,9 +48,15 @@ owners_in game files (suc many) = L.owner_in game (first_bytes files) ∷ owners
 -- whether the shelf failed
 abbrev pub is_shelf_failed : LogsTaken → Bool
 is_shelf_failed Whole = false
-is_shelf_failed (Bad log at why) = false
+is_shelf_failed (Bad log fault) = false
 is_shelf_failed Failed = true
 is_shelf_failed Memory = false
+
+-- the answer where the file of the log of this number wasn't taken whole
+abbrev pub stopped_by : ℕ → FileFault → LogsTaken
+stopped_by log (file.Bad fault) = Bad log fault
+stopped_by log file.Failed = Failed
+stopped_by log file.Memory = Memory
 
 -- An auditor that stood for as many logs as the number says stands for them with these behind them, each its owner's.
 abbrev pub TakesLogs : Game → (a a' : AuditState) → Contents → (number many : ℕ) → Type 0
@@ -60,7 +67,7 @@ TakesLogs game a a' files number many =
 -- This was answered of files with these contents: all are logs, which were taken; or this is the first fault; or reading stopped before.
 abbrev pub AreAnswered : Game → (a a' : AuditState) → Contents → (number many : ℕ) → LogsTaken → Type 0
 AreAnswered game a a' files number many Whole = (first_fault game files number many ≡ None) × TakesLogs game a a' files number many
-AreAnswered game a a' files number many (Bad log at why) = first_fault game files number many ≡ Some (record { log = log; at = at; why = why })
+AreAnswered game a a' files number many (Bad log fault) = first_fault game files number many ≡ Some (of_log log fault)
 AreAnswered game a a' files number many Failed = Unit {0}
 AreAnswered game a a' files number many Memory = Unit {0}
 

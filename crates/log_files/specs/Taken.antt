@@ -8,6 +8,7 @@ use Rattle.station.specs.Shelves.{ShelfState}
 use Rattle.station.specs.Since.{since}
 use Rattle.line_io.specs.Fronts.{Fetched, bytes_read}
 use Rattle.session_log.specs.Laws as L
+use Rattle.session_log.specs.Reading.{fault_at}
 use Rattle.auditor.specs.Audits.{AuditState, count_in, owner_in}
 use Rattle.auditor.specs.Taking.{LeavesOthers, Takes}
 use Rattle.log_files.specs.Logs.{entries_in, log_fault}
@@ -53,7 +54,7 @@ IsThere (Some bytes) so = so bytes
 -- stopped before. In the last three cases its first entries were taken.
 abbrev pub IsAnswer : Game → (a a' : AuditState) → (log : ℕ) → Option (List ℕ) → LogTaken → Type 0
 IsAnswer game a a' log content Whole = IsThere content (IsTaken game a a' log)
-IsAnswer game a a' log content (Bad at why) = IsThere content (λ bytes. log_fault game bytes ≡ Some (at, why)) × IsTakenInPart a a' log (file_entries game content)
+IsAnswer game a a' log content (Bad at why) = IsThere content (λ bytes. log_fault game bytes ≡ Some (fault_at at why)) × IsTakenInPart a a' log (file_entries game content)
 IsAnswer game a a' log content Failed = IsTakenInPart a a' log (file_entries game content)
 IsAnswer game a a' log content Memory = IsTakenInPart a a' log (file_entries game content)
 

@@ -11,12 +11,13 @@ ghost use Rattle.log_files.specs.Logs.{fault_of};
 ghost use Rattle.log_files.specs.Taken.{IsTaken, IsUntaken};
 ghost use Rattle.log_files.specs.Audited as A;
 
+use crate::faults::too_long;
 use crate::text::LogText;
 use auditor::{Auditor, Exhibit, Finding, MOST_LOGS, Report};
 use definitions::LogWhy;
 use definitions::limits::LONGEST_LOG;
 use grid_world::Session;
-use session_log::{LogFeed, Next};
+use session_log::{LogFault, LogFeed};
 use std::alloc::{AllocError, Global};
 
 /// Why there is no report.
@@ -30,27 +31,26 @@ pub enum AuditFault {
     Memory,
 }
 
+impl AuditFault {
+    /// The fault as one of the log of this number.
+    fn of(log: u32, fault: LogFault) -> AuditFault
+        ensures { result ≡ A.of_fault log fault }
+    {
+        AuditFault::BadLog {
+            log,
+            at: fault.at,
+            why: fault.why,
+        }
+    }
+}
+
 /// The answer where the log of this number ends so.
-fn ended_so(log: u32, end: Next) -> Result<(), AuditFault>
+fn ended_so(log: u32, end: Result<(), LogFault>) -> Result<(), AuditFault>
     ensures { result ≡ A.ended_by log (fault_of end) }
 {
     match end {
-        Next::Entry(_) | Next::End => Ok(()),
-        Next::Torn(at) => Err(AuditFault::BadLog {
-            log,
-            at,
-            why: LogWhy::Torn,
-        }),
-        Next::BadChain(at) => Err(AuditFault::BadLog {
-            log,
-            at,
-            why: LogWhy::BadChain,
-        }),
-        Next::BadEntry(at) => Err(AuditFault::BadLog {
-            log,
-            at,
-            why: LogWhy::BadEntry,
-        }),
+        Ok(()) => Ok(()),
+        Err(fault) => Err(AuditFault::of(log, fault)),
     }
 }
 
@@ -70,15 +70,11 @@ fn take_text(
     ensures others { LeavesOthers auditor.old auditor.new log }
 {
     if text.len() > LONGEST_LOG {
-        return Err(AuditFault::BadLog {
-            log,
-            at: LONGEST_LOG as u32,
-            why: LogWhy::TooLong,
-        });
+        return Err(AuditFault::of(log, too_long()));
     }
     let mut feed = LogFeed::new(session);
     match auditor.take_bytes(log, &mut feed, text) {
-        Ok(()) => ended_so(log, feed.finish()),
+        Ok(()) => ended_so(log, feed.ending()),
         Err(_) => Err(AuditFault::Memory),
     }
 }

@@ -39,6 +39,7 @@
 #![tactic(auto)]
 
 mod audits;
+mod faults;
 pub mod laws;
 mod pieces;
 mod several;
@@ -48,6 +49,7 @@ mod text;
 pub use auditor::{Auditor, Exhibit, Finding, MOST_LOGS, PlayerId, Report, WorldLine};
 pub use audits::{AuditFault, audit, exhibit};
 pub use definitions::LogWhy;
+pub use session_log::LogFault;
 pub use several::{LogsTaken, take_logs};
 pub use taking::{LogTaken, take_log};
 pub use text::LogText;

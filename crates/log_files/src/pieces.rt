@@ -4,27 +4,17 @@ ghost use Rattle.std.specs.Prelude.{◌≡◌, ◌<◌, ◌≤◌, ◌+◌, leng
 ghost use Rattle.auditor.specs.Taking.{IsFeeding, LeavesOthers};
 ghost use Rattle.log_files.specs.Pieces.{TakesPiece};
 
+use crate::faults::{FileFault, too_long};
 use auditor::{Auditor, MOST_LOGS};
 use definitions::limits::{LOG_FRONT, LONGEST_LOG};
 use session_log::LogFeed;
 use station::{Pull, Shelf};
 
-/// What a call for a piece of a log's file came to.
-#[derive(Clone, Copy)]
-pub(crate) enum PieceTurn {
-    /// It gave so many bytes, and they were taken.
-    More(usize),
-    /// The file has ended.
-    End,
-    /// With these bytes the file has more than a log may have.
-    TooLong,
-    /// The shelf failed.
-    Failed,
-    /// The auditor had no memory.
-    Memory,
-}
-
-/// Asks for the bytes of a log's file from this place on, as many as the buffer has room for, and takes them.
+/// Asks for the bytes of a log's file from this place on, as many as the buffer has room for, and
+/// takes them. It says how many they were, or None where the file has ended.
+///
+/// Bad comes where with these bytes the file has more than a log may have, Failed where the shelf
+/// failed, and Memory where the auditor had none.
 pub(crate) fn take_piece<H: Shelf>(
     shelf: &mut H,
     name: &[u8],
@@ -33,7 +23,7 @@ pub(crate) fn take_piece<H: Shelf>(
     feed: &mut LogFeed,
     at: usize,
     buf: &mut [u8],
-) -> PieceTurn
+) -> Result<Option<usize>, FileFault>
     requires log { log < MOST_LOGS }
     requires room { 0 < length buf.old }
     requires few { at + length buf.old ≤ LOG_FRONT }
@@ -44,15 +34,15 @@ pub(crate) fn take_piece<H: Shelf>(
     ensures others { LeavesOthers auditor.old auditor.new log }
 {
     match shelf.read_at(name, at as u64, buf) {
-        Pull::Failed => PieceTurn::Failed,
-        Pull::Ended => PieceTurn::End,
+        Pull::Failed => Err(FileFault::Failed),
+        Pull::Ended => Ok(None),
         Pull::Took(count) => {
             if count > LONGEST_LOG - at {
-                return PieceTurn::TooLong;
+                return Err(FileFault::Bad(too_long()));
             }
             match auditor.take_bytes(log, feed, &buf[..count]) {
-                Ok(()) => PieceTurn::More(count),
-                Err(_) => PieceTurn::Memory,
+                Ok(()) => Ok(Some(count)),
+                Err(_) => Err(FileFault::Memory),
             }
         }
     }

@@ -1,13 +1,14 @@
 //! Several logs, each from its file.
 
 ghost use Rattle.std.specs.Prelude.{◌≡◌, ◌<◌, ◌≤◌, ◌+◌, ℕ, length, map};
-ghost use Rattle.log_files.specs.Several.{TakesFiles};
+ghost use Rattle.log_files.specs.Several.{TakesFiles, stopped_by};
 ghost use Rattle.log_files.specs.Taken.{IsUntaken};
 
-use crate::taking::{LogTaken, take_log};
+use crate::faults::FileFault;
+use crate::taking::take_file;
 use auditor::{Auditor, MOST_LOGS};
-use definitions::LogWhy;
 use grid_world::Session;
+use session_log::LogFault;
 use station::Shelf;
 
 /// What became of the files of several logs.
@@ -15,12 +16,25 @@ use station::Shelf;
 pub enum LogsTaken {
     /// All of them are logs, and were taken.
     Whole,
-    /// The log of this number is the first that is none, and why, as for one log.
-    Bad { log: u32, at: u32, why: LogWhy },
+    /// The log of this number is the first that is none: this is its first fault, as for one log.
+    Bad { log: u32, fault: LogFault },
     /// The shelf failed, before a file that is no log was found.
     Failed,
     /// The auditor's allocator had no memory, before a file that is no log was found.
     Memory,
+}
+
+impl LogsTaken {
+    /// The answer where the file of the log of this number wasn't taken whole.
+    fn of(log: u32, fault: FileFault) -> LogsTaken
+        ensures { result ≡ stopped_by log fault }
+    {
+        match fault {
+            FileFault::Bad(fault) => LogsTaken::Bad { log, fault },
+            FileFault::Failed => LogsTaken::Failed,
+            FileFault::Memory => LogsTaken::Memory,
+        }
+    }
 }
 
 /// Reads the files of these names, one behind the other and each from its front to its end, and takes them as the logs from this number
@@ -43,15 +57,9 @@ pub fn take_logs<H: Shelf>(
     match names {
         [] => LogsTaken::Whole,
         [name, rest @ ..] => {
-            match take_log(shelf, name.as_slice(), session, auditor, number, buf) {
-                LogTaken::Whole => take_logs(shelf, rest, session, auditor, number + 1, buf),
-                LogTaken::Bad { at, why } => LogsTaken::Bad {
-                    log: number,
-                    at,
-                    why,
-                },
-                LogTaken::Failed => LogsTaken::Failed,
-                LogTaken::Memory => LogsTaken::Memory,
+            match take_file(shelf, name.as_slice(), session, auditor, number, buf) {
+                Ok(()) => take_logs(shelf, rest, session, auditor, number + 1, buf),
+                Err(fault) => LogsTaken::of(number, fault),
             }
         }
     }

@@ -1,15 +1,16 @@
 //! A log from its file.
 
 ghost use Rattle.std.specs.Prelude.{◌≡◌, ◌<◌, ◌≤◌, length};
-ghost use Rattle.log_files.specs.Logs.{fault_of, taken_by};
+ghost use Rattle.log_files.specs.Logs.{taken_of};
 ghost use Rattle.log_files.specs.Taken.{IsUntaken, TakesLog};
 
-use crate::pieces::{PieceTurn, take_piece};
+use crate::faults::FileFault;
+use crate::pieces::take_piece;
 use auditor::{Auditor, MOST_LOGS};
 use definitions::LogWhy;
-use definitions::limits::{LOG_FRONT, LONGEST_LOG};
+use definitions::limits::LOG_FRONT;
 use grid_world::Session;
-use session_log::{LogFeed, Next};
+use session_log::LogFeed;
 use station::Shelf;
 
 /// What became of a log's file.
@@ -27,24 +28,32 @@ pub enum LogTaken {
     Memory,
 }
 
-/// The answer where the file ended, and the log so.
-fn taken_at(end: Next) -> LogTaken
-    ensures { result ≡ taken_by (fault_of end) }
+/// Does what [`take_log`] does, and says why the file wasn't taken whole, where it wasn't.
+pub(crate) fn take_file<H: Shelf>(
+    shelf: &mut H,
+    name: &[u8],
+    session: &Session,
+    auditor: &mut Auditor,
+    log: u32,
+    buf: &mut [u8],
+) -> Result<(), FileFault>
+    requires log { log < MOST_LOGS }
+    requires room { 0 < length buf.old }
+    requires session { auditor.old.session ≡ session.now }
+    requires untaken { IsUntaken auditor.old log }
+    ensures { TakesLog session.now (H.state shelf.old) (H.state shelf.new) name.now auditor.old auditor.new log (taken_of result) }
 {
-    match end {
-        Next::Entry(_) | Next::End => LogTaken::Whole,
-        Next::Torn(at) => LogTaken::Bad {
-            at,
-            why: LogWhy::Torn,
-        },
-        Next::BadChain(at) => LogTaken::Bad {
-            at,
-            why: LogWhy::BadChain,
-        },
-        Next::BadEntry(at) => LogTaken::Bad {
-            at,
-            why: LogWhy::BadEntry,
-        },
+    let mut feed = LogFeed::new(session);
+    let mut at = 0;
+    'pieces: loop {
+        let room = buf.len().min(LOG_FRONT - at);
+        match take_piece(shelf, name, auditor, log, &mut feed, at, &mut buf[..room])? {
+            Some(count) => at += count,
+            None => {
+                feed.ending()?;
+                return Ok(());
+            }
+        }
     }
 }
 
@@ -70,21 +79,13 @@ pub fn take_log<H: Shelf>(
     requires untaken { IsUntaken auditor.old log }
     ensures { TakesLog session.now (H.state shelf.old) (H.state shelf.new) name.now auditor.old auditor.new log result }
 {
-    let mut feed = LogFeed::new(session);
-    let mut at = 0;
-    'pieces: loop {
-        let room = buf.len().min(LOG_FRONT - at);
-        match take_piece(shelf, name, auditor, log, &mut feed, at, &mut buf[..room]) {
-            PieceTurn::More(count) => at += count,
-            PieceTurn::End => return taken_at(feed.finish()),
-            PieceTurn::TooLong => {
-                return LogTaken::Bad {
-                    at: LONGEST_LOG as u32,
-                    why: LogWhy::TooLong,
-                };
-            }
-            PieceTurn::Failed => return LogTaken::Failed,
-            PieceTurn::Memory => return LogTaken::Memory,
-        }
+    match take_file(shelf, name, session, auditor, log, buf) {
+        Ok(()) => LogTaken::Whole,
+        Err(FileFault::Bad(fault)) => LogTaken::Bad {
+            at: fault.at,
+            why: fault.why,
+        },
+        Err(FileFault::Failed) => LogTaken::Failed,
+        Err(FileFault::Memory) => LogTaken::Memory,
     }
 }

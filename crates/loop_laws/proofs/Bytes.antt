@@ -4,7 +4,7 @@ use Rattle.std.specs.Prelude.{◌==◌, flat_map, if◌then◌else◌}
 use Rattle.std.specs.List.{fold}
 use Rattle.wire_frames.specs.declared.frames.Frame.{Frame}
 use Rattle.wire_frames.specs.Reading.{Reading}
-use Rattle.wire_frames.specs.Streams.{Stream, stream_of, given_of, given_over}
+use Rattle.wire_frames.specs.Streams.{Stream, end_of, stream_of, given_of, given_over}
 use Rattle.wire_frames.proofs.Pieces.{pieces_same}
 use Rattle.socket_station.specs.Items.{Item, Listening, LogBegun, Dialled, Polled, Took, Gave, ReadNotYet, WriteNotYet, Ended, Failed, Shut, Kept, Synced}
 use Rattle.socket_station.specs.Moved.{taken_in, gave_at, given_in}
@@ -51,6 +51,10 @@ over_append r [] ys = refl
 over_append r (x ∷ xs) ys =
     let g = given_of r x in
     ap (λ (z : List Frame). g.frames ++ z) (over_append g.reader xs ys) ∙ sym (append_assoc g.frames (given_over g.reader xs).frames (given_over (given_over g.reader xs).reader ys).frames)
+
+over_reader : (r : Reading) (xs ys : List (List ℕ)) → (given_over r (xs ++ ys)).reader ≡ (given_over (given_over r xs).reader ys).reader
+over_reader r [] ys = refl
+over_reader r (x ∷ xs) ys = over_reader (given_of r x).reader xs ys
 
 -- what one item adds
 abbrev pub Adds : (socket : ℕ) → Facts → Item → (after : Facts) → Type 0
@@ -119,3 +123,13 @@ facts_dialled n items = dialled_from n no_facts items
 pub facts_came : (n : ℕ) (items : List Item) → (facts_in n items).came ≡ came_on n items
 facts_came n items =
     came_from n no_facts items ∙ ap (λ (x : Stream). x.frames) (pieces_same (pieces_on n items)) ∙ ap (λ (x : List ℕ). (stream_of x).frames) (pieces_flat n items)
+
+reader_from : (n : ℕ) (facts : Facts) (items : List Item) → (fold (facts_after n) facts items).reader ≡ (given_over facts.reader (pieces_on n items)).reader
+reader_from n facts [] = refl
+reader_from n facts (item ∷ items) =
+    reader_from n (facts_after n facts item) items ∙ ap (λ (r : Reading). (given_over r (pieces_on n items)).reader) (adds n facts item).3 ∙ sym (over_reader facts.reader (piece_at n item) (pieces_on n items))
+
+-- and how the stream ends so far
+pub facts_ends : (n : ℕ) (items : List Item) → end_of (facts_in n items).reader ≡ (stream_of (taken_in n items)).ends
+facts_ends n items =
+    ap end_of (reader_from n no_facts items) ∙ ap (λ (x : Stream). x.ends) (pieces_same (pieces_on n items)) ∙ ap (λ (x : List ℕ). (stream_of x).ends) (pieces_flat n items)

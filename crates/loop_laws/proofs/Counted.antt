@@ -58,18 +58,18 @@ use Rattle.loop_laws.proofs.Steps.{asks_link, counted_lines, facts_after, links_
 -- ---- the seats' counts
 
 -- so it is of each player and its count
-abbrev CountedBy : (ℕ → ℕ → Type 0) → List Seat → Type 0
+abbrev pub CountedBy : (ℕ → ℕ → Type 0) → List Seat → Type 0
 CountedBy R seats = EachIs (λ c. R c.link.player c.given) seats
 
 counts_weaker : (R Q : ℕ → ℕ → Type 0) (cs : List Seat) → ((q g : ℕ) → R q g → Q q g) → CountedBy R cs → CountedBy Q cs
 counts_weaker R Q [] k each = tt
 counts_weaker R Q (c ∷ cs) k each = (k c.link.player c.given each.0, counts_weaker R Q cs k each.1)
 
-counts_mapped : (R : ℕ → ℕ → Type 0) (g : Seat → Seat) (cs : List Seat) → ((c : Seat) → R c.link.player c.given → R (g c).link.player (g c).given) → CountedBy R cs → CountedBy R (map g cs)
+pub counts_mapped : (R : ℕ → ℕ → Type 0) (g : Seat → Seat) (cs : List Seat) → ((c : Seat) → R c.link.player c.given → R (g c).link.player (g c).given) → CountedBy R cs → CountedBy R (map g cs)
 counts_mapped R g [] k each = tt
 counts_mapped R g (c ∷ cs) k each = (k c each.0, counts_mapped R g cs k each.1)
 
-counts_at : (R : ℕ → ℕ → Type 0) (q : ℕ) (change : Seat → Seat) (cs : List Seat) → ((c : Seat) → c.link.player ≡ q → R c.link.player c.given → R (change c).link.player (change c).given) →
+pub counts_at : (R : ℕ → ℕ → Type 0) (q : ℕ) (change : Seat → Seat) (cs : List Seat) → ((c : Seat) → c.link.player ≡ q → R c.link.player c.given → R (change c).link.player (change c).given) →
     CountedBy R cs → CountedBy R (in_seats q change cs)
 counts_at R q change cs k each = counts_mapped R (λ c. if c.link.player == q then change c else c) cs (λ c. go c (c.link.player == q) refl) each
   where
@@ -77,7 +77,7 @@ counts_at R q change cs k each = counts_mapped R (λ c. if c.link.player == q th
     go c true e r = k c (eqb-true c.link.player q e) r
     go c false e r = r
 
-count_found : (R : ℕ → ℕ → Type 0) (q : ℕ) (cs : List Seat) (c : Seat) → CountedBy R cs → find (λ x. x.link.player == q) cs ≡ Some c → R c.link.player c.given
+pub count_found : (R : ℕ → ℕ → Type 0) (q : ℕ) (cs : List Seat) (c : Seat) → CountedBy R cs → find (λ x. x.link.player == q) cs ≡ Some c → R c.link.player c.given
 count_found R q [] c each e = absurd (cc)
 count_found R q (d ∷ cs) c each e = go (d.link.player == q) e (count_found R q cs c each.1)
   where
@@ -270,7 +270,7 @@ counts_counted : (R : ℕ → ℕ → Type 0) (o : Option ℕ) (count : ℕ) (t 
 counts_counted R None count t k = k
 counts_counted R (Some q) count t k = counts_at R q (spends count) t.seats (λ c e r. r) k
 
-seat_found : (L : Link → Type 0) (q : ℕ) (cs : List Seat) (c : Seat) → find (λ x. x.link.player == q) cs ≡ Some c → c.link.player ≡ q
+pub seat_found : (L : Link → Type 0) (q : ℕ) (cs : List Seat) (c : Seat) → find (λ x. x.link.player == q) cs ≡ Some c → c.link.player ≡ q
 seat_found L q [] c e = absurd (cc)
 seat_found L q (d ∷ cs) c e = go (d.link.player == q) refl e (seat_found L q cs c)
   where

@@ -15,3 +15,7 @@ mod Paid
 mod Dials
 mod Strangers
 mod Computed
+pub mod Tallied
+mod Redialled
+mod Asked
+mod Shutting

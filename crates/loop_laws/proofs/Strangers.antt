@@ -49,7 +49,7 @@ use Rattle.loop_laws.proofs.Given.{Knows, fresh_before, knows_in, opening_fresh,
 use Rattle.loop_laws.proofs.Handled.{fewer_new}
 
 -- a line without a name counts so many bytes
-abbrev Counts : ℕ → Line → Type 0
+abbrev pub Counts : ℕ → Line → Type 0
 Counts k l = l.name ≡ None → l.taken ≡ k
 
 moved_counts : (k place : ℕ) (l : Line) → Counts k l → Counts k (moved_to place l)
@@ -246,10 +246,10 @@ front_none (x ∷ xs) ys e = absurd (let y : x ∷ (xs ++ ys) ≡ [] = e in cc)
 
 -- ---- the whole history
 
-record Short (s : Setting) (n : ℕ) (items : List Item) : Type 0 where
-  counts : IfLine (Counts (length (taken_in n items))) (line_in n (view_of s items).table.lines)
-  few : came_on n items ≡ [] → length (taken_in n items) ≤ HELLO_BYTES
-  empty : standing_in items n ≡ Fresh → taken_in n items ≡ []
+pub record Short (s : Setting) (n : ℕ) (items : List Item) : Type 0 where
+  pub counts : IfLine (Counts (length (taken_in n items))) (line_in n (view_of s items).table.lines)
+  pub few : came_on n items ≡ [] → length (taken_in n items) ≤ HELLO_BYTES
+  pub empty : standing_in items n ≡ Fresh → taken_in n items ≡ []
 
 few_next : (s : Setting) (n : ℕ) (items : List Item) (item : Item) → Knows s n items → is_allowed (view_of s items) item ≡ true → Short s n items → came_on n items ≡ [] →
     length (taken_in n items) + length (took_at n item) ≤ HELLO_BYTES
@@ -326,3 +326,6 @@ strangers_are_short s front more n bytes new h none =
     let long : length (taken_in n (front ++ item ∷ [])) ≡ length (taken_in n front) + length (took_at n item) =
     ap (λ (x : List ℕ). length x) (taken-more n front item) ∙ length-append (taken_in n front) (took_at n item) in
     subst (λ (x : ℕ). x ≤ HELLO_BYTES) (sym long) (few_next s n front item (knows_in s n front fewer history) (items_are_allowed s front more item h) short none)
+
+pub short_in : (s : Setting) (n : ℕ) (items : List Item) → SocketsAreNew items → IsHistory s items → Short s n items
+short_in s n items new h = short_items s n [] items new h (record { counts = tt; few = λ e. omega arith; empty = λ e. refl })

@@ -1,5 +1,6 @@
 -- Laws: what each history says, by its items alone.
-use Rattle.std.specs.Prelude.{◌≡◌, ◌⊎◌, ◌<◌, ◌≤◌, ℕ, length, List, [], ◌∷◌, ◌++◌, Some, flat_map}
+use Rattle.std.specs.Prelude.{◌≡◌, ◌⊎◌, ◌<◌, ◌+◌, ◌≤◌, ℕ, length, List, [], ◌∷◌, ◌++◌, Some, flat_map}
+use Rattle.std.specs.List.{count_by}
 use Rattle.definitions.specs.Lists.{EachIs}
 use Rattle.definitions.specs.declared.logs.Entry.{Entry}
 use Rattle.definitions.specs.Logs.{made}
@@ -8,7 +9,7 @@ use Rattle.wire_frames.specs.declared.frames.Frame.TheVariants.{Hello}
 use Rattle.wire_frames.specs.Spelling.{spelling}
 use Rattle.session_log.specs.Spelling.{log_bytes}
 use Rattle.socket_station.specs.declared.answers.Addr.{Addr}
-use Rattle.socket_station.specs.Items.{Item, Dialled, Took, Gave, ReadNotYet, Synced, WriteNotYet}
+use Rattle.socket_station.specs.Items.{Item, Dialled, Took, Gave, ReadNotYet, Shut, Synced, WriteNotYet}
 use Rattle.socket_station.specs.Moved.{given_in, kept_in, synced_in, taken_in}
 use Rattle.socket_lines.specs.declared.limits.TheConstants.{HELLO_BYTES}
 use Rattle.socket_lines.specs.declared.seat.Seat.{Seat}
@@ -17,12 +18,14 @@ use Rattle.loop_rules.specs.Tables.{seat_of}
 use Rattle.loop_rules.specs.After.{view_of}
 use Rattle.loop_rules.specs.Histories.{IsHistory}
 use Rattle.loop_laws.specs.Sockets.{SocketsAreNew, came_on, dialled_for}
-use Rattle.loop_laws.specs.Speaking.{Speaks}
+use Rattle.loop_laws.specs.Speaking.{IsAsked, Speaks}
 use Rattle.loop_laws.specs.Handling.{GoesOn, Handles, turns_of}
 use Rattle.loop_laws.specs.Counting.{IsReachedOn}
 use Rattle.loop_laws.specs.Listing.{IsRead, IsWrite, Lists, SomeIs}
 use Rattle.loop_laws.specs.Dialling.{IsDialFor, IsPoll, IsToBeDialled}
 use Rattle.loop_laws.specs.Paying.{Closes, IsKept, Touches}
+use Rattle.loop_laws.specs.Causes.{HasCause, IsReadUp}
+use Rattle.loop_laws.specs.Tallies.{all_given, all_taken, is_closing, is_dial, is_give, is_idle_read, is_idle_write, is_keep, is_listing, is_poll, is_sync, is_take}
 
 -- The bytes given on the socket are the first ones of these frames' spellings, one after the
 -- other, where the own frames are those of the log that was kept and then synced.
@@ -92,6 +95,16 @@ CountsAreReached = (s : Setting) (items : List Item) (q : ℕ) (c : Seat) → So
     IsHistory s items → seat_of (view_of s items).table q ≡ Some c →
     CountIsReached s items q c.given
 
+-- The count of a player is at least each place that it asked for on a socket, by its HELLO or by a
+-- WANT, where further bytes were taken there after that. So it is from then on.
+abbrev pub AskedAreCounted : Type 0
+AskedAreCounted = (s : Setting) (before more : List Item) (socket q place : ℕ) (bytes id pass : List ℕ)
+    (next : ℕ) (rest : List Frame) (c : Seat) →
+    SocketsAreNew (before ++ Took socket bytes ∷ more) →
+    IsHistory s (before ++ Took socket bytes ∷ more) →
+    came_on socket before ≡ Hello id q pass next ∷ rest → IsAsked (came_on socket before) place →
+    seat_of (view_of s (before ++ Took socket bytes ∷ more)).table q ≡ Some c → place ≤ c.given
+
 -- where bytes are taken, or given, there is one at least
 abbrev pub TakesHaveBytes : Type 0
 TakesHaveBytes = (s : Setting) (before more : List Item) (socket : ℕ) (bytes : List ℕ) →
@@ -125,6 +138,14 @@ DialsHavePolls = (s : Setting) (before between more : List Item) (q : ℕ) (item
     IsHistory s (before ++ item ∷ (between ++ next ∷ more)) →
     IsDialFor q item → IsDialFor q next → SomeIs IsPoll between
 
+-- where a player is dialled again, each socket that was dialled for it before ended, was shut or
+-- failed meanwhile
+abbrev pub DialsFindNone : Type 0
+DialsFindNone = (s : Setting) (before between more : List Item) (socket q : ℕ) (addr : Addr) (next : Item) →
+    SocketsAreNew (before ++ Dialled socket q addr ∷ (between ++ next ∷ more)) →
+    IsHistory s (before ++ Dialled socket q addr ∷ (between ++ next ∷ more)) → IsDialFor q next →
+    SomeIs (Closes socket) between
+
 -- until a frame came on a socket, and with the piece that brings one, no more bytes are taken
 -- there than a HELLO has
 abbrev pub StrangersAreShort : Type 0
@@ -132,3 +153,47 @@ StrangersAreShort = (s : Setting) (before more : List Item) (socket : ℕ) (byte
     SocketsAreNew (before ++ Took socket bytes ∷ more) →
     IsHistory s (before ++ Took socket bytes ∷ more) → came_on socket before ≡ [] →
     length (taken_in socket (before ++ Took socket bytes ∷ [])) ≤ HELLO_BYTES
+
+-- a socket is shut for an item that is the cause, or since all was read that may be
+abbrev pub ShutsHaveCauses : Type 0
+ShutsHaveCauses = (s : Setting) (before more : List Item) (socket : ℕ) →
+    SocketsAreNew (before ++ Shut socket ∷ more) → IsHistory s (before ++ Shut socket ∷ more) →
+    HasCause s before socket ⊎ IsReadUp s before socket
+
+-- ---- how often items of each kind come
+
+-- no more pieces are taken than bytes came in them, and no more are given than bytes
+abbrev pub TakesAreFew : Type 0
+TakesAreFew = (s : Setting) (items : List Item) → IsHistory s items →
+    count_by is_take items ≤ length (all_taken items)
+
+abbrev pub GivesAreFew : Type 0
+GivesAreFew = (s : Setting) (items : List Item) → IsHistory s items →
+    count_by is_give items ≤ length (all_given items)
+
+-- there is no more than one sync beyond the entries that were kept
+abbrev pub SyncsAreFew : Type 0
+SyncsAreFew = (s : Setting) (items : List Item) → IsHistory s items →
+    count_by is_sync items ≤ count_by is_keep items + 1
+
+-- no more than one read of a socket finds nothing beyond the polls that list it
+abbrev pub IdleReadsAreFew : Type 0
+IdleReadsAreFew = (s : Setting) (items : List Item) (socket : ℕ) → SocketsAreNew items →
+    IsHistory s items →
+    count_by (is_idle_read socket) items ≤ count_by (is_listing socket) items + 1
+
+-- nor is a write refused more often
+abbrev pub IdleWritesAreFew : Type 0
+IdleWritesAreFew = (s : Setting) (items : List Item) (socket : ℕ) → SocketsAreNew items →
+    IsHistory s items →
+    count_by (is_idle_write socket) items ≤ count_by (is_listing socket) items + 1
+
+-- a socket ends, is shut or fails once at most
+abbrev pub ClosingsAreFew : Type 0
+ClosingsAreFew = (s : Setting) (items : List Item) (socket : ℕ) → SocketsAreNew items →
+    IsHistory s items → count_by (is_closing socket) items ≤ 1
+
+-- a player is dialled no more than once beyond the polls
+abbrev pub DialsAreFew : Type 0
+DialsAreFew = (s : Setting) (items : List Item) (q : ℕ) → IsHistory s items →
+    count_by (is_dial q) items ≤ count_by is_poll items + 1

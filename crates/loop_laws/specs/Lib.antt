@@ -5,5 +5,7 @@ pub mod Listing
 pub mod Counting
 pub mod Paying
 pub mod Dialling
+pub mod Tallies
+pub mod Causes
 pub mod Laws
 pub mod Worked

@@ -1,6 +1,6 @@
 //! Laws of histories, by their items alone: functions that do nothing, whose clauses are proved.
 
-ghost use Rattle.loop_laws.specs.Laws.{FramesAreGiven, FramesAreHandled, ReadsAreListed, WritesAreListed, CountsAreReached, TakesHaveBytes, GivesHaveBytes, SyncsHaveEntries, ClosingsAreLast, DialsAreWanted, DialsHavePolls, StrangersAreShort};
+ghost use Rattle.loop_laws.specs.Laws.{FramesAreGiven, FramesAreHandled, ReadsAreListed, WritesAreListed, CountsAreReached, AskedAreCounted, TakesHaveBytes, GivesHaveBytes, SyncsHaveEntries, ClosingsAreLast, DialsAreWanted, DialsHavePolls, DialsFindNone, StrangersAreShort, TakesAreFew, GivesAreFew, SyncsAreFew, IdleReadsAreFew, IdleWritesAreFew, ClosingsAreFew, DialsAreFew, ShutsHaveCauses};
 
 /// The bytes given on a socket are a front of frames that are spelled one after the other: an own
 /// HELLO, then WANT frames and own frames of the log, in the order of their places. None but the
@@ -25,9 +25,11 @@ pub fn sockets_are_listed()
 
 /// The own frames that count as given to a player are those below a place that it asked for, or
 /// up to one that was wholly given to it, each on a socket that its pass had named. `Loop::given`
-/// answers by this count.
+/// answers by this count. And it reaches each place that the player asked for on a socket of its
+/// own, before the last piece that was taken there.
 pub fn counts_are_reached()
-    ensures { CountsAreReached }
+    ensures reached { CountsAreReached }
+    ensures asked { AskedAreCounted }
 {}
 
 /// Each kind of item comes only so often. Where bytes are taken or given there is one at least,
@@ -42,14 +44,38 @@ pub fn items_are_paid_for()
 {}
 
 /// A player is dialled that the roster has above the own one, at its address, and once for each
-/// poll.
+/// poll. No socket that was dialled for it is open then. The rules want the same of a socket that
+/// its HELLO named. One that was accepted and isn't named yet doesn't count.
 pub fn dials_have_causes()
     ensures wanted { DialsAreWanted }
     ensures polls { DialsHavePolls }
+    ensures sockets { DialsFindNone }
 {}
 
 /// Until a frame came on a socket, and with the piece that brings one, no more bytes are taken
 /// there than a HELLO has. So no frame comes in one piece with a HELLO.
 pub fn strangers_are_short()
     ensures { StrangersAreShort }
+{}
+
+/// How many items a history has is bounded by what came, by what was due and by the polls. No more
+/// pieces are taken or given than bytes, and no more syncs are made than entries are kept, and one.
+/// A read in vain or a refused write comes on each socket once, and once for each poll that lists
+/// it. A socket ends once, and a player is dialled once, and once for each poll.
+pub fn items_are_few()
+    ensures takes { TakesAreFew }
+    ensures gives { GivesAreFew }
+    ensures syncs { SyncsAreFew }
+    ensures reads { IdleReadsAreFew }
+    ensures writes { IdleWritesAreFew }
+    ensures closings { ClosingsAreFew }
+    ensures dials { DialsAreFew }
+{}
+
+/// A socket is shut only where an item is the cause, or where all was read of it that may be. Such
+/// an item is a poll that opened it, with which more were opened than are accepted. Or it is a
+/// piece that came on it with a bad byte, with no HELLO that names its player, a further HELLO, or
+/// a frame of another player; or a piece that named another socket as its player.
+pub fn shuts_have_causes()
+    ensures { ShutsHaveCauses }
 {}

@@ -3,12 +3,14 @@ use Rattle.std.proofs.Common.{Bool, List, None, Option, Some, [], false, refl, s
 use Rattle.std.specs.Prelude.{Ok, Result, if◌then◌else◌, nat_lt, length, ◌&&◌}
 use Rattle.definitions.specs.declared.logs.Entry.{Entry}
 use Rattle.definitions.specs.declared.logs.LogWhy.TheVariants.{NotReplayed, TooLong}
+use Rattle.session_log.specs.declared.faults.LogFault.{LogFault}
+use Rattle.session_log.specs.Reading.{fault_at}
 use Rattle.definitions.specs.World.{Game}
 use Rattle.definitions.specs.Honest.{IsHonest, allowed, honest_from}
 use Rattle.definition_laws.proofs.ForPeers.{honest_empty}
 use Rattle.run_frame.specs.declared.statuses.Status.{Status}
 use Rattle.peer_core.specs.Resuming.{first_not_replayed}
-use Rattle.old_log.specs.Old.{Fault, breach, is_anothers, old_entries, old_fault, old_owner}
+use Rattle.old_log.specs.Old.{breach, is_anothers, old_entries, old_fault, old_owner}
 use Rattle.definitions.specs.declared.limits.TheConstants.{LONGEST_LOG}
 use Rattle.old_log.specs.Beginnings.{Beginning}
 use Rattle.old_log.specs.Begun.{begun, empty_beginning, log_front_of, old_beginning}
@@ -35,10 +37,10 @@ old_honest game me bytes e =
     all_allowed game me [] (old_entries game bytes)
     (no_breach game me (old_entries game bytes) (first_not_replayed game me [] (old_entries game bytes)) (go (nat_lt LONGEST_LOG (length bytes)) (is_anothers me (old_owner game bytes) (old_entries game bytes)) e))
   where
-    rest : Option Fault
+    rest : Option LogFault
     rest = breach game me (old_entries game bytes) (first_not_replayed game me [] (old_entries game bytes))
 
-    go : (a b : Bool) → (if a then Some (record { at = LONGEST_LOG; why = TooLong }) else if b then Some (record { at = 1; why = NotReplayed }) else rest) ≡ None → rest ≡ None
+    go : (a b : Bool) → (if a then Some (fault_at LONGEST_LOG TooLong) else if b then Some (fault_at 1 NotReplayed) else rest) ≡ None → rest ≡ None
     go true b e = cc
     go false true e = cc
     go false false e = e
@@ -51,7 +53,7 @@ pub record IsBegun (game : Game) (player : ℕ) (b : Beginning) : Type 0 where
 same_beginning : (a b : Beginning) → (let r : Result Beginning Status = Ok a in r ≡ Ok b) → a ≡ b
 same_beginning a b e = cc
 
-by_fault : (game : Game) (player : ℕ) (bytes : List ℕ) (b : Beginning) (fault : Option Fault) → old_fault game player bytes ≡ fault → old_beginning game bytes fault ≡ Ok b → IsBegun game player b
+by_fault : (game : Game) (player : ℕ) (bytes : List ℕ) (b : Beginning) (fault : Option LogFault) → old_fault game player bytes ≡ fault → old_beginning game bytes fault ≡ Ok b → IsBegun game player b
 by_fault game player bytes b None e f =
     subst (λ (b : Beginning). IsBegun game player b) (same_beginning _ b f) (record { game_is = refl; honest = old_honest game player bytes e })
 by_fault game player bytes b (Some x) e f = cc

@@ -2,3 +2,4 @@ pub mod Asking
 pub mod Sizes
 pub mod Fetched
 pub mod BegunSo
+pub mod Owners

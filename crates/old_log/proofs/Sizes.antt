@@ -1,12 +1,14 @@
 -- Sizes: how many bytes the entries of a log have.
 use Rattle.std.proofs.Common.{◌≡◌, ◌⊎◌, inl, inr, ℕ, zero, suc, ◌+◌, ◌≤◌, ◌<◌, List, [], ◌∷◌, ◌++◌, length, take, drop, refl, sym, ◌∙◌, ap, subst, arith, length-append}
 use Rattle.definitions.specs.declared.logs.Entry.{Entry}
+use Rattle.definitions.specs.declared.logs.LogWhy.{LogWhy}
+use Rattle.definitions.specs.declared.logs.LogWhy.TheVariants.{TooLong, Torn, BadChain, BadEntry, NotReplayed}
 use Rattle.definitions.specs.World.{Game}
-use Rattle.session_log.specs.declared.reader.Next.{Next}
-use Rattle.session_log.specs.declared.reader.Next.TheVariants as next
 use Rattle.session_log.specs.Spelling.{chained, entries_bytes, entry_bytes, entry_text, first_chain, log_bytes}
 use Rattle.session_log.specs.Writing.{Writing, all_written, fresh}
-use Rattle.session_log.specs.Laws.{AreBytes, EndsSo, IsLogOf}
+use Rattle.session_log.specs.Laws.{AreBytes, EndsSo, IsFaultAt, IsLogOf}
+use Rattle.session_log.specs.Reading.{Ending}
+use Rattle.std.specs.Prelude.{Ok, Err}
 use Rattle.session_log.proofs.Found.{length-sha256}
 use Rattle.session_log.proofs.Logs.{log_ends, log_written}
 use Rattle.old_log.specs.Old.{old_entries}
@@ -44,9 +46,15 @@ no_more_by id bytes me es rest e =
     let m = length-append (entries_bytes (first_chain id me) es) rest in
     omega arith
 
-no_more : (game : Game) (bytes : List ℕ) (es : List Entry) (last : Next) → EndsSo game bytes es last → (es ≡ []) ⊎ (1 + sizes es ≤ length bytes)
-no_more game bytes es (next.Entry e) h = absurd h
-no_more game bytes es next.End h = of_log es h
+no_more_then : (game : Game) (bytes : List ℕ) (es : List Entry) (at : ℕ) (why : LogWhy) → IsFaultAt game bytes es at why → (es ≡ []) ⊎ (1 + sizes es ≤ length bytes)
+no_more_then game bytes es at TooLong h = absurd h
+no_more_then game bytes es at Torn h = elim h [ inl s ↦ inr (no_more_by game.id bytes s.me es s.rest s.bytes_are) | inr a ↦ inl a.3 ]
+no_more_then game bytes es at BadChain h = inr (no_more_by game.id bytes h.me es h.rest h.bytes_are)
+no_more_then game bytes es at BadEntry h = elim h [ inl s ↦ inr (no_more_by game.id bytes s.me es s.rest s.bytes_are) | inr a ↦ inl a.4 ]
+no_more_then game bytes es at NotReplayed h = absurd h
+
+no_more : (game : Game) (bytes : List ℕ) (es : List Entry) (last : Ending) → EndsSo game bytes es last → (es ≡ []) ⊎ (1 + sizes es ≤ length bytes)
+no_more game bytes es (Ok whole) h = of_log es h
   where
     of_log : (es : List Entry) → IsLogOf game bytes es → (es ≡ []) ⊎ (1 + sizes es ≤ length bytes)
     of_log [] h = inl refl
@@ -54,9 +62,7 @@ no_more game bytes es next.End h = of_log es h
         let l = length-entries_bytes (first_chain game.id h.me) (e ∷ es) in
         let n = ap length h.bytes_are in
         inr (omega arith)
-no_more game bytes es (next.Torn at) h = elim h [ inl s ↦ inr (no_more_by game.id bytes s.me es s.rest s.bytes_are) | inr a ↦ inl a.3 ]
-no_more game bytes es (next.BadChain at) h = inr (no_more_by game.id bytes h.me es h.rest h.bytes_are)
-no_more game bytes es (next.BadEntry at) h = elim h [ inl s ↦ inr (no_more_by game.id bytes s.me es s.rest s.bytes_are) | inr a ↦ inl a.4 ]
+no_more game bytes es (Err fault) h = no_more_then game bytes es fault.at fault.why h
 
 -- the log of the entries before one that was read isn't too long
 pub front_fits : (game : Game) (me i : ℕ) (bytes : List ℕ) (es : List Entry) → AreBytes bytes → length bytes ≤ LONGEST_LOG → es ≡ old_entries game bytes → i < length es →

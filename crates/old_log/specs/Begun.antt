@@ -1,6 +1,7 @@
 -- Begun: the log that a player goes on from, by a file, or how the run ends where it can't. A file that isn't there counts as one without bytes
 -- here; reading it is a fault of the shelf, which is answered where the file is read.
 use Rattle.std.specs.Prelude.{◌≡◌, ℕ, List, [], take, Result, Ok, Err, Option, Some, None, unwrap_or}
+use Rattle.session_log.specs.declared.faults.LogFault.{LogFault}
 use Rattle.definitions.specs.World.{Game}
 use Rattle.definitions.specs.Honest.{IsHonest}
 use Rattle.definitions.specs.declared.limits.TheConstants.{LOG_FRONT}
@@ -9,7 +10,7 @@ use Rattle.run_frame.specs.declared.statuses.Status.{Status}
 use Rattle.run_frame.specs.declared.statuses.Status.TheVariants.{NoMemory, Usage, BadSession, InputFault, BadLog}
 use Rattle.old_log.specs.declared.resuming.Resumed.{Resumed}
 use Rattle.old_log.specs.Beginnings.{Beginning}
-use Rattle.old_log.specs.Old.{Fault, old_entries, dropped_at, old_fault}
+use Rattle.old_log.specs.Old.{old_entries, dropped_at, old_fault}
 
 -- the bytes of a log's file that are read: one more than a log may have, so that a longer one is told from it
 unfoldable pub log_front_of : Option (List ℕ) → List ℕ
@@ -20,7 +21,7 @@ abbrev pub empty_beginning : Game → Beginning
 empty_beginning game = record { game = game; first = []; dropped = None }
 
 -- the log of these bytes, unless the player can't go on from it
-abbrev pub old_beginning : Game → List ℕ → Option Fault → Result Beginning Status
+abbrev pub old_beginning : Game → List ℕ → Option LogFault → Result Beginning Status
 old_beginning game bytes None = Ok (record { game = game; first = old_entries game bytes; dropped = dropped_at game bytes })
 old_beginning game bytes (Some f) = Err (BadLog 0 f.at f.why)
 

@@ -15,9 +15,10 @@ use crate::resuming::{OldFault, Resumed, resume_from};
 use definitions::PlayerId;
 use definitions::limits::LOG_FRONT;
 use grid_world::Session;
-use line_io::{FrontFault, read_front};
+use line_io::read_front;
 use peer_core::Peer;
 use run_frame::{Status, open_session};
+use session_log::LogWriter;
 use station::Shelf;
 use std::alloc::Global;
 
@@ -35,7 +36,11 @@ fn begin_with(
     match resume_from(alloc, session, player, bytes) {
         Ok(resumed) => Ok(resumed),
         Err(OldFault::NoMemory) => Err(Status::NoMemory),
-        Err(OldFault::Bad { at, why }) => Err(Status::BadLog { log: 0, at, why }),
+        Err(OldFault::Bad(fault)) => Err(Status::BadLog {
+            log: 0,
+            at: fault.at,
+            why: fault.why,
+        }),
     }
 }
 
@@ -53,11 +58,8 @@ fn begin_with_file<H: Shelf>(
     ensures due { (content : Option (List ℕ)) → AllGive content (since (H.state shelf.old).pieces (H.state shelf.new).pieces) →
         IsStartFor player (B.begun player session.now (Some content)) result }
 {
-    match read_front(alloc, shelf, name, LOG_FRONT) {
-        Err(FrontFault::NoMemory) => Err(Status::NoMemory),
-        Err(FrontFault::Failed) => Err(Status::InputFault),
-        Ok(bytes) => begin_with(alloc, session, player, bytes.as_slice()),
-    }
+    let bytes = read_front(alloc, shelf, name, LOG_FRONT)?;
+    begin_with(alloc, session, player, bytes.as_slice())
 }
 
 /// A peer with an empty log.
@@ -66,13 +68,13 @@ fn begin_empty(alloc: Global, session: &Session, player: PlayerId) -> Result<Res
     ensures due { IsStartFor player (Ok (B.empty_beginning session.now)) result }
     ensures calm { is_shelf_fault result ≡ false }
 {
-    match Peer::new(alloc, session, player) {
-        Ok(peer) => Ok(Resumed {
-            peer,
-            dropped: None,
-        }),
-        Err(_) => Err(Status::NoMemory),
-    }
+    let peer = Peer::new(alloc, session, player)?;
+    Ok(Resumed {
+        peer,
+        dropped: None,
+        kept: 0,
+        writer: LogWriter::new(session, player),
+    })
 }
 
 /// A peer for the player of the session, counted from 0, that goes on from the log in the file of that name, if
@@ -109,8 +111,6 @@ pub fn open_peer<H: Shelf>(
 ) -> Result<Resumed, Status>
     ensures { OpensPeer (H.state shelf.old) (H.state shelf.new) name.now player (option_map (λ name. name.now) old.entry) result }
 {
-    match open_session(alloc, shelf, name) {
-        Ok(session) => begin(alloc, shelf, &session, player, old),
-        Err(status) => Err(status),
-    }
+    let session = open_session(alloc, shelf, name)?;
+    begin(alloc, shelf, &session, player, old)
 }

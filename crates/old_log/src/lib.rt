@@ -17,3 +17,4 @@ pub use definitions::LogWhy;
 pub use files::{begin, open_peer};
 pub use peer_core::Peer;
 pub use resuming::{OldFault, Resumed, resume_from};
+pub use session_log::LogFault;

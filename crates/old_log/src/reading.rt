@@ -1,57 +1,79 @@
 //! What a log has before its first fault.
 
 ghost use Rattle.std.specs.Prelude.{◌≡◌, ◌≤◌, IfOk, length};
+ghost use Rattle.session_log.specs.Writing.{going_on};
 ghost use Rattle.old_log.specs.Old as O;
 
 use definitions::limits::LONGEST_LOG;
 use definitions::{Entry, PlayerId};
 use grid_world::Session;
-use session_log::{LogReader, Next};
+use session_log::{LogReader, LogWriter};
 use std::alloc::{AllocError, Global};
 
-/// A log before its first fault: whose it is, its entries, and the byte where the fault begins, if it has one.
+/// A log before its first fault, where a player is to go on from it.
 #[derive(Drop)]
 pub(crate) struct OldLog {
-    pub(crate) owner: Option<PlayerId>,
     pub(crate) entries: Vec<Entry>,
+    /// Whether it has entries, and they are another player's.
+    pub(crate) anothers: bool,
+    /// The byte where the fault begins, if it has one.
     pub(crate) dropped: Option<u32>,
-}
-
-/// The byte where the fault begins of which an answer tells, if it does.
-fn fault_place(answer: &Next) -> Option<u32>
-    ensures { result ≡ O.fault_place answer.now }
-{
-    match *answer {
-        Next::Entry(_) | Next::End => None,
-        Next::Torn(at) | Next::BadChain(at) | Next::BadEntry(at) => Some(at),
-    }
-}
-
-/// Reads a log up to its first fault.
-pub(crate) fn read_old(alloc: Global, session: &Session, bytes: &[u8]) -> Result<OldLog, AllocError>
-    requires { length bytes.now ≤ LONGEST_LOG }
-    ensures { IfOk result (λ log. O.IsOld session.now bytes.now log.owner log.entries.items log.dropped) }
-{
-    let mut reader = LogReader::new(session);
-    let mut entries = Vec::new(alloc);
-    while let Next::Entry(entry) = reader.next(session, bytes) {
-        entries.push(entry)?;
-    }
-    // a last answer is given again
-    let last = reader.next(session, bytes);
-    Ok(OldLog {
-        owner: reader.owner(),
-        entries,
-        dropped: fault_place(&last),
-    })
+    /// Where the entries are the player's: how many bytes they have, and a writer behind them.
+    pub(crate) kept: u32,
+    pub(crate) writer: LogWriter,
 }
 
 /// Whether the log has entries, and they are another player's.
-pub(crate) fn is_anothers(me: PlayerId, owner: Option<PlayerId>, entries: &[Entry]) -> bool
+fn is_anothers(me: PlayerId, owner: Option<PlayerId>, entries: &[Entry]) -> bool
     ensures { result ≡ O.is_anothers me owner entries.now }
 {
     match owner {
         None => false,
         Some(owner) => owner != me && !entries.is_empty(),
+    }
+}
+
+/// What is known of a log for this player, whose entries a reader gave.
+fn old_of(me: PlayerId, reader: &LogReader, entries: Vec<Entry>, dropped: Option<u32>) -> OldLog
+    ensures entries { result.entries.items ≡ entries.items }
+    ensures others { result.anothers ≡ O.is_anothers me reader.now.owner entries.items }
+    ensures dropped { result.dropped ≡ dropped }
+    ensures kept { result.kept ≡ reader.now.at }
+    ensures writer { result.writer ≡ going_on reader.now me }
+{
+    let anothers = is_anothers(me, reader.owner(), entries.as_slice());
+    OldLog {
+        entries,
+        anothers,
+        dropped,
+        kept: reader.used(),
+        writer: reader.writer(me),
+    }
+}
+
+/// Reads a log up to its first fault, for this player. All of it is hashed once.
+pub(crate) fn read_old(
+    alloc: Global,
+    session: &Session,
+    me: PlayerId,
+    bytes: &[u8],
+) -> Result<OldLog, AllocError>
+    requires { length bytes.now ≤ LONGEST_LOG }
+    ensures { IfOk result (O.IsOld session.now me bytes.now) }
+{
+    let mut reader = LogReader::new(session);
+    let mut entries = Vec::new(alloc);
+    'entries: loop {
+        match reader.read(session, bytes) {
+            Ok(Some(entry)) => entries.push(entry)?,
+            Ok(None) => {
+                let log = old_of(me, &reader, entries, None);
+                return Ok(log);
+            }
+            Err(fault) => {
+                let log = old_of(me, &reader, entries, Some(fault.at));
+                return Ok(log);
+            }
+        }
     }
 }

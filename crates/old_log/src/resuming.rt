@@ -6,11 +6,12 @@ ghost use Rattle.definitions.specs.Honest.{IsHonest};
 ghost use Rattle.old_log.specs.Resumed as R;
 
 use crate::places::place_behind;
-use crate::reading::{is_anothers, read_old};
+use crate::reading::read_old;
 use definitions::limits::LONGEST_LOG;
 use definitions::{LogWhy, PlayerId};
 use grid_world::Session;
 use peer_core::{Peer, ResumeFault};
+use session_log::{LogFault, LogWriter};
 use std::alloc::Global;
 
 /// Why a peer can't go on from a log.
@@ -18,8 +19,8 @@ use std::alloc::Global;
 pub enum OldFault {
     /// There was no memory for the entries or the peer.
     NoMemory,
-    /// The log can't be used from this byte on, counted from 0.
-    Bad { at: u32, why: LogWhy },
+    /// The log can't be used from this fault on.
+    Bad(LogFault),
 }
 
 /// A peer that goes on from a log.
@@ -31,6 +32,11 @@ pub struct Resumed {
     /// torn, isn't chained to those before it, or is none of the owner's log. It is 0 where the log has its first byte
     /// alone, or that is no player's number, and None where the log ends behind an entry or has no bytes.
     pub dropped: Option<u32>,
+    /// How many bytes of the log are kept: those of the entries that the peer has, with the
+    /// owner's byte in front of them, and 0 where it has none.
+    pub kept: u32,
+    /// The writer that goes on with the log behind these entries. Nothing is hashed again for it.
+    pub writer: LogWriter,
 }
 
 /// A peer for this player of the session that goes on from the log with these bytes. The log's bytes from its first fault
@@ -50,30 +56,35 @@ pub fn resume_from(
     ensures honest { IfOk result (λ r. IsHonest session.now me r.peer.entries) }
 {
     if bytes.len() > LONGEST_LOG {
-        return Err(OldFault::Bad {
+        return Err(OldFault::Bad(LogFault {
             at: LONGEST_LOG as u32,
             why: LogWhy::TooLong,
-        });
+        }));
     }
-    let Ok(log) = read_old(alloc, session, bytes) else {
+    let Ok(log) = read_old(alloc, session, me, bytes) else {
         return Err(OldFault::NoMemory);
     };
     let entries = log.entries.as_slice();
-    if is_anothers(me, log.owner, entries) {
-        return Err(OldFault::Bad {
+    if log.anothers {
+        return Err(OldFault::Bad(LogFault {
             at: 1,
             why: LogWhy::NotReplayed,
-        });
+        }));
     }
     match Peer::resume(alloc, session, me, entries) {
         Ok(peer) => Ok(Resumed {
             peer,
             dropped: log.dropped,
+            kept: log.kept,
+            writer: log.writer,
         }),
         Err(ResumeFault::Memory) => Err(OldFault::NoMemory),
-        Err(ResumeFault::NotReplayed(i)) => Err(OldFault::Bad {
-            at: place_behind(session, me, &entries[..i as usize]),
-            why: LogWhy::NotReplayed,
-        }),
+        Err(ResumeFault::NotReplayed(i)) => {
+            let at = place_behind(session, me, &entries[..i as usize]);
+            Err(OldFault::Bad(LogFault {
+                at,
+                why: LogWhy::NotReplayed,
+            }))
+        }
     }
 }

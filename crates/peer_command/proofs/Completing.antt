@@ -29,7 +29,7 @@ use Rattle.ready_loop.specs.declared.polling.Ended.{Ended}
 use Rattle.ready_loop.specs.declared.polling.Ended.TheVariants as E
 use Rattle.ready_loop.specs.States.{LoopState}
 use Rattle.ready_loop.specs.Going.{polls_of}
-use Rattle.ready_loop.specs.Settling.{IsOwnMove}
+use Rattle.ready_loop.specs.Stops.{IsOwnMove}
 use Rattle.ready_loop.specs.Polling.{StandsEnded}
 use Rattle.peer_command.specs.Ends.{peer_answer, status_of}
 use Rattle.peer_command.specs.Faults.{EndsBy, FailsNone, StandsByFaults}

@@ -1,6 +1,6 @@
 -- Fronts: what a reader finds at the front of bytes, and how the search for a lucky tail goes on there.
 use Rattle.std.proofs.Common.{◌≡◌, inl, inr, ℕ, zero, suc, ◌+◌, ◌≤◌, true, false, refl, sym, ap, ◌∙◌, List, [], ◌++◌, arith, length, take, drop, length-append, append_assoc}
-use Rattle.std.specs.Prelude.{Option, Some, not, ◌&&◌, ◌==◌, nat_le, IsTrue}
+use Rattle.std.specs.Prelude.{Option, Some, Ok, not, ◌&&◌, ◌==◌, nat_le, IsTrue}
 use Rattle.std.specs.Str.{bytes_eq}
 use Rattle.std.proofs.lemmas.Bool.{and_from, and_parts, eqb-true, cases_lt, lt-ltb, le-ltb, le-leb, leb-true}
 use Rattle.std.proofs.lemmas.List.{take_at, drop_at, take-append-drop, length-take-le}
@@ -9,7 +9,6 @@ use Rattle.plain_lemmas.proofs.Tests.{chosen}
 use Rattle.definitions.specs.declared.logs.Entry.{Entry}
 use Rattle.definitions.specs.Entries.{is_well_formed}
 use Rattle.definitions.specs.World.{Game}
-use Rattle.session_log.specs.declared.reader.Next.TheVariants as next
 use Rattle.session_log.specs.Spelling.{entry_text, chained, entry_bytes}
 use Rattle.session_log.specs.Entries.{told_len, entry_of}
 use Rattle.session_log.specs.Finding.{text_at, digest_at, is_torn, is_unchained, owned_by, entry_at}
@@ -70,7 +69,7 @@ Reads l entries me = (l.entries ≡ entries) × (l.reader.owner ≡ Some me)
 -- such an entry is answered
 pub step_passes : (game : Game) (me at : ℕ) (chain : List ℕ) (e : Entry) (more : List ℕ) (r : LogReading) → IsRead e → IsTrue (is_well_formed game me e) →
     step_on r me at (entry_at game me chain (entry_bytes chain e ++ more)) ≡
-    record { reader = record { owner = Some me; at = at + length (entry_bytes chain e); chain = chained chain (entry_text e); said = r.said }; answer = next.Entry e }
+    record { reader = record { owner = Some me; at = at + length (entry_bytes chain e); chain = chained chain (entry_text e); said = r.said }; answer = Ok (Some e) }
 unfolding entry_at
 step_passes game me at chain e more r h well =
     let digest : List ℕ = chained chain (entry_text e) in
@@ -80,7 +79,7 @@ step_passes game me at chain e more r h well =
     let whole : is_torn bytes ≡ false = le-ltb (length bytes) (told_len bytes + 35) (omega (arith, length-append (entry_bytes chain e) more)) in
     let chained_so : is_unchained chain bytes ≡ false
     = ap (λ xs. not (bytes_eq (digest_at bytes) (chained chain xs))) f.text ∙ ap (λ xs. not (bytes_eq xs digest)) f.digest ∙ ap not (bytes_same digest) in
-    let answer : ℕ → List ℕ → Step = λ n d. record { reader = record { owner = Some me; at = at + n; chain = d; said = r.said }; answer = next.Entry e } in
+    let answer : ℕ → List ℕ → Step = λ n d. record { reader = record { owner = Some me; at = at + n; chain = d; said = r.said }; answer = Ok (Some e) } in
     let owned : step_on r me at (owned_by game me (Some e) (told_len bytes + 35) (digest_at bytes)) ≡ answer (told_len bytes + 35) (digest_at bytes) = rw well refl in
     rw (whole, chained_so) (ap (λ (o : Option Entry). step_on r me at (owned_by game me o (told_len bytes + 35) (digest_at bytes))) (ap entry_of f.text ∙ h) ∙ owned ∙
     ap (λ n. answer n (digest_at bytes)) (sym len) ∙ ap (answer (length (entry_bytes chain e))) f.digest)

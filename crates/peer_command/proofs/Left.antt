@@ -1,13 +1,13 @@
 -- Left: what a peer finds in a log of which a crash left these bytes.
 use Rattle.std.proofs.Common.{◌≡◌, inl, inr, ℕ, ◌<◌, Bool, true, false, cond, refl, sym, ap, subst, ◌∙◌, List, [], ◌∷◌, ◌++◌, arith, length, length-append, append_assoc}
-use Rattle.std.specs.Prelude.{Option, Some, None, not, ◌&&◌, ◌==◌, nat_lt}
+use Rattle.std.specs.Prelude.{Option, Some, None, Err, not, ◌&&◌, ◌==◌, nat_lt}
 use Rattle.std.proofs.lemmas.Bool.{cases_Bool, eqb-true, eq-eqb, lt-ltb}
 use Rattle.definitions.specs.declared.logs.Entry.{Entry}
 use Rattle.definitions.specs.World.{Game, players_of}
-use Rattle.session_log.specs.declared.reader.Next.TheVariants as next
+use Rattle.definitions.specs.declared.logs.LogWhy.TheVariants.{BadEntry}
 use Rattle.session_log.specs.Spelling.{entry_text, chained, entry_bytes, entries_bytes, first_chain, log_bytes}
 use Rattle.session_log.specs.Finding.{entry_at}
-use Rattle.session_log.specs.Reading.{log_at_start, owned, ended, step_on, step_behind, next_step, read_log}
+use Rattle.session_log.specs.Reading.{fault_at, log_at_start, owned, ended, step_on, step_behind, next_step, read_log}
 use Rattle.loop_rules.specs.Images.{has_whole, is_chained, lucky_behind, lucky_from}
 use Rattle.old_log.specs.Old.{old_owner, old_entries, is_anothers}
 use Rattle.peer_command.proofs.Fronts.{on, Reads, is_front, step_stops}
@@ -53,7 +53,7 @@ none_of_nothing game = refl
 
 -- behind an owner's byte no whole entry is chained
 nothing_by : (game : Game) (owner most : ℕ) (bytes : List ℕ) (b : Bool) → (has_whole bytes && is_chained (first_chain game.id owner) bytes) ≡ false →
-    Reads (on game (owner ∷ bytes) most (cond b (step_behind game (log_at_start game.id) owner bytes) (ended (owned (log_at_start game.id) owner) (next.BadEntry 0)))) [] owner
+    Reads (on game (owner ∷ bytes) most (cond b (step_behind game (log_at_start game.id) owner bytes) (ended (owned (log_at_start game.id) owner) (Err (fault_at 0 BadEntry))))) [] owner
 nothing_by game owner most bytes false h = (refl, refl)
 nothing_by game owner most [] true h = (refl, refl)
 nothing_by game owner most (x ∷ bytes) true h = step_stops game (owner ∷ x ∷ bytes) owner 1 most (first_chain game.id owner) (x ∷ bytes) (log_at_start game.id) h
@@ -69,7 +69,7 @@ unfolding read_log next_step
 started game me x bytes synced behind known r =
     let log : List ℕ = me ∷ x ∷ bytes in
     let start = log_at_start game.id in
-    subst (λ (b : Bool). Reached (on game log (length log) (cond b (step_behind game start me (x ∷ bytes)) (ended (owned start me) (next.BadEntry 0)))) me synced behind)
+    subst (λ (b : Bool). Reached (on game log (length log) (cond b (step_behind game start me (x ∷ bytes)) (ended (owned start me) (Err (fault_at 0 BadEntry))))) me synced behind)
     (sym (lt-ltb me (players_of game) known)) r
 
 -- ---- all bytes that were left

@@ -29,7 +29,8 @@ use Rattle.run_frame.specs.declared.statuses.Status.TheVariants.{NoMemory, Input
 use Rattle.run_frame.proofs.Working.{Holds}
 use Rattle.old_log.specs.Beginnings.{Beginning}
 use Rattle.old_log.specs.Begun.{begun, log_front_of, old_beginning}
-use Rattle.old_log.specs.Old.{Fault, old_fault}
+use Rattle.session_log.specs.declared.faults.LogFault.{LogFault}
+use Rattle.old_log.specs.Old.{old_fault}
 use Rattle.ready_loop.specs.declared.polling.Ended.{Ended}
 use Rattle.ready_loop.specs.declared.polling.Ended.TheVariants as E
 use Rattle.ready_loop.specs.States.{LoopState}
@@ -95,7 +96,7 @@ of_moves (Ok moves) = tt
 of_moves (Err text.Memory) = tt
 of_moves (Err (text.At line)) = tt
 
-of_fault : (game : Game) (bytes : List ℕ) (fault : Option Fault) → IsReadOrRefused (old_beginning game bytes fault)
+of_fault : (game : Game) (bytes : List ℕ) (fault : Option LogFault) → IsReadOrRefused (old_beginning game bytes fault)
 of_fault game bytes None = tt
 of_fault game bytes (Some f) = tt
 

@@ -94,6 +94,7 @@ module _ (last : FaultsAreLast) (histories : BeginningsAreHistories) (log : List
       history = histories log B.KeepFault l m items new b;
       setting = b.setting ∙ new_setting l new;
       told = b.told;
+      new = b.new;
       few = (let none = b.polls in omega (arith, none));
       stands = record { fault = b.stands; rest = inr (inr (inr (ap (λ (p : PeerState). p.entries) b.peer ∙ sym (ap (λ (s : Setting). s.over) (b.setting ∙ new_setting l new))))) };
       kept = λ differs. absurd (differs refl);
@@ -112,6 +113,7 @@ module _ (last : FaultsAreLast) (histories : BeginningsAreHistories) (log : List
       history = histories log B.PollFault l m items new b;
       setting = b.setting ∙ new_setting l new;
       told = b.told;
+      new = b.new;
       few = (let none = b.polls in omega (arith, none));
       stands = b.stands;
       kept = λ differs. ap (λ (n : ℕ). take n m.peer.entries) b.stands.kept ∙ take-length m.peer.entries;

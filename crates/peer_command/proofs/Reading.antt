@@ -1,6 +1,6 @@
 -- Reading: of a log without a lucky tail the first ones of the entries handed to `keep` are read, and all of which it has the bytes.
 use Rattle.std.proofs.Common.{◌≡◌, inl, inr, ℕ, zero, suc, ◌+◌, ◌<◌, ◌≤◌, true, false, refl, sym, ap, subst, ◌∙◌, List, [], ◌∷◌, ◌++◌, arith, length, take, drop, length-append, append_assoc}
-use Rattle.std.specs.Prelude.{Option, Some, None, ◌&&◌, IsTrue}
+use Rattle.std.specs.Prelude.{Option, Some, None, Ok, ◌&&◌, IsTrue}
 use Rattle.std.specs.Str.{bytes_eq}
 use Rattle.std.proofs.lemmas.Bool.{cases_lt, cases_Bool}
 use Rattle.std.proofs.lemmas.List.{drop_at, drop_all, drop-drop, length-drop}
@@ -9,11 +9,9 @@ use Rattle.definitions.specs.Lists.{EachIs}
 use Rattle.definitions.specs.declared.logs.Entry.{Entry}
 use Rattle.definitions.specs.Entries.{AreWellFormed, is_well_formed}
 use Rattle.definitions.specs.World.{Game}
-use Rattle.session_log.specs.declared.reader.Next.{Next}
-use Rattle.session_log.specs.declared.reader.Next.TheVariants as next
 use Rattle.session_log.specs.Spelling.{entry_text, chained, entry_bytes, entries_bytes}
 use Rattle.session_log.specs.Finding.{entry_at}
-use Rattle.session_log.specs.Reading.{LogReading, Step, ReadLog, step_on, read_by}
+use Rattle.session_log.specs.Reading.{Ending, LogReading, Step, ReadLog, step_on, read_by}
 use Rattle.session_log.proofs.Logs.{reading, further_is, end_is}
 use Rattle.loop_rules.specs.Images.{entry_len, has_whole, is_chained, lucky_behind}
 use Rattle.peer_command.proofs.Moves.{IsRead}
@@ -48,9 +46,9 @@ passes : (game : Game) (log : List ℕ) (me at most : ℕ) (chain : List ℕ) (e
     drop at log ≡ entry_bytes chain e ++ rest → Reads (read_by game log most (reading me (at + length (entry_bytes chain e)) (chained chain (entry_text e)))) es me →
     Reads (on game log most (step_on r me at (entry_at game me chain (drop at log)))) (e ∷ es) me
 passes game log me at most chain e rest r es none h well bytes behind =
-    let later : Option Next → LogReading = λ said. record { owner = Some me; at = at + length (entry_bytes chain e); chain = chained chain (entry_text e); said = said } in
-    let step : step_on r me at (entry_at game me chain (drop at log)) ≡ record { reader = later None; answer = next.Entry e }
-    = ap (λ xs. step_on r me at (entry_at game me chain xs)) bytes ∙ step_passes game me at chain e rest r h well ∙ ap (λ (o : Option Next). record { reader = later o; answer = next.Entry e }) none in
+    let later : Option Ending → LogReading = λ said. record { owner = Some me; at = at + length (entry_bytes chain e); chain = chained chain (entry_text e); said = said } in
+    let step : step_on r me at (entry_at game me chain (drop at log)) ≡ record { reader = later None; answer = Ok (Some e) }
+    = ap (λ xs. step_on r me at (entry_at game me chain xs)) bytes ∙ step_passes game me at chain e rest r h well ∙ ap (λ (o : Option Ending). record { reader = later o; answer = Ok (Some e) }) none in
     subst (λ (l : ReadLog). Reads l (e ∷ es) me) (sym (ap (on game log most) step)) (ap (λ (xs : List Entry). e ∷ xs) behind.0, behind.1)
 
 -- the step where an entry of both stands, and what is read behind it

@@ -16,7 +16,8 @@ use Rattle.run_frame.specs.Frame.{is_input_fault}
 use Rattle.run_frame.specs.declared.statuses.Status.{Status}
 use Rattle.run_frame.specs.declared.statuses.Status.TheVariants.{NoMemory, Usage, BadSession, InputFault, OutputFault, BadLog}
 use Rattle.old_log.specs.declared.resuming.Resumed.{Resumed}
-use Rattle.old_log.specs.Old.{Fault, old_fault}
+use Rattle.session_log.specs.declared.faults.LogFault.{LogFault}
+use Rattle.old_log.specs.Old.{old_fault}
 use Rattle.old_log.specs.Beginnings.{Beginning}
 use Rattle.peer_command.specs.Words.{Peering}
 use Rattle.peer_command.specs.declared.seats.Seat.{Seat}
@@ -59,7 +60,7 @@ abbrev Whenever : Contents → ℕ → Type 0
 Whenever contents k = Unit {0}
 
 -- the log that is begun with is of the session
-old_game : (game : Game) (bytes : List ℕ) (f : Option Fault) (b : Beginning) → old_beginning game bytes f ≡ Ok b → b.game ≡ game
+old_game : (game : Game) (bytes : List ℕ) (f : Option LogFault) (b : Beginning) → old_beginning game bytes f ≡ Ok b → b.game ≡ game
 old_game game bytes None b e = cc
 old_game game bytes (Some f) b e = absurd (let never : Err (BadLog 0 f.at f.why) ≡ Ok b = e in cc)
 

@@ -62,25 +62,13 @@ stand_by E.KeepFault l = []
 stand_by (E.OwnMove turn fault) l = stand_text l.peer.game l.peer.me l.peer.entries
 stand_by E.GaveUp l = flat_map need_text (needs l.peer.game l.peer.me l.peer.entries) ++ unsents_text l 0 (players_of l.peer.game)
 
--- the own score, and that this is the end
-abbrev pub score_and_end : LoopState → List ℕ
-score_and_end l = own_score_text l.peer.game l.peer.me l.peer.entries ++ end_line_text
-
--- what is written last: what the log shows of each player, the own score, and that this is the end
-unfoldable pub last_text : LoopState → List ℕ
-last_text l = players_text l.peer.game l.peer.me l.peer.entries 0 (players_of l.peer.game) ++ score_and_end l
-
--- how the peer stands, and all behind that
-abbrev pub rest_text : Ended → LoopState → List ℕ
-rest_text ended l = stand_by ended l ++ last_text l
-
--- what the end was, and all behind that
-abbrev pub told_text : (polls : ℕ) → Ended → LoopState → List ℕ
-told_text polls ended l = outcome_text polls ended ++ rest_text ended l
-
--- what is written in all: from which byte on an older log was dropped, if it was, and then the end
+-- What is written in all: from which byte on an older log was dropped, if it was; what the end was;
+-- how the peer stands, or what is missing; what the log shows of each player; the own score; and
+-- that this is the end.
 unfoldable pub peer_text : (dropped : Option ℕ) → (polls : ℕ) → Ended → LoopState → List ℕ
-peer_text dropped polls ended l = dropped_text dropped ++ told_text polls ended l
+peer_text dropped polls ended l =
+    dropped_text dropped ++ (outcome_text polls ended ++ (stand_by ended l ++ (players_text l.peer.game l.peer.me l.peer.entries 0 (players_of l.peer.game) ++
+    (own_score_text l.peer.game l.peer.me l.peer.entries ++ end_line_text))))
 
 -- how the run ends
 abbrev pub status_of : Ended → Status

@@ -5,7 +5,6 @@ use Rattle.definitions.specs.declared.world.Move.{Move}
 use Rattle.definitions.specs.World.{Game, players_of}
 use Rattle.definitions.specs.Honest.{IsHonest}
 use Rattle.text_fields.specs.declared.fault.TextFault.{TextFault}
-use Rattle.text_fields.specs.declared.fault.TextFault.TheVariants.{At, Memory}
 use Rattle.rosters.specs.declared.limits.TheConstants.{ROSTER_FRONT}
 use Rattle.rosters.specs.Rosters.{LinksOthers, Neighbours}
 use Rattle.rosters.specs.Reading.{roster_at}
@@ -15,12 +14,12 @@ use Rattle.station.specs.Shelves.{ShelfState}
 use Rattle.line_io.specs.Files.{Contents, content, behind_first}
 use Rattle.old_log.specs.Beginnings.{Beginning}
 use Rattle.run_frame.specs.declared.statuses.Status.{Status}
-use Rattle.run_frame.specs.declared.statuses.Status.TheVariants.{NoMemory, BadLine}
 use Rattle.run_frame.specs.declared.statuses.TextName.TheVariants.{Roster, Moves}
 use Rattle.peer_command.specs.Words.{Peering}
 use Rattle.peer_command.specs.declared.seats.Seat.{Seat}
 use Rattle.old_log.specs.Files.{log_names}
 use Rattle.old_log.specs.Begun.{begun}
+use Rattle.run_frame.specs.Faults.{read_by}
 use Rattle.run_frame.specs.Sessions.{is_shelf_fault, session_in, with_player}
 use Rattle.run_frame.specs.Opening.{Found, IsRefusedBy, Reads}
 
@@ -30,9 +29,7 @@ roster_front_of content = take ROSTER_FRONT (unwrap_or content [])
 
 -- the roster that is read, or how the run ends where none is
 abbrev pub roster_by : Result Neighbours TextFault → Result Neighbours Status
-roster_by (Err (At line)) = Err (BadLine Roster line)
-roster_by (Err Memory) = Err NoMemory
-roster_by (Ok r) = Ok r
+roster_by r = read_by Roster r
 
 -- the player's roster of a file
 abbrev pub roster_in : Game → (player : ℕ) → Option (List ℕ) → Result Neighbours Status
@@ -44,9 +41,7 @@ moves_front_of content = take MOVES_FRONT (unwrap_or content [])
 
 -- the moves that are read, or how the run ends where none are
 abbrev pub moves_by : Result (List Move) TextFault → Result (List Move) Status
-moves_by (Err (At line)) = Err (BadLine Moves line)
-moves_by (Err Memory) = Err NoMemory
-moves_by (Ok moves) = Ok moves
+moves_by r = read_by Moves r
 
 -- the moves of a file, one for each turn
 abbrev pub moves_in : Game → Option (List ℕ) → Result (List Move) Status

@@ -10,7 +10,7 @@ ghost use Rattle.peer_command.specs.Ends as E;
 
 use crate::lines::{gave_up_line, own_move_line, unsent_line};
 use definitions::PlayerId;
-use line_io::{Written, put};
+use line_io::{SinkFault, put};
 use ready_loop::{Ended, Loop};
 use report_lines::{
     caught_line, end_line, put_dropped, put_each_need, put_players, put_score, put_stand,
@@ -19,7 +19,7 @@ use run_frame::Status;
 use station::Sink;
 
 /// Writes what the end was, unless all was played.
-fn put_outcome<O: Sink>(ended: &Ended, polls: u32, out: &mut O) -> Written
+fn put_outcome<O: Sink>(ended: &Ended, polls: u32, out: &mut O) -> Result<(), SinkFault>
     ensures { Puts (O.state out.old) (O.state out.new) (E.outcome_text polls ended.now) result }
 {
     match *ended {
@@ -33,7 +33,7 @@ fn put_outcome<O: Sink>(ended: &Ended, polls: u32, out: &mut O) -> Written
 }
 
 /// Writes what another player lacks.
-fn put_unsent_to<O: Sink>(played: &Loop, player: PlayerId, out: &mut O) -> Written
+fn put_unsent_to<O: Sink>(played: &Loop, player: PlayerId, out: &mut O) -> Result<(), SinkFault>
     ensures { Puts (O.state out.old) (O.state out.new) (E.unsent_to played.now player) result }
 {
     let given = played.given(player);
@@ -44,95 +44,48 @@ fn put_unsent_to<O: Sink>(played: &Loop, player: PlayerId, out: &mut O) -> Writt
 }
 
 /// Writes what each other player lacks, by rising number.
-fn put_unsents<O: Sink>(played: &Loop, out: &mut O) -> Written
+fn put_unsents<O: Sink>(played: &Loop, out: &mut O) -> Result<(), SinkFault>
     ensures { Puts (O.state out.old) (O.state out.new) (E.unsents_text played.now 0 (players_of played.now.peer.game)) result }
 {
     'players: for player in 0..played.peer().session().players() {
-        match put_unsent_to(played, player, out) {
-            Written::All => {}
-            Written::Failed => return Written::Failed,
-        }
+        put_unsent_to(played, player, out)?;
     }
-    Written::All
+    Ok(())
 }
 
-/// Writes whom the peer waits for, and what others lack.
-fn put_missing<O: Sink>(played: &Loop, out: &mut O) -> Written
-    ensures { Puts (O.state out.old) (O.state out.new) (E.stand_by Ended.GaveUp played.now) result }
-{
-    match put_each_need(played.peer().needs().as_slice(), out) {
-        Written::All => put_unsents(played, out),
-        Written::Failed => Written::Failed,
-    }
-}
-
-/// Writes how the peer stands.
-fn put_stand_by<O: Sink>(played: &Loop, ended: &Ended, out: &mut O) -> Written
+/// Writes how the peer stands; where it gave up, whom it waits for, and what others lack.
+fn put_stand_or_missing<O: Sink>(played: &Loop, ended: &Ended, out: &mut O) -> Result<(), SinkFault>
     ensures { Puts (O.state out.old) (O.state out.new) (E.stand_by ended.now played.now) result }
 {
     match ended {
         Ended::Done | Ended::OwnMove(..) => put_stand(played.peer(), out),
         Ended::Caught(_) | Ended::PollFault | Ended::KeepFault => put(out, b""),
-        Ended::GaveUp => put_missing(played, out),
+        Ended::GaveUp => {
+            put_each_need(played.peer().needs().as_slice(), out)?;
+            put_unsents(played, out)
+        }
     }
 }
 
-/// Writes the own score, and that this is the end.
-fn put_score_and_end<O: Sink>(played: &Loop, out: &mut O) -> Written
-    ensures { Puts (O.state out.old) (O.state out.new) (E.score_and_end played.now) result }
-{
-    match put_score(played.peer(), out) {
-        Written::All => put(out, end_line()),
-        Written::Failed => Written::Failed,
-    }
-}
-
-/// Writes what the log shows of each player, the own score, and that this is the end.
-#[tactic(auto, unfolding(crate::specs::Ends::last_text))]
-fn put_last<O: Sink>(played: &Loop, out: &mut O) -> Written
-    ensures { Puts (O.state out.old) (O.state out.new) (E.last_text played.now) result }
-{
-    match put_players(played.peer(), out) {
-        Written::All => put_score_and_end(played, out),
-        Written::Failed => Written::Failed,
-    }
-}
-
-/// Writes how the peer stands, and all behind that.
-fn put_rest<O: Sink>(played: &Loop, ended: &Ended, out: &mut O) -> Written
-    ensures { Puts (O.state out.old) (O.state out.new) (E.rest_text ended.now played.now) result }
-{
-    match put_stand_by(played, ended, out) {
-        Written::All => put_last(played, out),
-        Written::Failed => Written::Failed,
-    }
-}
-
-/// Writes what the end was, and all behind that.
-fn put_told<O: Sink>(played: &Loop, ended: &Ended, polls: u32, out: &mut O) -> Written
-    ensures { Puts (O.state out.old) (O.state out.new) (E.told_text polls ended.now played.now) result }
-{
-    match put_outcome(ended, polls, out) {
-        Written::All => put_rest(played, ended, out),
-        Written::Failed => Written::Failed,
-    }
-}
-
-/// Writes all.
+/// Writes all that is told at the end of a run: from which byte on an older log was dropped, what
+/// the end was, how the peer stands or what is missing, what its log shows of each player, the own
+/// score, and that this is the end.
 #[tactic(auto, unfolding(crate::specs::Ends::peer_text))]
-fn put_all<O: Sink>(
+fn put_peer_text<O: Sink>(
     played: &Loop,
     ended: &Ended,
     polls: u32,
     dropped: Option<u32>,
     out: &mut O,
-) -> Written
+) -> Result<(), SinkFault>
     ensures { Puts (O.state out.old) (O.state out.new) (E.peer_text dropped polls ended.now played.now) result }
 {
-    match put_dropped(dropped, out) {
-        Written::All => put_told(played, ended, polls, out),
-        Written::Failed => Written::Failed,
-    }
+    put_dropped(dropped, out)?;
+    put_outcome(ended, polls, out)?;
+    put_stand_or_missing(played, ended, out)?;
+    put_players(played.peer(), out)?;
+    put_score(played.peer(), out)?;
+    put(out, end_line())
 }
 
 /// How the run ends.
@@ -159,8 +112,8 @@ pub(crate) fn end<O: Sink>(
 ) -> Status
     ensures { Ends (O.state out.old) (O.state out.new) (E.peer_answer dropped polls ended.now played.now) result }
 {
-    match put_all(played, ended, polls, dropped, out) {
-        Written::All => status_of(ended),
-        Written::Failed => Status::OutputFault,
+    match put_peer_text(played, ended, polls, dropped, out) {
+        Ok(()) => status_of(ended),
+        Err(fault) => Status::from(fault),
     }
 }

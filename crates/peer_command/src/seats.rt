@@ -14,15 +14,14 @@ ghost use Rattle.peer_command.specs.Seats.{moves_by, moves_in, roster_by, roster
 use crate::words::PeerWords;
 use definitions::PlayerId;
 use grid_world::Session;
-use line_io::{FrontFault, read_front};
+use line_io::read_front;
 use old_log::begin;
 use peer_core::Peer;
 use pilots::{MOVES_FRONT, ScriptPilot};
 use rosters::{ROSTER_FRONT, Roster, read_roster};
-use run_frame::{Status, TextName, open_session};
+use run_frame::{Status, TextName, open_session, status_of_text};
 use station::Shelf;
 use std::alloc::Global;
-use text_fields::TextFault;
 
 /// A peer and what it plays by, and the byte from which on its older log was dropped, if it was.
 #[derive(Drop)]
@@ -46,12 +45,8 @@ fn roster_of(
     ensures calm { is_shelf_fault result ≡ false }
 {
     match read_roster(alloc, text, session, player) {
-        Err(TextFault::Memory) => Err(Status::NoMemory),
-        Err(TextFault::At(line)) => Err(Status::BadLine {
-            text: TextName::Roster,
-            line,
-        }),
         Ok(roster) => Ok(roster),
+        Err(fault) => Err(status_of_text(TextName::Roster, fault)),
     }
 }
 
@@ -68,11 +63,8 @@ fn open_roster<H: Shelf>(
     ensures opens { Opens (H.state shelf.old) (H.state shelf.new) name.now (is_shelf_fault result) (λ content. IsDueFor (roster_in session.now player content) result) }
     ensures links { IfOk result (λ r. LinksOthers player (players_of session.now) r) }
 {
-    match read_front(alloc, shelf, name, ROSTER_FRONT) {
-        Err(FrontFault::NoMemory) => Err(Status::NoMemory),
-        Err(FrontFault::Failed) => Err(Status::InputFault),
-        Ok(text) => roster_of(alloc, session, player, text.as_slice()),
-    }
+    let text = read_front(alloc, shelf, name, ROSTER_FRONT)?;
+    roster_of(alloc, session, player, text.as_slice())
 }
 
 /// The moves of a text.
@@ -81,12 +73,8 @@ fn moves_of(alloc: Global, session: &Session, text: &[u8]) -> Result<ScriptPilot
     ensures calm { is_shelf_fault result ≡ false }
 {
     match ScriptPilot::read(alloc, text, session) {
-        Err(TextFault::Memory) => Err(Status::NoMemory),
-        Err(TextFault::At(line)) => Err(Status::BadLine {
-            text: TextName::Moves,
-            line,
-        }),
         Ok(pilot) => Ok(pilot),
+        Err(fault) => Err(status_of_text(TextName::Moves, fault)),
     }
 }
 
@@ -100,11 +88,8 @@ fn open_moves<H: Shelf>(
 ) -> Result<ScriptPilot, Status>
     ensures { Opens (H.state shelf.old) (H.state shelf.new) name.now (is_shelf_fault result) (λ content. IsDueFor (moves_in session.now content) result) }
 {
-    match read_front(alloc, shelf, name, MOVES_FRONT) {
-        Err(FrontFault::NoMemory) => Err(Status::NoMemory),
-        Err(FrontFault::Failed) => Err(Status::InputFault),
-        Ok(text) => moves_of(alloc, session, text.as_slice()),
-    }
+    let text = read_front(alloc, shelf, name, MOVES_FRONT)?;
+    moves_of(alloc, session, text.as_slice())
 }
 
 /// The moves of a file, and then the peer, with the log in the other file, if one is named.
@@ -119,19 +104,14 @@ fn open_behind_roster<H: Shelf>(
     requires links { LinksOthers words.player (players_of session.now) roster }
     ensures { T.ReadsBehindRoster (peering_said words.entry) session.now roster (H.state shelf.old) (H.state shelf.new) result }
 {
-    let pilot = match open_moves(alloc, shelf, session, words.moves) {
-        Ok(pilot) => pilot,
-        Err(status) => return Err(status),
-    };
-    match begin(alloc, shelf, session, words.player, words.old) {
-        Ok(begun) => Ok(Seat {
-            peer: begun.peer,
-            dropped: begun.dropped,
-            roster,
-            pilot,
-        }),
-        Err(status) => Err(status),
-    }
+    let pilot = open_moves(alloc, shelf, session, words.moves)?;
+    let begun = begin(alloc, shelf, session, words.player, words.old)?;
+    Ok(Seat {
+        peer: begun.peer,
+        dropped: begun.dropped,
+        roster,
+        pilot,
+    })
 }
 
 /// The roster of a file, and then the rest.
@@ -146,10 +126,8 @@ fn open_behind_session<H: Shelf>(
     if words.player >= session.players() {
         return Err(Status::Usage);
     }
-    match open_roster(alloc, shelf, session, words.player, words.roster) {
-        Ok(roster) => open_behind_roster(alloc, shelf, session, words, roster),
-        Err(status) => Err(status),
-    }
+    let roster = open_roster(alloc, shelf, session, words.player, words.roster)?;
+    open_behind_roster(alloc, shelf, session, words, roster)
 }
 
 /// The session of a file, the roster and the moves of two others, and the peer, with the log in the last one, if
@@ -161,8 +139,6 @@ pub(crate) fn open_seat<H: Shelf>(
 ) -> Result<Seat, Status>
     ensures { T.OpensSeat (peering_said words.entry) (H.state shelf.old) (H.state shelf.new) result }
 {
-    match open_session(alloc, shelf, words.session) {
-        Ok(session) => open_behind_session(alloc, shelf, &session, words),
-        Err(status) => Err(status),
-    }
+    let session = open_session(alloc, shelf, words.session)?;
+    open_behind_session(alloc, shelf, &session, words)
 }

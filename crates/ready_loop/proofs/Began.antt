@@ -11,6 +11,7 @@ use Rattle.session_log.specs.Writing.{written}
 use Rattle.socket_station.specs.declared.answers.Addr.{Addr}
 use Rattle.socket_station.specs.declared.answers.Did.TheVariants as D
 use Rattle.socket_station.specs.Items.{Item, ListenCall, LogCall, KeepCall, SyncCall, Listening, LogBegun, Failed, Kept, Synced, log_item, listen_item, keep_item, sync_item}
+use Rattle.socket_station.specs.Standings.{OpensNew}
 use Rattle.loop_rules.specs.declared.arrivals.Arrival.{Arrival}
 use Rattle.loop_rules.specs.declared.phases.Phase.{Phase}
 use Rattle.loop_rules.specs.declared.phases.Phase.TheVariants.{Logged, Running, KeepFault, PollFault}
@@ -22,6 +23,7 @@ use Rattle.loop_rules.specs.Rules.{is_logged, is_allowed}
 use Rattle.loop_rules.specs.Licence.{is_running}
 use Rattle.loop_rules.specs.Histories.{BeginsLog}
 use Rattle.loop_rules.specs.Told.{IsTold}
+use Rattle.loop_laws.specs.Sockets.{SocketsAreNew}
 use Rattle.loop_rules.proofs.Told.{told_goes_on}
 use Rattle.ready_loop.specs.declared.beginning.Begun.TheVariants as B
 use Rattle.ready_loop.specs.States.{LoopState, setting_of, kept_of, writer_of, base_of, view_of}
@@ -34,7 +36,7 @@ use Rattle.ready_loop.proofs.Sorting.{more_kept}
 use Rattle.ready_loop.proofs.Entries.{entry_same, kept_tells, fault_tells}
 use Rattle.ready_loop.proofs.Idle.{still_view, all_kept}
 use Rattle.ready_loop.proofs.Kept.{base_next}
-use Rattle.ready_loop.proofs.Going.{polls_more}
+use Rattle.ready_loop.proofs.Going.{polls_more, new_none, new_after}
 use Rattle.ready_loop.proofs.Addresses.{same_addr}
 
 -- one more item that is no poll
@@ -52,6 +54,18 @@ sync_polls false = refl
 listen_polls : (done : Bool) (addr : Addr) → poll_count (listen_item (did_by done) addr) ≡ 0
 listen_polls true addr = refl
 listen_polls false addr = refl
+
+log_opens : (done : Bool) (name : List ℕ) (items : List Item) → OpensNew items (log_item (did_by done) name)
+log_opens true name items = tt
+log_opens false name items = tt
+
+sync_opens : (done : Bool) (items : List Item) → OpensNew items (sync_item (did_by done))
+sync_opens true items = tt
+sync_opens false items = tt
+
+listen_opens : (done : Bool) (addr : Addr) (items : List Item) → OpensNew items (listen_item (did_by done) addr)
+listen_opens true addr items = tt
+listen_opens false addr items = tt
 
 told_start : (s : Setting) → IsTold [] (start s)
 told_start s = record { allowed = refl; shown = refl; stand = tt; differ = tt }
@@ -114,6 +128,7 @@ over_shows l e none first lt g =
 pub record Taking (before items : List Item) (l m : LoopState) : Type 0 where
   pub more : List Item
   pub grown : items ≡ before ++ more
+  pub new : SocketsAreNew before → SocketsAreNew items
   pub polls : polls_of items ≡ polls_of before
   pub taking : IsTakingOver items m
   pub peer : m.peer ≡ l.peer
@@ -121,7 +136,7 @@ pub record Taking (before items : List Item) (l m : LoopState) : Type 0 where
   pub synced : m.synced ≡ l.synced
 
 pub taking_first : (items : List Item) (l : LoopState) → IsTakingOver items l → Taking items items l l
-taking_first items l w = record { more = []; grown = sym (append-nil items); polls = refl; taking = w; peer = refl; setting = refl; synced = refl }
+taking_first items l w = record { more = []; grown = sym (append-nil items); new = λ n. n; polls = refl; taking = w; peer = refl; setting = refl; synced = refl }
 
 next_over : (l : LoopState) (e : Entry) → slice_get l.peer.entries l.kept ≡ Some e → next_bytes l ≡ written (base_of l).writer e
 next_over l e g = ap (written_for (writer_of l)) g
@@ -144,6 +159,7 @@ taking_on before items after l m n w lt fits on same =
     subst (λ (x : LoopState). Taking before after l x) (sym same) (record {
       more = w.more ++ Kept (next_bytes m) ∷ [];
       grown = on ∙ ap (λ (xs : List Item). xs ++ Kept (next_bytes m) ∷ []) w.grown ∙ append_assoc before w.more (Kept (next_bytes m) ∷ []);
+      new = λ n. new_after items after (Kept (next_bytes m)) on tt (w.new n);
       polls = same_polls before items after (Kept (next_bytes m)) w.polls on refl;
       taking = record {
         told = subst (λ (xs : List Item). IsTold xs (view_of (record m { kept = m.kept + 1 }))) (sym on) (over_told true items m e.0 w.taking lt e.1 (fits e.0 e.1));
@@ -165,6 +181,7 @@ taking_faults before items after l m n w lt fits on same =
     subst (λ (x : LoopState). TakesOver false before after l x) (sym same) (record {
       more = w.more ++ Failed (KeepCall (next_bytes m)) ∷ [];
       grown = on ∙ ap (λ (xs : List Item). xs ++ Failed (KeepCall (next_bytes m)) ∷ []) w.grown ∙ append_assoc before w.more (Failed (KeepCall (next_bytes m)) ∷ []);
+      new = λ n. new_after items after (Failed (KeepCall (next_bytes m))) on tt (w.new n);
       polls = same_polls before items after (Failed (KeepCall (next_bytes m))) w.polls on refl;
       told = subst (λ (xs : List Item). IsTold xs (view_of (in_phase KeepFault m))) (sym on) (over_told false items m e.0 w.taking lt e.1 (fits e.0 e.1));
       peer = w.peer;
@@ -200,7 +217,7 @@ pub taking_whole : (p : Phase) → p ≡ Logged → p ≡ KeepFault → ⊥
 taking_whole p e f = (let q : Logged ≡ KeepFault = sym e ∙ f in cc)
 
 pub taking_ends : (before items : List Item) (l m : LoopState) → Taking before items l m → m.kept ≡ length m.peer.entries → TakesOver true before items l m
-taking_ends before items l m w all = record { more = w.more; grown = w.grown; polls = w.polls; told = w.taking.told; peer = w.peer; setting = w.setting; synced = w.synced; stands = (w.taking, all) }
+taking_ends before items l m w all = record { more = w.more; grown = w.grown; new = w.new; polls = w.polls; told = w.taking.told; peer = w.peer; setting = w.setting; synced = w.synced; stands = (w.taking, all) }
 
 pub taking_all : (before items : List Item) (l m : LoopState) → Taking before items l m → m.over ≤ m.kept → TakesOver true before items l m
 taking_all before items l m w le = taking_ends before items l m w (let all = w.taking.over in let few = w.taking.few in let e : m.kept ≡ length m.peer.entries = omega (arith, all, few, le) in e)
@@ -211,6 +228,7 @@ taking_all before items l m w le = taking_ends before items l m w (let all = w.t
 pub record IsOverKept (name : List ℕ) (items : List Item) (l m : LoopState) : Type 0 where
   pub taking : IsTakingOver items m
   pub kept : m.kept ≡ length m.peer.entries
+  pub new : SocketsAreNew items
   pub named : BeginsLog name items
   pub polls : polls_of items ≡ 0
   pub peer : m.peer ≡ l.peer
@@ -243,6 +261,7 @@ pub syncs_over : (done : Bool) (items after : List Item) (m n : LoopState) → I
 syncs_over done items after m n w kept lt on same = record {
   more = sync_item (did_by done) ∷ [];
   grown = on;
+  new = new_after items after (sync_item (did_by done)) on (sync_opens done items);
   polls = same_polls items items after (sync_item (did_by done)) refl on (sync_polls done);
   told = subst (λ (x : LoopState). IsTold after (view_of x)) (sym same) (subst (λ (xs : List Item). IsTold xs (view_of (synced_all done m))) (sym on) (sync_over_told done items m w kept lt));
   same = same;
@@ -250,7 +269,7 @@ syncs_over done items after m n w kept lt on same = record {
 
 -- nothing is to be synced
 pub syncs_over_none : (items : List Item) (i m : LoopState) → i ≡ m → IsTakingOver items m → i.synced ≡ i.kept → SyncsOver true items items m m
-syncs_over_none items i m is w same = let e = subst (λ (x : LoopState). x.synced ≡ x.kept) is same in record { more = []; grown = sym (append-nil items); polls = refl; told = w.told; same = ap (λ (n : ℕ). record m { synced = n }) e }
+syncs_over_none items i m is w same = let e = subst (λ (x : LoopState). x.synced ≡ x.kept) is same in record { more = []; grown = sym (append-nil items); new = λ n. n; polls = refl; told = w.told; same = ap (λ (n : ℕ). record m { synced = n }) e }
 
 listen_may : (m : LoopState) → m.phase ≡ Logged → m.over ≡ length m.peer.entries → m.kept ≡ length m.peer.entries → m.synced ≡ m.kept → is_allowed (base_of m) (Listening (told_addr m.roster.me)) ≡ true
 listen_may m logged over kept synced =
@@ -280,11 +299,16 @@ listens done name items after l m n w synced on same = (
 log_none : (r : Bool) (name : List ℕ) (items after : List Item) → items ≡ [] → after ≡ items ++ log_item (did_by r) name ∷ [] → polls_of after ≡ 0
 log_none r name items after none on = same_polls [] items after (log_item (did_by r) name) (ap (λ (xs : List Item). polls_of xs) none) on (log_polls r name)
 
+-- nor is a socket opened in it
+log_new : (r : Bool) (name : List ℕ) (items after : List Item) → items ≡ [] → after ≡ items ++ log_item (did_by r) name ∷ [] → SocketsAreNew after
+log_new r name items after none on = new_after items after (log_item (did_by r) name) on (log_opens r name items) (subst SocketsAreNew (sym none) new_none)
+
 pub begins_unlogged : (r : Bool) (name : List ℕ) (items after : List Item) (l m : LoopState) → IsNew l → items ≡ [] → after ≡ items ++ log_item (did_by r) name ∷ [] → m ≡ logged_on r l → r ≡ false → Begins name B.KeepFault l m after
 begins_unlogged r name items after l m new none on same no_log =
     let begun : m ≡ logged_on false l = same ∙ ap (λ (b : Bool). logged_on b l) no_log in
     record {
       told = log_told r items after name l m new none on same;
+      new = log_new r name items after none on;
       named = subst (BeginsLog name) (append-nil after) (log_named r items after [] name none on);
       polls = log_none r name items after none on;
       peer = ap (λ (x : LoopState). x.peer) begun;
@@ -298,6 +322,7 @@ takes_first r name items after l m new none on same logged =
 
 -- behind the log and the entries taken over
 pub record IsLogged (name : List ℕ) (items after : List Item) (l m n : LoopState) : Type 0 where
+  pub new : SocketsAreNew after
   pub named : BeginsLog name after
   pub polls : polls_of after ≡ 0
   pub peer : n.peer ≡ l.peer
@@ -307,6 +332,7 @@ pub logged_so : (r s : Bool) (name : List ℕ) (items mid after : List Item) (l 
 logged_so r s name items mid after l m n none on same logged t =
     let begun : m ≡ logged_on true l = same ∙ ap (λ (b : Bool). logged_on b l) logged in
     record {
+      new = t.new (log_new r name items mid none on);
       named = subst (BeginsLog name) (sym t.grown) (log_named r items mid t.more name none on);
       polls = t.polls ∙ log_none r name items mid none on;
       peer = t.peer ∙ ap (λ (x : LoopState). x.peer) begun;
@@ -316,18 +342,19 @@ logged_so r s name items mid after l m n none on same logged t =
 pub begins_unkept : (s : Bool) (name : List ℕ) (mid after : List Item) (l m n : LoopState) → IsLogged name mid after l m n → TakesOver s mid after m n → s ≡ false → Begins name B.KeepFault l n after
 begins_unkept s name mid after l m n w t no_keep =
     let u = subst (λ (b : Bool). TakesOver b mid after m n) no_keep t in
-    record { told = u.told; named = w.named; polls = w.polls; peer = w.peer; setting = w.setting; stands = u.stands }
+    record { told = u.told; new = w.new; named = w.named; polls = w.polls; peer = w.peer; setting = w.setting; stands = u.stands }
 
 pub over_kept : (s : Bool) (name : List ℕ) (mid after : List Item) (l m n : LoopState) → IsLogged name mid after l m n → TakesOver s mid after m n → s ≡ true → IsOverKept name after l n
 over_kept s name mid after l m n w t all =
     let u = subst (λ (b : Bool). TakesOver b mid after m n) all t in
-    record { taking = u.stands.0; kept = u.stands.1; named = w.named; polls = w.polls; peer = w.peer; setting = w.setting }
+    record { taking = u.stands.0; kept = u.stands.1; new = w.new; named = w.named; polls = w.polls; peer = w.peer; setting = w.setting }
 
 pub begins_unsynced : (r : Bool) (name : List ℕ) (items after : List Item) (l m n : LoopState) → IsOverKept name items l m → SyncsOver r items after m n → r ≡ false → Begins name B.KeepFault l n after
 begins_unsynced r name items after l m n w s no_sync =
     let same : n ≡ synced_all false m = s.same ∙ ap (λ (b : Bool). synced_all b m) no_sync in
     record {
       told = s.told;
+      new = s.new w.new;
       named = subst (BeginsLog name) (sym s.grown) (named_on name items s.more w.named);
       polls = s.polls ∙ w.polls;
       peer = ap (λ (x : LoopState). x.peer) same ∙ w.peer;
@@ -348,6 +375,7 @@ over_synced r name items after l m n w s all =
           handled = ap (λ (x : LoopState). x.handled) same ∙ w.taking.handled;
         };
         kept = ap (λ (x : LoopState). x.kept) same ∙ w.kept ∙ sym (ap (λ (x : LoopState). length x.peer.entries) same);
+        new = s.new w.new;
         named = subst (BeginsLog name) (sym s.grown) (named_on name items s.more w.named);
         polls = s.polls ∙ w.polls;
         peer = ap (λ (x : LoopState). x.peer) same ∙ w.peer;
@@ -360,6 +388,9 @@ over_synced r name items after l m n w s all =
 listened_none : (r : Bool) (name : List ℕ) (items after : List Item) (l m : LoopState) → IsOverKept name items l m → after ≡ items ++ listen_item (did_by r) (told_addr m.roster.me) ∷ [] → polls_of after ≡ 0
 listened_none r name items after l m w on = same_polls items items after (listen_item (did_by r) (told_addr m.roster.me)) refl on (listen_polls r (told_addr m.roster.me)) ∙ w.polls
 
+listened_new : (r : Bool) (name : List ℕ) (items after : List Item) (l m : LoopState) → IsOverKept name items l m → after ≡ items ++ listen_item (did_by r) (told_addr m.roster.me) ∷ [] → SocketsAreNew after
+listened_new r name items after l m w on = new_after items after (listen_item (did_by r) (told_addr m.roster.me)) on (listen_opens r (told_addr m.roster.me) items) w.new
+
 pub begins_ready : (name : List ℕ) (r : Bool) (items after : List Item) (l m n : LoopState) → IsOverKept name items l m × (m.synced ≡ m.kept) → after ≡ items ++ listen_item (did_by r) (told_addr m.roster.me) ∷ [] → n ≡ listens_on r m → r ≡ true → Begins name B.Ready l n after
 begins_ready name r items after l m n both on state done =
     let w = both.0 in
@@ -368,6 +399,7 @@ begins_ready name r items after l m n both on state done =
     let t = listens r name items after l m n w synced on state in
     record {
       told = t.0;
+      new = listened_new r name items after l m w on;
       named = t.1;
       polls = listened_none r name items after l m w on;
       peer = ap (λ (x : LoopState). x.peer) same ∙ w.peer;
@@ -391,6 +423,7 @@ begins_poll_fault name r items after l m n both on state deaf =
     let t = listens r name items after l m n w synced on state in
     record {
       told = t.0;
+      new = listened_new r name items after l m w on;
       named = t.1;
       polls = listened_none r name items after l m w on;
       peer = ap (λ (x : LoopState). x.peer) same ∙ w.peer;

@@ -1,7 +1,8 @@
 -- CallsIn: what the calls that keep, handle and read ask of a loop that is seen as its parts, and what is so behind them.
 use Rattle.std.proofs.Common.{◌≡◌, ℕ, ◌+◌, ◌-◌, ◌*◌, ◌^◌, ◌<◌, ◌≤◌, Bool, true, false, refl, sym, ap, subst, ◌∙◌, List, [], ◌∷◌, ◌++◌, arith, length, get_or}
-use Rattle.std.specs.Prelude.{Some, not, ◌&&◌, ◌==◌, nat_lt, take, slice_get}
-use Rattle.std.proofs.lemmas.Bool.{and_parts, ltb-true, false≢true}
+use Rattle.std.specs.Prelude.{Some, Result, Ok, Err, not, ◌&&◌, ◌==◌, nat_lt, take, slice_get}
+use Rattle.std.proofs.lemmas.Result.{on_ok_weaker}
+use Rattle.std.proofs.lemmas.Bool.{and_parts, ltb-true}
 use Rattle.std.proofs.lemmas.List.{length-append, length-take-le, take-append-le}
 use Rattle.std.proofs.lemmas.Option.{slice_get-get_or, slice_get_within}
 use Rattle.definitions.specs.Lists.{EachIs}
@@ -33,10 +34,12 @@ use Rattle.loop_rules.specs.declared.phases.Phase.{Phase}
 use Rattle.loop_rules.specs.declared.phases.Phase.TheVariants.{Running, KeepFault}
 use Rattle.loop_rules.specs.Told.{IsTold}
 use Rattle.loop_rules.specs.Handling.{IsOfOther}
+use Rattle.ready_loop.specs.declared.stops.Stop.{Stop}
+use Rattle.ready_loop.specs.declared.stops.Stop.TheVariants as T
 use Rattle.ready_loop.specs.States.{LoopState, IsFit, IsOthers, setting_of, kept_of, choices_of, view_of}
 use Rattle.ready_loop.specs.Steps.{did_by, next_bytes, kept_next, with_table}
 use Rattle.ready_loop.specs.Going.{Goes, IsPlayed, undialled}
-use Rattle.ready_loop.specs.Handling.{KeepsMade, Advances, IsGot, Hears, IsHearing, Handles, KeepsLines, has_next, passed_as, ReadsOnce, Reads, ReadsOut, IsReadyToRead, WantsAt, WantsNone, SameSockets}
+use Rattle.ready_loop.specs.Handling.{KeepsMade, Advances, IsGot, Hears, IsHearing, Handles, KeepsLines, has_next, passed_as, ReadsOnce, Reads, IsReadyToRead, WantsAt, WantsNone, SameSockets}
 use Rattle.ready_loop.proofs.Going.{goes_still}
 use Rattle.ready_loop.proofs.Idle.{all_kept}
 use Rattle.ready_loop.proofs.Kept.{MayKeep, each_drop, got_may}
@@ -73,7 +76,7 @@ made_one done r before items after l m n i w es k ahead same f lt e fits is on s
     (subst (λ (x : LoopState). EachIs (IsOfOther x.peer.game x.peer.me) x.table.waiting) same f.waiting) on state
 
 pub made_stops : (r : Bool) (before items after : List Item) (l m n i : LoopState) (w : Writing) (es : List Entry) → Making before items l m → 1 ≤ l.peer.game.ahead → i ≡ m → IsFit i w → i.kept < length es → es ≡ i.peer.entries → FitsNext m →
-    r ≡ false → after ≡ items ++ keep_item (did_by r) (next_bytes m) ∷ [] → n ≡ kept_next r m → KeepsMade false before after l n
+    r ≡ false → after ≡ items ++ keep_item (did_by r) (next_bytes m) ∷ [] → n ≡ kept_next r m → KeepsMade (Err T.KeepFault) before after l n
 made_stops r before items after l m n i w es k ahead same f lt e fits is on state =
     made_faults before items after l m n k (made_one false r before items after l m n i w es k ahead same f lt e fits is on state) (state ∙ ap (λ (b : Bool). kept_next b m) is)
 
@@ -87,7 +90,7 @@ kept_smaller r m n i es same lt e is state =
     let less = lt_now i m es same lt e in
     subst (λ (x : LoopState). length x.peer.entries - x.kept < length m.peer.entries - m.kept) (sym (state ∙ ap (λ (b : Bool). kept_next b m) is)) (omega (arith, less))
 
-pub made_end : (before items : List Item) (l m i : LoopState) → Making before items l m → 1 ≤ l.peer.game.ahead → i ≡ m → i.kept ≡ length i.peer.entries → KeepsMade true before items l m
+pub made_end : (before items : List Item) (l m i : LoopState) → Making before items l m → 1 ≤ l.peer.game.ahead → i ≡ m → i.kept ≡ length i.peer.entries → KeepsMade (Ok tt) before items l m
 made_end before items l m i k ahead same all = all_made before items l m k (subst (λ (p : PeerState). 1 ≤ p.game.ahead) (sym k.peer) ahead) (subst (λ (x : LoopState). x.kept ≡ length x.peer.entries) same all)
 
 -- ---- the own frames are made
@@ -125,8 +128,8 @@ advanced_made i l m p a all =
     (ap (advance l.peer.game l.peer.me)
     (ap (take l.kept) more.1 ∙ take-append-le l.kept l.peer.entries more.0 (omega (arith, all)) ∙ all_kept l all))
 
-pub advances : (done : Bool) (before after : List Item) (i l m n : LoopState) (p : PeerState) (w : Writing) → IsAdvanced i l m p → IsFit i w → KeepsMade done before after m n → Advances done before after l n
-advances done before after i l m n p w a f k =
+pub advances : (r : Result (Unit {0}) Stop) (before after : List Item) (i l m n : LoopState) (p : PeerState) (w : Writing) → IsAdvanced i l m p → IsFit i w → KeepsMade r before after m n → Advances r before after l n
+advances r before after i l m n p w a f k =
     let is = advanced_is i l m p a in
     let more = advanced_more l in
     let g = subst (λ (x : LoopState). IsFit x w) a.0 f in
@@ -134,6 +137,7 @@ advances done before after i l m n p w a f k =
       goes = record {
         more = k.goes.more;
         grown = k.goes.grown;
+        new = k.goes.new;
         polls = k.goes.polls;
         setting = k.goes.setting ∙ ap setting_of is ∙ grown_setting l (advance l.peer.game l.peer.me l.peer.entries) more.0 more.1 g.over;
         undialled = (let u = k.goes.undialled in let v = ap undialled is in omega (arith, u, v));
@@ -166,7 +170,7 @@ got_keeps items l w told fits =
 pub got_more : (l : LoopState) → IsGot l → l.kept < length l.peer.entries
 got_more l w = (let k = w.kept in omega (arith, k))
 
-pub got_stops : (r : Bool) (items after : List Item) (l m : LoopState) → IsGot l → IsTold items (view_of l) → FitsNext l → r ≡ false → after ≡ items ++ keep_item (did_by r) (next_bytes l) ∷ [] → m ≡ kept_next r l → Hears false items after l m
+pub got_stops : (r : Bool) (items after : List Item) (l m : LoopState) → IsGot l → IsTold items (view_of l) → FitsNext l → r ≡ false → after ≡ items ++ keep_item (did_by r) (next_bytes l) ∷ [] → m ≡ kept_next r l → Hears (Err T.KeepFault) items after l m
 got_stops r items after l m w told fits is on state =
     got_faults items after l m (Got w.arrival.player w.arrival.frame) (got_keeps items l w told fits) w.entries (on ∙ ap (λ (b : Bool). items ++ keep_item (did_by b) (next_bytes l) ∷ []) is) (state ∙ ap (λ (b : Bool). kept_next b l) is)
 
@@ -240,14 +244,15 @@ heard_told items i l m a answer p w h f hearing logged state =
     (subst (IsTold items) (sym (grown_view l (l.peer.entries ++ Got a.player a.frame ∷ []) (Got a.player a.frame ∷ []) refl g.kept g.over)) hearing.told)
 
 -- from the loop before the frame came
-pub heard_hears : (done : Bool) (items after : List Item) (i l m n : LoopState) (a : Arrival) (answer : GotAnswer) (p : PeerState) (w : Writing) → IsHeard i l a answer p → IsFit i w → is_logged answer ≡ true → m ≡ record i { peer = p } → Hears done items after m n → Hears done items after l n
-heard_hears done items after i l m n a answer p w h f logged state k =
+pub heard_hears : (r : Result (Unit {0}) Stop) (items after : List Item) (i l m n : LoopState) (a : Arrival) (answer : GotAnswer) (p : PeerState) (w : Writing) → IsHeard i l a answer p → IsFit i w → is_logged answer ≡ true → m ≡ record i { peer = p } → Hears r items after m n → Hears r items after l n
+heard_hears r items after i l m n a answer p w h f logged state k =
     let g = subst (λ (x : LoopState). IsFit x w) h.same f in
     let is = heard_state i l m a answer p h logged state in
     record {
       goes = record {
         more = k.goes.more;
         grown = k.goes.grown;
+        new = k.goes.new;
         polls = k.goes.polls;
         setting = k.goes.setting ∙ ap setting_of is ∙ grown_setting l (l.peer.entries ++ Got a.player a.frame ∷ []) (Got a.player a.frame ∷ []) refl g.over;
         undialled = (let u = k.goes.undialled in let v = ap undialled is in omega (arith, u, v));
@@ -256,11 +261,11 @@ heard_hears done items after i l m n a answer p w h f logged state k =
       };
       keeps = subst (λ (x : LoopState). KeepsLines x.table n.table) is k.keeps;
       waiting = k.waiting ∙ ap (λ (x : LoopState). x.table.waiting) is;
-      handled = λ d. k.handled d ∙ ap (λ (x : LoopState). x.handled + 1) is;
+      handled = on_ok_weaker r (λ (e : n.handled ≡ m.handled + 1). e ∙ ap (λ (x : LoopState). x.handled + 1) is) k.handled;
       stands = k.stands;
     }
 
-pub heard_passed : (items : List Item) (i l m n : LoopState) (a : Arrival) (answer : GotAnswer) (p : PeerState) (w : Writing) → IsHeard i l a answer p → IsFit i w → IsHearing items l → has_next l ≡ true → is_logged answer ≡ false → m ≡ record i { peer = p } → n ≡ passed_as answer a.player m → Hears true items items l n
+pub heard_passed : (items : List Item) (i l m n : LoopState) (a : Arrival) (answer : GotAnswer) (p : PeerState) (w : Writing) → IsHeard i l a answer p → IsFit i w → IsHearing items l → has_next l ≡ true → is_logged answer ≡ false → m ≡ record i { peer = p } → n ≡ passed_as answer a.player m → Hears (Ok tt) items items l n
 heard_passed items i l m n a answer p w h f hearing next un state passed =
     let parts = next_parts l next in
     let is : m ≡ l = state ∙ ap (λ (x : PeerState). record i { peer = x }) (h.log ∙ ap (λ (es : List Entry). record i.peer { entries = es }) (got_unlogged i.peer.game i.peer.me i.peer.entries a.player a.frame answer h.answered un)) ∙ h.same in
@@ -298,14 +303,10 @@ next_now l e = (next_parts l e).0
 pub hearing_on : (before items : List Item) (l m : LoopState) → Handling before items l m → IsHearing items m
 hearing_on before items l m w = record { told = w.goes.told; running = w.running; played = w.played }
 
--- what an answer says, where it is this one
-pub hears_is : (r b : Bool) (items after : List Item) (l m : LoopState) → r ≡ b → Hears r items after l m → Hears b items after l m
-hears_is r b items after l m is h = subst (λ (a : Bool). Hears a items after l m) is h
-
-pub hears_smaller : (r : Bool) (items after : List Item) (l m : LoopState) → has_next l ≡ true → r ≡ true → Hears r items after l m → length m.table.waiting - m.handled < length l.table.waiting - l.handled
-hears_smaller r items after l m next is h =
+pub hears_smaller : (u : Unit {0}) (items after : List Item) (l m : LoopState) → has_next l ≡ true → Hears (Ok u) items after l m → length m.table.waiting - m.handled < length l.table.waiting - l.handled
+hears_smaller u items after l m next h =
     let lt = (next_parts l next).0 in
-    let one = h.handled is in
+    let one = h.handled in
     let same = ap (λ (ws : List Arrival). length ws) h.waiting in
     omega (arith, lt, one, same)
 
@@ -324,14 +325,8 @@ read_hearing k s read before after l m w at wants r = record {
 pub read_first : (s : ℕ) (read : SocketRead) (before after : List Item) (l m : LoopState) → IsReadyToRead before l → ReadsOnce s read before after l m → m.handled ≡ 0
 read_first s read before after l m w r = ap (λ (x : LoopState). x.handled) r.state ∙ w.steady.idle.handled
 
-pub reads_so : (answer : Bool) (k s : ℕ) (read : SocketRead) (before mid after : List Item) (l m n : LoopState) → IsReadyToRead before l → IsAt l.table k s → WantsAt l.table k → ReadsOnce s read before mid l m → Handles answer mid after m n → Reads answer k s before after l n
+pub reads_so : (answer : Result (Unit {0}) Stop) (k s : ℕ) (read : SocketRead) (before mid after : List Item) (l m n : LoopState) → IsReadyToRead before l → IsAt l.table k s → WantsAt l.table k → ReadsOnce s read before mid l m → Handles answer mid after m n → Reads answer k s before after l n
 reads_so answer k s read before mid after l m n w at wants r h = reads_once answer k s read before mid after l m n w (reads_at before l k s w at wants) r h
-
-pub reads_is : (r b : Bool) (k s : ℕ) (items after : List Item) (l m : LoopState) → r ≡ b → Reads r k s items after l m → Reads b k s items after l m
-reads_is r b k s items after l m is h = subst (λ (a : Bool). Reads a k s items after l m) is h
-
-pub outs_is : (r b : Bool) (k s : ℕ) (items after : List Item) (l m : LoopState) → r ≡ b → ReadsOut r k s items after l m → ReadsOut b k s items after l m
-outs_is r b k s items after l m is h = subst (λ (a : Bool). ReadsOut a k s items after l m) is h
 
 -- ---- what the code's tests say
 
@@ -345,15 +340,6 @@ waiting_player i l a p w same f first log =
 
 pub cleared_state : (i m : LoopState) (u : Table) → i ≡ m → u ≡ record i.table { waiting = [] } → record i { table = u; handled = 0 } ≡ record m { table = record m.table { waiting = [] }; handled = 0 }
 cleared_state i m u same e = ap (λ (t : Table). record i { table = t; handled = 0 }) e ∙ ap (λ (x : LoopState). record x { table = record x.table { waiting = [] }; handled = 0 }) same
-
-not_both : (a b c : Bool) → c ≡ not a → c ≡ not b → a ≡ b
-not_both true true c e f = refl
-not_both false false c e f = refl
-not_both true false c e f = absurd (false≢true (sym e ∙ f))
-not_both false true c e f = absurd (false≢true (sym f ∙ e))
-
-pub clean_now : (i m : LoopState) (none some : Bool) → i ≡ m → some ≡ not none → some ≡ not (is_clean i.peer.game i.peer.entries) → none ≡ is_clean m.peer.game m.peer.entries
-clean_now i m none some same e f = not_both none (is_clean i.peer.game i.peer.entries) some e f ∙ ap (λ (x : LoopState). is_clean x.peer.game x.peer.entries) same
 
 pub at_few : (t u : Table) (k s : ℕ) → SameSockets t u → IsAt t k s → k < length u.lines
 at_few t u k s same at = let here = at_same t u k s same at in slice_get_within u.lines k here.0 here.1

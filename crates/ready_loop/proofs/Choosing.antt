@@ -1,6 +1,6 @@
 -- Choosing: an own move is chosen, and kept.
 use Rattle.std.proofs.Common.{inl, inr, ◌≡◌, ℕ, zero, suc, ◌+◌, ◌-◌, ◌*◌, ◌<◌, ◌≤◌, Bool, true, false, refl, sym, ap, subst, ◌∙◌, List, [], ◌∷◌, ◌++◌, append-nil, arith, length}
-use Rattle.std.specs.Prelude.{Option, Some, None, IfSome, not, if◌then◌else◌, ◌&&◌, take, slice_get, is_none}
+use Rattle.std.specs.Prelude.{Option, Some, None, Result, Ok, Err, IfSome, not, if◌then◌else◌, ◌&&◌, take, slice_get, is_none}
 use Rattle.std.specs.List.{fold}
 use Rattle.std.proofs.lemmas.List.{length-append, take-append-le}
 use Rattle.definitions.specs.Lists.{EachIs, is_empty}
@@ -21,7 +21,7 @@ use Rattle.definitions.specs.World.{Game}
 use Rattle.definitions.specs.Logs.{chosen}
 use Rattle.definitions.specs.Honest.{IsHonest, allowed, chosen_track}
 use Rattle.definitions.specs.Advance.{advance, advance_by, next_made, with_made}
-use Rattle.std.proofs.lemmas.Bool.{false≢true, and_from}
+use Rattle.std.proofs.lemmas.Bool.{and_from}
 use Rattle.definitions.specs.declared.findings.Finding.{Finding}
 use Rattle.definitions.specs.Findings.{is_clean}
 use Rattle.definition_laws.proofs.Silent.{findings_chose, clean_advance}
@@ -43,16 +43,19 @@ use Rattle.loop_rules.specs.Keeping.{may_keep_in}
 use Rattle.loop_rules.specs.Told.{IsTold}
 use Rattle.loop_rules.proofs.Kept.{Keeps, keeps_sorted}
 use Rattle.ready_loop.specs.States.{LoopState, IsFit, setting_of, kept_of, base_of, rest_of, view_of}
-use Rattle.ready_loop.specs.Steps.{did_by, next_bytes, kept_next}
-use Rattle.ready_loop.specs.Going.{Grows, IsCut, IsSteady, undialled}
-use Rattle.ready_loop.specs.Handling.{Advances, StandsPlayed}
-use Rattle.ready_loop.specs.declared.playing.Played.TheVariants as P
-use Rattle.ready_loop.specs.declared.playing.Played.{Played}
-use Rattle.ready_loop.specs.Settling.{IsPlaying, PutsChoice, illegal_of, ChoosesIn, StandsChosen, StandsAs, IsOwnMove, Chooses, Plays, is_on, is_refused}
+use Rattle.ready_loop.specs.Steps.{did_by, next_bytes, kept_next, synced_all}
+use Rattle.ready_loop.specs.Going.{Goes, Grows, IsCut, IsSteady, undialled}
+use Rattle.ready_loop.specs.declared.stops.Stop.{Stop}
+use Rattle.ready_loop.specs.declared.stops.Stop.TheVariants as T
+use Rattle.ready_loop.specs.Stops.{IsOwnMove, Refuses, settled_of, StandsStopped}
+use Rattle.ready_loop.specs.Handling.{Advances}
+use Rattle.ready_loop.specs.Settling.{IsReady, IsPlaying, PutsChoice, illegal_of, ChoosesIn, HasChosen, Chooses, Plays, Syncs}
 use Rattle.ready_loop.specs.Choices.{Chooser}
 use Rattle.ready_loop.proofs.Going.{goes_still, grows, grows_then, grows_goes}
 use Rattle.ready_loop.proofs.Choices.{IsDrawn, chose_one, chose_refused, chooses_none, chooses_then, chooses_goes}
 use Rattle.ready_loop.proofs.Idle.{all_kept}
+use Rattle.ready_loop.proofs.Synced.{synced_whole}
+use Rattle.ready_loop.proofs.Stopped.{faulty_stops, faulty_unchosen, unsynced_faulty}
 use Rattle.ready_loop.proofs.Kept.{MayKeep, own_goes, each_drop}
 
 -- ---- entries that are not kept yet show nothing
@@ -129,6 +132,7 @@ chosen_goes done items after l m n t mv nonce w f on same =
     record {
       more = g.more;
       grown = g.grown;
+      new = g.new;
       polls = g.polls;
       setting = g.setting ∙ ap setting_of w.same ∙ grown_setting l (l.peer.entries ++ Chose t mv nonce ∷ []) (Chose t mv nonce ∷ []) refl w.over;
       undialled = (let u = g.undialled in let v = ap undialled w.same in omega (arith, u, v));
@@ -166,7 +170,6 @@ pub record Choosing (by to : Chooser) (before items : List Item) (l m : LoopStat
   pub choices : ChoosesIn by to false l m
   pub grows : Grows before items l m
   pub table : m.table ≡ l.table
-  pub synced : m.synced ≡ l.synced
   pub clean : is_clean m.peer.game m.peer.entries ≡ is_clean l.peer.game l.peer.entries
   pub steady : IsSteady m
 
@@ -232,7 +235,7 @@ put_goes done r items after l m n mv nonce fault w p none fits is on state =
     chosen_goes r items after l m n (length (chosen l.peer.me l.peer.entries)) mv nonce k (fits e next) on state
 
 pub choose_faults : (by to : Chooser) (r : Bool) (items after : List Item) (l m n : LoopState) (mv : Move) (nonce : Nonce) (fault : Option MoveFault) → IsDrawn l by to mv nonce → IsPlaying items l → PutsChoice mv nonce fault l m → fault ≡ None →
-    ((e : Entry) → slice_get m.peer.entries m.kept ≡ Some e → FitsEntry e) → r ≡ false → after ≡ items ++ keep_item (did_by r) (next_bytes m) ∷ [] → n ≡ kept_next r m → Chooses by to P.KeepFault items after l n
+    ((e : Entry) → slice_get m.peer.entries m.kept ≡ Some e → FitsEntry e) → r ≡ false → after ≡ items ++ keep_item (did_by r) (next_bytes m) ∷ [] → n ≡ kept_next r m → Chooses by to (Err T.KeepFault) items after l n
 choose_faults by to r items after l m n mv nonce fault d w p none fits is on state =
     let q = puts_none l m mv nonce fault p none in
     let e : Entry = Chose (length (chosen l.peer.me l.peer.entries)) mv nonce in
@@ -240,11 +243,10 @@ choose_faults by to r items after l m n mv nonce fault d w p none fits is on sta
     let both : n ≡ kept_next false (with_entries (l.peer.entries ++ e ∷ []) l) = same ∙ ap (kept_next false) q.stands.0 in
     let kept : take l.kept (l.peer.entries ++ e ∷ []) ≡ l.peer.entries = take-append-le l.kept l.peer.entries (e ∷ []) (let k = w.steady.idle.kept in omega (arith, k)) ∙ all_kept l w.steady.idle.kept in
     record {
+      refused = false;
+      refuses = tt;
       choices = chose_one l n by to mv nonce d (ap (λ (x : LoopState). x.peer) both);
       grows = put_goes false r items after l m n mv nonce fault w p none fits is on state;
-      table = ap (λ (x : LoopState). x.table) same ∙ ap (λ (x : LoopState). x.table) q.stands.0;
-      synced = ap (λ (x : LoopState). x.synced) same ∙ ap (λ (x : LoopState). x.synced) q.stands.0;
-      clean = λ on. absurd (false≢true on);
       stands = subst IsCut (sym both) (record { fault = refl; rest = inr (inl (e, ap (λ (xs : List Entry). xs ++ e ∷ []) (sym kept))) });
     }
 
@@ -254,7 +256,6 @@ pub record IsPut (items mid : List Item) (l n : LoopState) (mv : Move) (nonce : 
   pub running : n.phase ≡ Running
   pub kept : n.kept ≡ length n.peer.entries
   pub table : n.table ≡ l.table
-  pub synced : n.synced ≡ l.synced
   pub handled : n.handled ≡ l.handled
   pub entries : n.peer ≡ record l.peer { entries = l.peer.entries ++ Chose (length (chosen l.peer.me l.peer.entries)) mv nonce ∷ [] }
 
@@ -270,125 +271,149 @@ put_on r items after l m n mv nonce fault w p none fits is on state =
       running = ap (λ (x : LoopState). x.phase) both ∙ w.steady.idle.running;
       kept = ap (λ (x : LoopState). x.kept) both ∙ (let k = w.steady.idle.kept in let long = length-append l.peer.entries (e ∷ []) in let z : l.kept + 1 ≡ length (l.peer.entries ++ e ∷ []) = omega (arith, k, long) in z) ∙ sym (ap (λ (x : LoopState). length x.peer.entries) both);
       table = ap (λ (x : LoopState). x.table) both;
-      synced = ap (λ (x : LoopState). x.synced) both;
       handled = ap (λ (x : LoopState). x.handled) both;
       entries = ap (λ (x : LoopState). x.peer) both;
     }
 
 -- and of the own frames that it lets be made
-put_choices : (by to : Chooser) (r : Bool) (items mid after : List Item) (l n o : LoopState) (mv : Move) (nonce : Nonce) → IsDrawn l by to mv nonce → IsPut items mid l n mv nonce → Advances r mid after n o → ChoosesIn by to false l o
+put_choices : (by to : Chooser) (r : Result (Unit {0}) Stop) (items mid after : List Item) (l n o : LoopState) (mv : Move) (nonce : Nonce) → IsDrawn l by to mv nonce → IsPut items mid l n mv nonce → Advances r mid after n o → ChoosesIn by to false l o
 put_choices by to r items mid after l n o mv nonce d p a = chooses_goes by to false mid after l n o p.grows.setting (chose_one l n by to mv nonce d p.entries) a.goes
-
-pub choose_stops : (by to : Chooser) (r : Bool) (items mid after : List Item) (l n o : LoopState) (mv : Move) (nonce : Nonce) → IsDrawn l by to mv nonce → IsPut items mid l n mv nonce → Advances r mid after n o → r ≡ false → Chooses by to P.KeepFault items after l o
-choose_stops by to r items mid after l n o mv nonce d p a none = record {
-  choices = put_choices by to r items mid after l n o mv nonce d p a;
-  grows = grows_goes items mid after l n o p.grows a.goes;
-  table = a.table ∙ p.table;
-  synced = a.synced ∙ p.synced;
-  clean = λ on. absurd (false≢true on);
-  stands = subst (λ (b : Bool). StandsPlayed b o) none a.stands;
-}
 
 clean_chose : (game : Game) (h : List Entry) (t : ℕ) (m : Move) (n : Nonce) → is_clean game (h ++ Chose t m n ∷ []) ≡ is_clean game h
 unfolding is_clean
 clean_chose game h t m n = ap (is_empty {X = Finding}) (findings_chose game h t m n)
 
-pub chooses_on : (by to : Chooser) (r : Bool) (items mid after : List Item) (l n o : LoopState) (mv : Move) (nonce : Nonce) → IsDrawn l by to mv nonce → IsPlaying items l → IsPut items mid l n mv nonce → Advances r mid after n o → r ≡ true → Chooses by to P.On items after l o
-chooses_on by to r items mid after l n o mv nonce d w p a sure =
+chosen_stands : (u : Unit {0}) (items mid after : List Item) (l n o : LoopState) (mv : Move) (nonce : Nonce) → IsPlaying items l → IsPut items mid l n mv nonce → Advances (Ok u) mid after n o → HasChosen l o
+chosen_stands u items mid after l n o mv nonce w p a =
     let all = grows_goes items mid after l n o p.grows a.goes in
-    let stands = subst (λ (b : Bool). StandsPlayed b o) sure a.stands in
     let me : o.peer.me ≡ l.peer.me = ap (λ (s : Setting). s.me) all.setting in
     let t = length (chosen l.peer.me l.peer.entries) in
     let es = l.peer.entries ++ Chose t mv nonce ∷ [] in
     let entries : o.peer.entries ≡ advance l.peer.game l.peer.me es = a.entries ∙ ap (λ (q : PeerState). advance q.game q.me q.entries) p.entries in
     record {
-      choices = put_choices by to r items mid after l n o mv nonce d p a;
-      grows = all;
+      steady = record {
+        idle = record {
+          running = a.stands.0;
+          kept = a.stands.1.kept;
+          waiting = ap (λ (x : Table). x.waiting) (a.table ∙ p.table) ∙ w.steady.idle.waiting;
+          handled = a.handled ∙ p.handled ∙ w.steady.idle.handled;
+        };
+        made = a.stands.1.made;
+      };
       table = a.table ∙ p.table;
-      synced = a.synced ∙ p.synced;
-      clean = λ on. ap (λ (g : Game). is_clean g o.peer.entries) (ap (λ (s : Setting). s.game) all.setting) ∙ ap (is_clean l.peer.game) entries ∙ clean_advance l.peer.game l.peer.me es ∙ clean_chose l.peer.game l.peer.entries t mv nonce;
-      stands = (
-        record {
-          idle = record {
-            running = stands.0;
-            kept = stands.1.kept;
-            waiting = ap (λ (x : Table). x.waiting) (a.table ∙ p.table) ∙ w.steady.idle.waiting;
-            handled = a.handled ∙ p.handled ∙ w.steady.idle.handled;
-          };
-          made = stands.1.made;
-        },
-        ap (λ (q : ℕ). length (chosen q o.peer.entries)) me ∙ ap (λ (xs : List Entry). length (chosen l.peer.me xs)) entries ∙ ap (λ (os : List Opening). length os) (chosen_made l.peer.game l.peer.me es) ∙ chosen_one l.peer.me l.peer.entries t mv nonce,
-      );
+      clean = ap (λ (g : Game). is_clean g o.peer.entries) (ap (λ (s : Setting). s.game) all.setting) ∙ ap (is_clean l.peer.game) entries ∙ clean_advance l.peer.game l.peer.me es ∙ clean_chose l.peer.game l.peer.entries t mv nonce;
+      one = ap (λ (q : ℕ). length (chosen q o.peer.entries)) me ∙ ap (λ (xs : List Entry). length (chosen l.peer.me xs)) entries ∙ ap (λ (os : List Opening). length os) (chosen_made l.peer.game l.peer.me es) ∙ chosen_one l.peer.me l.peer.entries t mv nonce;
     }
 
-pub own_move : (by to : Chooser) (items : List Item) (l m : LoopState) (choice : Choice) (mv : Move) (nonce : Nonce) (fault : Option MoveFault) (f : MoveFault) → IsDrawn l by to mv nonce → IsPlaying items l → may_choose l.peer.game l.peer.me l.peer.entries ≡ true →
-    choice ≡ choice_of l.peer.game l.peer.me l.peer.entries → PutsChoice mv nonce fault l m → fault ≡ Some f → Chooses by to (P.OwnMove choice.turn f) items items l m
-own_move by to items l m choice mv nonce fault f d w may is p some =
+pub choose_ends : (by to : Chooser) (r : Result (Unit {0}) Stop) (items mid after : List Item) (l n o : LoopState) (mv : Move) (nonce : Nonce) → IsDrawn l by to mv nonce → IsPlaying items l → IsPut items mid l n mv nonce → Advances r mid after n o → Chooses by to r items after l o
+choose_ends by to (Ok u) items mid after l n o mv nonce d w p a = record {
+  refused = false;
+  refuses = refl;
+  choices = put_choices by to (Ok u) items mid after l n o mv nonce d p a;
+  grows = grows_goes items mid after l n o p.grows a.goes;
+  stands = chosen_stands u items mid after l n o mv nonce w p a;
+}
+choose_ends by to (Err stop) items mid after l n o mv nonce d w p a = record {
+  refused = false;
+  refuses = (faulty_unchosen stop o a.stands).refuses;
+  choices = put_choices by to (Err stop) items mid after l n o mv nonce d p a;
+  grows = grows_goes items mid after l n o p.grows a.goes;
+  stands = faulty_stops by.plan stop o a.stands;
+}
+
+-- ---- a move that is not legal
+
+refused_same : (l m : LoopState) (mv : Move) (nonce : Nonce) (fault : Option MoveFault) (f : MoveFault) → PutsChoice mv nonce fault l m → fault ≡ Some f → m ≡ l
+refused_same l m mv nonce fault f p some = (subst (λ (o : Option MoveFault). PutsChoice mv nonce o l m) some p).stands.0
+
+pub refused_ready : (items : List Item) (l m : LoopState) (mv : Move) (nonce : Nonce) (fault : Option MoveFault) (f : MoveFault) → IsPlaying items l → PutsChoice mv nonce fault l m → fault ≡ Some f → IsReady items m
+refused_ready items l m mv nonce fault f w p some = subst (IsReady items) (sym (refused_same l m mv nonce fault f p some)) (record { told = w.told; idle = w.steady.idle })
+
+-- from the loop before the choice
+refused_goes : {r : Result (Unit {0}) Stop} (items after : List Item) (l m n : LoopState) (mv : Move) (nonce : Nonce) (fault : Option MoveFault) (f : MoveFault) → PutsChoice mv nonce fault l m → fault ≡ Some f → Syncs r items after m n → Goes items after l n
+refused_goes items after l m n mv nonce fault f p some s = subst (λ (x : LoopState). Goes items after x n) (refused_same l m mv nonce fault f p some) s.goes
+
+refused_choices : (by to : Chooser) (items after : List Item) (l n : LoopState) (mv : Move) (nonce : Nonce) → IsDrawn l by to mv nonce → Goes items after l n → ChoosesIn by to true l n
+refused_choices by to items after l n mv nonce d g = chooses_goes by to true items after l l n refl (chose_refused l l by to mv nonce d refl) g
+
+refuses_fault : (stop : Stop) → stop ≡ T.KeepFault → (refused : Bool) → Refuses (settled_of stop) refused
+refuses_fault stop e refused = subst (λ (x : Stop). Refuses (settled_of x) refused) (sym e) tt
+
+pub refused_unsynced : (stop : Stop) (by to : Chooser) (items after : List Item) (l m n : LoopState) (mv : Move) (nonce : Nonce) (fault : Option MoveFault) (f : MoveFault) → IsDrawn l by to mv nonce → IsPlaying items l → PutsChoice mv nonce fault l m → fault ≡ Some f →
+    Syncs (Err stop) items after m n → Chooses by to (Err stop) items after l n
+refused_unsynced stop by to items after l m n mv nonce fault f d w p some s =
+    let g = refused_goes items after l m n mv nonce fault f p some s in
+    record {
+      refused = true;
+      refuses = refuses_fault stop s.same.0 true;
+      choices = refused_choices by to items after l n mv nonce d g;
+      grows = grows items after l n g;
+      stands = faulty_stops by.plan stop n (unsynced_faulty stop items after m n (refused_ready items l m mv nonce fault f w p some) s);
+    }
+
+pub own_move : (u : Unit {0}) (by to : Chooser) (items after : List Item) (l m n : LoopState) (choice : Choice) (mv : Move) (nonce : Nonce) (fault : Option MoveFault) (f : MoveFault) → IsDrawn l by to mv nonce → IsPlaying items l → may_choose l.peer.game l.peer.me l.peer.entries ≡ true →
+    choice ≡ choice_of l.peer.game l.peer.me l.peer.entries → PutsChoice mv nonce fault l m → fault ≡ Some f → Syncs (Ok u) items after m n → Chooses by to (Err (T.OwnMove choice.turn f)) items after l n
+own_move u by to items after l m n choice mv nonce fault f d w may is p some s =
     let q = subst (λ (o : Option MoveFault). PutsChoice mv nonce o l m) some p in
-    subst (λ (x : LoopState). Chooses by to (P.OwnMove choice.turn f) items items l x) (sym q.stands.0) (record {
-      choices = chose_refused l l by to mv nonce d refl;
-      grows = grows items items l l (goes_still items l w.told);
-      table = refl;
-      synced = refl;
-      clean = λ on. absurd (false≢true on);
+    let g = refused_goes items after l m n mv nonce fault f p some s in
+    let same : n ≡ synced_all true l = s.same ∙ ap (synced_all true) q.stands.0 in
+    record {
+      refused = true;
+      refuses = refl;
+      choices = refused_choices by to items after l n mv nonce d g;
+      grows = grows items after l n g;
       stands = (
-        w.steady,
-        record {
+        synced_whole u items after m n (refused_ready items l m mv nonce fault f w p some).idle s,
+        subst (IsOwnMove by.plan choice.turn f) (sym same) (record {
           mv = mv;
           chooses = may;
           turn_is = ap (λ (x : Choice). x.turn) is;
           planned = subst (λ (x : Choice). IfSome by.plan (λ p. mv ≡ p (chosen_track l.peer.game l.peer.me l.peer.entries) x.turn)) (sym is) d.planned;
           refused = q.stands.1;
-        },
+        }),
       );
-    })
+    }
+
+-- ---- one move after another
 
 pub choosing_first : (by : Chooser) (items : List Item) (l : LoopState) → IsPlaying items l → Choosing by by items items l l
 choosing_first by items l w =
     let still = goes_still items l w.told in
-    record { choices = chooses_none by items items l l still; grows = grows items items l l still; table = refl; synced = refl; clean = refl; steady = w.steady }
+    record { choices = chooses_none by items items l l still; grows = grows items items l l still; table = refl; clean = refl; steady = w.steady }
 
 pub choosing_playing : (by to : Chooser) (before items : List Item) (l m : LoopState) → Choosing by to before items l m → IsPlaying items m
 choosing_playing by to before items l m w = record { told = w.grows.told; steady = w.steady }
 
-on_is : (played : Played) → is_on played ≡ true → played ≡ P.On
-on_is P.On e = refl
-on_is P.KeepFault e = absurd (false≢true e)
-on_is (P.OwnMove turn fault) e = absurd (false≢true e)
+pub choosing_on : (u : Unit {0}) (by mid to : Chooser) (before items after : List Item) (l m n : LoopState) → Choosing by mid before items l m → Chooses mid to (Ok u) items after m n → Choosing by to before after l n
+choosing_on u by mid to before items after l m n w c = record {
+  choices = chooses_then by mid to false l m n w.grows.setting w.choices (subst (λ (b : Bool). ChoosesIn mid to b m n) c.refuses c.choices);
+  grows = grows_then before items after l m n w.grows c.grows;
+  table = c.stands.table ∙ w.table;
+  clean = c.stands.clean ∙ w.clean;
+  steady = c.stands.steady;
+}
 
-pub choosing_on : (by mid to : Chooser) (played : Played) (r : Bool) (before items after : List Item) (l m n : LoopState) → Choosing by mid before items l m → Chooses mid to played items after m n → r ≡ is_on played → r ≡ true → Choosing by to before after l n
-choosing_on by mid to played r before items after l m n w c is sure =
-    let on = subst (λ (p : Played). Chooses mid to p items after m n) (on_is played (sym is ∙ sure)) c in
-    record {
-      choices = chooses_then by mid to false l m n w.grows.setting w.choices on.choices;
-      grows = grows_then before items after l m n w.grows on.grows;
-      table = on.table ∙ w.table;
-      synced = on.synced ∙ w.synced;
-      clean = on.clean refl ∙ w.clean;
-      steady = on.stands.0;
-    }
-
-pub choosing_smaller : (mid to : Chooser) (played : Played) (r : Bool) (items after : List Item) (m n : LoopState) → Chooses mid to played items after m n → r ≡ is_on played → r ≡ true → length (chosen n.peer.me n.peer.entries) ≤ n.peer.game.turns →
+pub choosing_smaller : (u : Unit {0}) (mid to : Chooser) (items after : List Item) (m n : LoopState) → Chooses mid to (Ok u) items after m n → length (chosen n.peer.me n.peer.entries) ≤ n.peer.game.turns →
     n.peer.game.turns - length (chosen n.peer.me n.peer.entries) < m.peer.game.turns - length (chosen m.peer.me m.peer.entries)
-choosing_smaller mid to played r items after m n c is sure few =
-    let one = (subst (λ (p : Played). StandsChosen mid.plan p m n) (on_is played (sym is ∙ sure)) c.stands).1 in
+choosing_smaller u mid to items after m n c few =
+    let one = c.stands.one in
     let turns : n.peer.game.turns ≡ m.peer.game.turns = ap (λ (s : Setting). s.game.turns) c.grows.setting in
     omega (arith, one, turns, few)
 
-pub choosing_ends : (by to : Chooser) (r : Bool) (before items : List Item) (l m : LoopState) → Choosing by to before items l m → r ≡ may_choose m.peer.game m.peer.me m.peer.entries → r ≡ false → Plays by to P.On before items l m
-choosing_ends by to r before items l m w is none = record { choices = w.choices; grows = w.grows; table = w.table; synced = w.synced; clean = λ on. w.clean; stands = (w.steady, sym is ∙ none) }
+pub choosing_ends : (by to : Chooser) (r : Bool) (before items : List Item) (l m : LoopState) → Choosing by to before items l m → r ≡ may_choose m.peer.game m.peer.me m.peer.entries → r ≡ false → Plays by to (Ok tt) before items l m
+choosing_ends by to r before items l m w is none = record {
+  refused = false;
+  refuses = refl;
+  choices = w.choices;
+  grows = w.grows;
+  stands = record { steady = w.steady; table = w.table; clean = w.clean; all = sym is ∙ none };
+}
 
-stands_as : (plan mid : Option Plan) (played : Played) (m n : LoopState) → mid ≡ plan → is_on played ≡ false → StandsChosen mid played m n → StandsAs plan played n
-stands_as plan mid P.On m n e off s = absurd (false≢true (sym off))
-stands_as plan mid P.KeepFault m n e off s = s
-stands_as plan mid (P.OwnMove turn fault) m n e off s = (s.0, subst (λ (p : Option Plan). IsOwnMove p turn fault n) e s.1)
-
-pub choosing_stops : (by mid to : Chooser) (played : Played) (r : Bool) (before items after : List Item) (l m n : LoopState) → Choosing by mid before items l m → Chooses mid to played items after m n → r ≡ is_on played → r ≡ false → Plays by to played before after l n
-choosing_stops by mid to played r before items after l m n w c is none = record {
-  choices = chooses_then by mid to (is_refused played) l m n w.grows.setting w.choices c.choices;
+pub choosing_stops : (stop : Stop) (by mid to : Chooser) (before items after : List Item) (l m n : LoopState) → Choosing by mid before items l m → Chooses mid to (Err stop) items after m n → Plays by to (Err stop) before after l n
+choosing_stops stop by mid to before items after l m n w c = record {
+  refused = c.refused;
+  refuses = c.refuses;
+  choices = chooses_then by mid to c.refused l m n w.grows.setting w.choices c.choices;
   grows = grows_then before items after l m n w.grows c.grows;
-  table = c.table ∙ w.table;
-  synced = c.synced ∙ w.synced;
-  clean = λ on. absurd (false≢true (sym (sym is ∙ none) ∙ on));
-  stands = stands_as by.plan mid.plan played m n w.choices.plan (sym is ∙ none) c.stands;
+  stands = subst (λ (plan : Option Plan). StandsStopped plan stop n) w.choices.plan c.stands;
 }

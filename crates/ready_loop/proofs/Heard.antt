@@ -1,7 +1,7 @@
 -- Heard: the first frame that waits is handled.
 use Rattle.std.proofs.Common.{◌≡◌, ℕ, ◌+◌, ◌-◌, ◌*◌, ◌<◌, ◌≤◌, Bool, true, false, refl, sym, ap, subst, ◌∙◌, List, [], ◌∷◌, ◌++◌, append-nil, arith, length}
 use Rattle.std.proofs.lemmas.Bool.{and_from}
-use Rattle.std.specs.Prelude.{Some, ◌&&◌, ◌==◌, not, drop, take, find, slice_get, if◌then◌else◌}
+use Rattle.std.specs.Prelude.{Some, Ok, ◌&&◌, ◌==◌, not, drop, take, find, slice_get, if◌then◌else◌}
 use Rattle.std.specs.List.{count_by}
 use Rattle.std.proofs.lemmas.List.{drop_more}
 use Rattle.std.proofs.lemmas.Option.{get_or_from_slice_get}
@@ -159,16 +159,17 @@ passed_stays GA.Closed q l = (record { lines = refl; rooms = λ p. refl }, refl,
 -- a frame that makes no entry is handled
 pub pass_hears : (items : List Item) (l m : LoopState) (a : Arrival) (answer : GotAnswer) → IsHearing items l → l.handled < length l.table.waiting → slice_get l.table.waiting l.handled ≡ Some a →
     is_clean l.peer.game l.peer.entries ≡ true → IsOfOther l.peer.game l.peer.me a → answer ≡ got_answer l.peer.game l.peer.me l.peer.entries a.player a.frame → is_logged answer ≡ false →
-    m ≡ passed_as answer a.player l → Hears true items items l m
+    m ≡ passed_as answer a.player l → Hears (Ok tt) items items l m
 pass_hears items l m a answer w lt g c o e un same =
     let all : kept_of l ≡ l.peer.entries = ap (λ (n : ℕ). take n l.peer.entries) w.played.kept ∙ take-length l.peer.entries in
     let old : is_new l.peer.game l.peer.me l.peer.entries a.player a.frame ≡ false = unlogged_old l.peer.game l.peer.me l.peer.entries a.player a.frame c o (sym (logged_is l.peer.game l.peer.me l.peer.entries a.player a.frame) ∙ ap is_logged (sym e) ∙ un) in
     let s = passed_stays answer a.player l in
     let n = passed_same answer a.player l in
-    subst (λ (x : LoopState). Hears true items items l x) (sym same) (record {
+    subst (λ (x : LoopState). Hears (Ok tt) items items l x) (sym same) (record {
       goes = record {
         more = [];
         grown = sym (append-nil items);
+        new = λ n. n;
         polls = refl;
         setting = n.0;
         undialled = n.1;
@@ -177,7 +178,7 @@ pass_hears items l m a answer w lt g c o e un same =
       };
       keeps = s.0;
       waiting = s.1;
-      handled = λ d. s.2;
+      handled = s.2;
       stands = (s.3 ∙ w.running, record { kept = s.4 ∙ w.played.kept ∙ ap (λ (p : PeerState). length p.entries) (sym s.5); made = ap (λ (p : PeerState). next_made p.game p.me p.entries) s.5 ∙ w.played.made });
     })
   where

@@ -114,8 +114,8 @@ own_told items l e w o =
 
 -- an own entry is kept, or keeping it fails: the history goes on
 pub own_goes : (done : Bool) (items after : List Item) (l m : LoopState) (e : Entry) → MayKeep items l e → IsOwn e → after ≡ items ++ keep_item (did_by done) (next_bytes l) ∷ [] → m ≡ kept_next done l → Goes items after l m
-own_goes true items after l m e w o on same = subst (λ (x : LoopState). Goes items after l x) (sym same) (goes_one items after (Kept (next_bytes l)) l (kept_next true l) on refl refl (omega arith) (own_told items l e w o) refl)
-own_goes false items after l m e w o on same = subst (λ (x : LoopState). Goes items after l x) (sym same) (goes_one items after (Failed (KeepCall (next_bytes l))) l (kept_next false l) on refl refl (omega arith) (fault_told items l e w) refl)
+own_goes true items after l m e w o on same = subst (λ (x : LoopState). Goes items after l x) (sym same) (goes_one items after (Kept (next_bytes l)) l (kept_next true l) on refl tt refl (omega arith) (own_told items l e w o) refl)
+own_goes false items after l m e w o on same = subst (λ (x : LoopState). Goes items after l x) (sym same) (goes_one items after (Failed (KeepCall (next_bytes l))) l (kept_next false l) on refl tt refl (omega arith) (fault_told items l e w) refl)
 
 -- ---- the entry of the first frame that waits
 

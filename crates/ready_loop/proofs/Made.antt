@@ -1,7 +1,7 @@
 -- Made: the own frames that were just made are kept one by one.
 use Rattle.std.proofs.Common.{inl, inr, ◌≡◌, ℕ, zero, suc, ◌+◌, ◌*◌, ◌<◌, ◌≤◌, Bool, true, false, refl, sym, ap, subst, ◌∙◌, List, [], ◌∷◌, ◌++◌, append_assoc, append-nil, arith, length}
 use Rattle.std.proofs.lemmas.Bool.{and_from}
-use Rattle.std.specs.Prelude.{Option, Some, None, ◌&&◌, take, slice_get}
+use Rattle.std.specs.Prelude.{Option, Some, None, ◌&&◌, take, slice_get, Ok, Err}
 use Rattle.std.proofs.lemmas.List.{length-take-le}
 use Rattle.std.proofs.Math.Seq.{take-length}
 use Rattle.definitions.specs.Lists.{EachIs}
@@ -23,6 +23,7 @@ use Rattle.loop_rules.specs.Keeping.{is_frame, may_keep_in}
 use Rattle.loop_rules.specs.Told.{IsTold}
 use Rattle.loop_rules.proofs.Kept.{Keeps, keeps_sorted}
 use Rattle.loop_rules.specs.Handling.{IsOfOther}
+use Rattle.ready_loop.specs.declared.stops.Stop.TheVariants as T
 use Rattle.ready_loop.specs.States.{LoopState, kept_of, base_of, rest_of, view_of}
 use Rattle.ready_loop.specs.Steps.{did_by, next_bytes, kept_next}
 use Rattle.ready_loop.specs.Going.{Goes}
@@ -133,19 +134,19 @@ made_on before items after l m n w d lt g same =
     })
 
 -- keeping one failed
-pub made_faults : (before items after : List Item) (l m n : LoopState) → Making before items l m → Goes before after l n → n ≡ kept_next false m → KeepsMade false before after l n
+pub made_faults : (before items after : List Item) (l m n : LoopState) → Making before items l m → Goes before after l n → n ≡ kept_next false m → KeepsMade (Err T.KeepFault) before after l n
 made_faults before items after l m n w g same =
-    subst (λ (x : LoopState). KeepsMade false before after l x) (sym same) (record {
+    subst (λ (x : LoopState). KeepsMade (Err T.KeepFault) before after l x) (sym same) (record {
       goes = subst (λ (x : LoopState). Goes before after l x) same g;
       table = w.table;
       handled = w.handled;
       synced = w.synced;
       peer = w.peer;
-      stands = record { fault = refl; rest = inr (inr (inl (sym w.made))) };
+      stands = (refl, record { fault = refl; rest = inr (inr (inl (sym w.made))) });
     })
 
 -- all are kept
-pub all_made : (before items : List Item) (l m : LoopState) → Making before items l m → 1 ≤ m.peer.game.ahead → m.kept ≡ length m.peer.entries → KeepsMade true before items l m
+pub all_made : (before items : List Item) (l m : LoopState) → Making before items l m → 1 ≤ m.peer.game.ahead → m.kept ≡ length m.peer.entries → KeepsMade (Ok tt) before items l m
 all_made before items l m w d all =
     let whole : kept_of m ≡ m.peer.entries = ap (λ (n : ℕ). take n m.peer.entries) all ∙ take-length m.peer.entries in
     record {

@@ -28,7 +28,7 @@ use Rattle.ready_loop.proofs.Fits.{fit_put}
 use Rattle.ready_loop.specs.Steps.{did_by, with_table, in_phase}
 use Rattle.ready_loop.specs.Going.{Grows, polls_of}
 use Rattle.ready_loop.specs.Polling.{IsLicensedToPoll, GoesBy, Polls}
-use Rattle.ready_loop.proofs.Going.{polls_more}
+use Rattle.ready_loop.proofs.Going.{polls_more, new_after}
 use Rattle.ready_loop.proofs.Idle.{still_view, idle_view}
 
 -- ---- the poll may be made
@@ -85,16 +85,17 @@ pub by_then : (i j : ℕ) (a b c : List Item) (l m n : LoopState) → GoesBy i a
 by_then i j a b c l m n g h = record {
   more = g.more ++ h.more;
   grown = h.grown ∙ ap (λ (items : List Item). items ++ h.more) g.grown ∙ append_assoc a g.more h.more;
+  new = λ n. h.new (g.new n);
   polls = (let x = g.polls in let y = h.polls in omega (arith, x, y));
   setting = h.setting ∙ g.setting;
   told = h.told;
 }
 
 pub by_none : (a b : List Item) (l m : LoopState) → Grows a b l m → GoesBy 0 a b l m
-by_none a b l m g = record { more = g.more; grown = g.grown; polls = (let x = g.polls in omega (arith, x)); setting = g.setting; told = g.told }
+by_none a b l m g = record { more = g.more; grown = g.grown; new = g.new; polls = (let x = g.polls in omega (arith, x)); setting = g.setting; told = g.told }
 
 pub by_still : (a : List Item) (l : LoopState) → IsTold a (view_of l) → GoesBy 0 a a l l
-by_still a l told = record { more = []; grown = sym (append-nil a); polls = omega arith; setting = refl; told = told }
+by_still a l told = record { more = []; grown = sym (append-nil a); new = λ n. n; polls = omega arith; setting = refl; told = told }
 
 -- the table after a poll
 abbrev pub polled_state : (done : Bool) → List Ready → LoopState → LoopState
@@ -108,6 +109,7 @@ polls_so true before after l m list w n on same =
       goes = record {
         more = Polled list ∷ [];
         grown = on;
+        new = new_after before after (Polled list) on n;
         polls = ap (λ (items : List Item). polls_of items) on ∙ polls_more before (Polled list);
         setting = refl;
         told = subst (λ (items : List Item). IsTold items (view_of next)) (sym on)
@@ -125,6 +127,7 @@ polls_so false before after l m list w n on same =
       goes = record {
         more = Failed PollCall ∷ [];
         grown = on;
+        new = new_after before after (Failed PollCall) on tt;
         polls = ap (λ (items : List Item). polls_of items) on ∙ polls_more before (Failed PollCall);
         setting = refl;
         told = subst (λ (items : List Item). IsTold items (view_of (in_phase PollFault l))) (sym on)

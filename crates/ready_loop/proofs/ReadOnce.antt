@@ -1,6 +1,6 @@
 -- ReadOnce: a read of a socket, and what is so behind it.
 use Rattle.std.proofs.Common.{◌≡◌, ℕ, ◌+◌, ◌<◌, ◌≤◌, Bool, true, false, refl, sym, ap, subst, ◌∙◌, List, [], ◌∷◌, ◌++◌, arith, length}
-use Rattle.std.specs.Prelude.{Option, Some, None, ◌&&◌, ◌||◌, ◌==◌, not, drop, map, take, slice_get, if◌then◌else◌}
+use Rattle.std.specs.Prelude.{Option, Some, None, ◌&&◌, ◌||◌, ◌==◌, not, drop, map, take, slice_get, if◌then◌else◌, Result}
 use Rattle.std.proofs.lemmas.Bool.{eq-eqb, eqb-true, lt-ltb, le-leb, and_from}
 use Rattle.std.proofs.lemmas.List.{length-take-le}
 use Rattle.definitions.specs.Findings.{is_clean}
@@ -30,6 +30,7 @@ use Rattle.socket_table.proofs.Rooms.{took_left}
 use Rattle.socket_table.proofs.TablePairs.{map_at}
 use Rattle.socket_table.proofs.Keys.{found_at}
 use Rattle.ready_loop.proofs.Places.{sockets_same}
+use Rattle.ready_loop.specs.declared.stops.Stop.{Stop}
 use Rattle.ready_loop.specs.States.{LoopState, base_of, view_of}
 use Rattle.ready_loop.specs.Steps.{with_table, read_on}
 use Rattle.ready_loop.specs.Going.{Goes, IsIdle, poll_count}
@@ -110,7 +111,7 @@ read_found l k s a = found_at (λ x. x.socket) s l.table.lines k a.line a.differ
 pub read_goes : (k s : ℕ) (read : SocketRead) (before after : List Item) (l m : LoopState) → IsReadyToRead before l → ReadsAt l k s → ReadsOnce s read before after l m → Goes before after l m
 read_goes k s read before after l m w a r =
     subst (λ (x : LoopState). Goes before after l x) (sym r.state)
-    (goes_one before after (read_item s read r.buf) l (with_table (read_on (hearer_by l.peer) s read r.buf l.table) l) r.told (no_poll s read r.buf) refl
+    (goes_one before after (read_item s read r.buf) l (with_table (read_on (hearer_by l.peer) s read r.buf l.table) l) r.told (no_poll s read r.buf) (opens_none before s read r.buf) refl
     (let e = same_undialled l.table.seats (read_on (hearer_by l.peer) s read r.buf l.table).seats (read_seats (hearer_by l.peer) s read r.buf l.table) in omega (arith, e))
     (subst (IsTold (before ++ read_item s read r.buf ∷ [])) (read_shows s read r.buf l w.steady.idle)
     (told_goes_on before (view_of l) (read_item s read r.buf) w.told (opens_none before s read r.buf)
@@ -219,15 +220,11 @@ calm_keeps s t u v c w k x y g h n wants = c k x y g (ap (λ (ls : List Line). s
 
 -- ---- a read, and what it brought handled
 
-pub reads_once : (on : Bool) (k s : ℕ) (read : SocketRead) (before mid after : List Item) (l m n : LoopState) → IsReadyToRead before l → ReadsAt l k s → ReadsOnce s read before mid l m → Handles on mid after m n → Reads on k s before after l n
-reads_once on k s read before mid after l m n w a r h = record {
+pub reads_once : (answer : Result (Unit {0}) Stop) (k s : ℕ) (read : SocketRead) (before mid after : List Item) (l m n : LoopState) → IsReadyToRead before l → ReadsAt l k s → ReadsOnce s read before mid l m → Handles answer mid after m n → Reads answer k s before after l n
+reads_once answer k s read before mid after l m n w a r h = record {
   goes = goes_then before mid after l m n (read_goes k s read before mid l m w a r) h.goes;
-  stands = record {
-    on = h.on;
-    steady = h.stands;
-    fault = h.fault;
-    sockets = ap (map (λ x. x.socket)) keeps.lines ∙ read_sockets (hearer_by l.peer) s read r.buf l.table;
-  };
+  stands = h.stands;
+  sockets = ap (map (λ x. x.socket)) keeps.lines ∙ read_sockets (hearer_by l.peer) s read r.buf l.table;
   calm = calm_keeps s l.table u n.table (read_calm (hearer_by l.peer) s read r.buf l.table) keeps;
   less = subst (λ (j : ℕ). j < left_at k l) (sym (left_same u n.table k keeps)) (read_left (hearer_by l.peer) s read r.buf l.table k a.line a.differ a.here a.socket a.wants r.within (r.room a.line k a.here a.socket));
 }

@@ -14,10 +14,14 @@ use Rattle.ready_loop.specs.declared.polling.Round.TheVariants as R
 use Rattle.ready_loop.specs.declared.polling.Ended.{Ended}
 use Rattle.ready_loop.specs.States.{LoopState, view_of}
 use Rattle.ready_loop.specs.Choices.{Chooser}
-use Rattle.ready_loop.specs.Settling.{IsReady, ChoosesIn, StandsSettled, Refuses, Settles, is_idle}
+use Rattle.ready_loop.specs.declared.stops.Stop.{Stop}
+use Rattle.ready_loop.specs.declared.stops.Stop.TheVariants as T
+use Rattle.ready_loop.specs.Stops.{StandsSettled, Refuses, is_idle, settled_of}
+use Rattle.ready_loop.specs.Settling.{IsReady, ChoosesIn, Settles}
 use Rattle.ready_loop.specs.Polling.{IsLicensedToPoll, GoesBy, Polls, polls_in, round_of, is_round_on, ended_of, ended_at, StandsRound, RefusesRound, Rounds, StandsEnded, RefusesEnded, Ends}
 use Rattle.ready_loop.proofs.Choices.{chose_none, chose_still, chooses_then}
 use Rattle.ready_loop.proofs.Polled.{by_then, by_none, by_still}
+use Rattle.ready_loop.proofs.Passing.{not_idle}
 
 -- ---- a round
 
@@ -59,6 +63,9 @@ rounds_ended by to s q round before after l m w is none answer =
       goes = subst (λ (n : ℕ). GoesBy n before after l m) (sym (none_made s no)) (by_none before after l m w.grows);
       stands = ends_round by.plan s m no w.stands;
     })
+
+pub rounds_stopped : (by to : Chooser) (stop : Stop) (round : Round) (before after : List Item) (l m : LoopState) → Settles by to (settled_of stop) before after l m → round ≡ round_of (settled_of stop) → Rounds by to round before after l m
+rounds_stopped by to stop round before after l m w answer = rounds_ended by to (settled_of stop) false round before after l m w (sym (not_idle stop)) refl answer
 
 settles_idle : (by to : Chooser) (s : Settled) (q : Bool) (before after : List Item) (l m : LoopState) → Settles by to s before after l m → q ≡ is_idle s → q ≡ true → Settles by to S.Idle before after l m
 settles_idle by to s q before after l m w is sure = subst (λ (x : Settled). Settles by to x before after l m) (idle_is s (sym is ∙ sure)) w
@@ -167,6 +174,17 @@ run_stops by mid to polls left round ended q before items after l m n w r is non
       goes = subst (λ (k : ℕ). GoesBy k before after l n) (let z = none_in round off in let e : w.made + polls_in round ≡ w.made = omega (arith, z) in e) (by_then w.made (polls_in round) before items after l m n w.goes r.goes);
       stands = ends_in by.plan mid.plan polls w.made round n w.choices.plan off r.stands;
     })
+
+not_on : (stop : Stop) → is_round_on (round_of (settled_of stop)) ≡ false
+not_on T.Done = refl
+not_on (T.Caught f) = refl
+not_on T.KeepFault = refl
+not_on (T.OwnMove turn fault) = refl
+
+pub run_stopped : (by mid to : Chooser) (polls left : ℕ) (stop : Stop) (ended : Ended) (before items after : List Item) (l m n : LoopState) → Running by mid polls left before items l m → Settles mid to (settled_of stop) items after m n → ended ≡ ended_at (settled_of stop) →
+    Ends by to polls ended before after l n
+run_stopped by mid to polls left stop ended before items after l m n w r answer =
+    run_stops by mid to polls left (round_of (settled_of stop)) ended false before items after l m n w (rounds_stopped mid to stop (round_of (settled_of stop)) items after m n r refl) (sym (not_on stop)) refl answer
 
 pub ends_at : (plan mid : Option Plan) (polls made : ℕ) (s : Settled) (m : LoopState) → mid ≡ plan → made ≡ polls → is_idle s ≡ is_licensed (view_of m) → StandsSettled mid s m → StandsEnded plan polls made (ended_at s) m
 ends_at plan mid polls made S.Idle m e all licensed w = record { whole = w; all = all; licensed = sym licensed }

@@ -40,7 +40,7 @@ pub record OneCall (before : List Item) (item : Item) (l : LoopState) (u : Table
 pub call_goes : (before after : List Item) (item : Item) (l m : LoopState) (u : Table) → IsTold before (view_of l) → IsIdle l → OneCall before item l u → after ≡ before ++ item ∷ [] → m ≡ with_table u l → Goes before after l m
 call_goes before after item l m u told w c on same =
     subst (λ (x : LoopState). Goes before after l x) (sym same)
-    (goes_one before after item l (with_table u l) on c.still refl c.undialled
+    (goes_one before after item l (with_table u l) on c.still c.opens refl c.undialled
     (subst (IsTold (before ++ item ∷ [])) (c.shows ∙ sym (still_view (with_table u l) (c.waiting ∙ w.waiting) w.handled))
     (told_goes_on before (base_of l) item (subst (IsTold before) (idle_view l w) told) c.opens c.allowed)) refl)
 

@@ -1,6 +1,6 @@
 -- Synced: the log is synced, and a run stops.
 use Rattle.std.proofs.Common.{inl, inr, ◌≡◌, ℕ, ◌<◌, ◌≤◌, Bool, true, false, refl, sym, ap, subst, ◌∙◌, List, [], ◌∷◌, ◌++◌, arith, length}
-use Rattle.std.specs.Prelude.{◌⊎◌, nat_lt}
+use Rattle.std.specs.Prelude.{◌⊎◌, Ok, Err, nat_lt}
 use Rattle.std.proofs.lemmas.Bool.{cases_lt, lt-ltb}
 use Rattle.definitions.specs.declared.logs.Entry.{Entry}
 use Rattle.socket_station.specs.Items.{Item, Synced, Failed, SyncCall, sync_item}
@@ -11,10 +11,12 @@ use Rattle.loop_rules.specs.After as A
 use Rattle.loop_rules.specs.Told.{IsTold}
 use Rattle.loop_rules.proofs.Told.{told_goes_on}
 use Rattle.session_log.specs.Writing.{Writing}
+use Rattle.ready_loop.specs.declared.stops.Stop.TheVariants as T
 use Rattle.ready_loop.specs.States.{LoopState, IsFit, base_of, view_of}
 use Rattle.ready_loop.specs.Steps.{did_by, in_phase, synced_all}
 use Rattle.ready_loop.specs.Going.{Goes, IsCut, IsIdle}
-use Rattle.ready_loop.specs.Settling.{IsReady, Syncs, IsWhole}
+use Rattle.ready_loop.specs.Stops.{IsWhole}
+use Rattle.ready_loop.specs.Settling.{IsReady, Syncs}
 use Rattle.ready_loop.proofs.Going.{goes_one, goes_still}
 use Rattle.ready_loop.proofs.Idle.{still_view, idle_view, all_kept}
 
@@ -31,27 +33,32 @@ sync_shows l w =
 
 pub sync_goes : (done : Bool) (before after : List Item) (l m : LoopState) → IsReady before l → l.synced < l.kept → after ≡ before ++ sync_item (did_by done) ∷ [] → m ≡ synced_all done l → Goes before after l m
 sync_goes true before after l m w lt on same =
-    subst (λ (x : LoopState). Goes before after l x) (sym same) (goes_one before after Synced l (synced_all true l) on refl refl (omega arith)
+    subst (λ (x : LoopState). Goes before after l x) (sym same) (goes_one before after Synced l (synced_all true l) on refl tt refl (omega arith)
     (subst (IsTold (before ++ Synced ∷ [])) (sync_shows l w.idle)
     (told_goes_on before (base_of l) Synced (subst (IsTold before) (idle_view l w.idle) w.told) tt (sync_may l w.idle lt))) refl)
 sync_goes false before after l m w lt on same =
-    subst (λ (x : LoopState). Goes before after l x) (sym same) (goes_one before after (Failed SyncCall) l (synced_all false l) on refl refl (omega arith)
+    subst (λ (x : LoopState). Goes before after l x) (sym same) (goes_one before after (Failed SyncCall) l (synced_all false l) on refl tt refl (omega arith)
     (subst (IsTold (before ++ Failed SyncCall ∷ [])) (sym (still_view (in_phase KeepFault l) w.idle.waiting w.idle.handled))
     (told_goes_on before (base_of l) (Failed SyncCall) (subst (IsTold before) (idle_view l w.idle) w.told) tt (sync_may l w.idle lt))) refl)
 
-pub syncs : (done : Bool) (before after : List Item) (l m : LoopState) → IsReady before l → l.synced < l.kept → after ≡ before ++ sync_item (did_by done) ∷ [] → m ≡ synced_all done l → Syncs done before after l m
-syncs done before after l m w lt on same = record { goes = sync_goes done before after l m w lt on same; same = same }
+pub syncs_done : (r : Bool) (before after : List Item) (l m : LoopState) → IsReady before l → l.synced < l.kept → after ≡ before ++ sync_item (did_by r) ∷ [] → m ≡ synced_all r l → r ≡ true → Syncs (Ok tt) before after l m
+syncs_done r before after l m w lt on same is = record { goes = sync_goes r before after l m w lt on same; same = same ∙ ap (λ (b : Bool). synced_all b l) is }
+
+pub syncs_failed : (r : Bool) (before after : List Item) (l m : LoopState) → IsReady before l → l.synced < l.kept → after ≡ before ++ sync_item (did_by r) ∷ [] → m ≡ synced_all r l → r ≡ false → Syncs (Err T.KeepFault) before after l m
+syncs_failed r before after l m w lt on same is = record { goes = sync_goes r before after l m w lt on same; same = (refl, same ∙ ap (λ (b : Bool). synced_all b l) is) }
 
 -- nothing is to be synced
-pub syncs_none : (before : List Item) (l : LoopState) → IsReady before l → l.synced ≡ l.kept → Syncs true before before l l
-syncs_none before l w e = record { goes = goes_still before l w.told; same = ap (λ (n : ℕ). record l { synced = n }) e }
+pub syncs_none : (before : List Item) (i l : LoopState) → i ≡ l → IsReady before l → i.synced ≡ i.kept → Syncs (Ok tt) before before l l
+syncs_none before i l is w same =
+    let e = subst (λ (x : LoopState). x.synced ≡ x.kept) is same in
+    record { goes = goes_still before l w.told; same = ap (λ (n : ℕ). record l { synced = n }) e }
 
 -- the sync failed
 pub unsynced_cut : (l m : LoopState) → IsIdle l → m ≡ synced_all false l → IsCut m
 unsynced_cut l m w same = subst IsCut (sym same) (record { fault = refl; rest = inl (sym (all_kept l w.kept)) })
 
-pub synced_whole : (before after : List Item) (l m : LoopState) → IsIdle l → Syncs true before after l m → IsWhole m
-synced_whole before after l m w s =
+pub synced_whole : (u : Unit {0}) (before after : List Item) (l m : LoopState) → IsIdle l → Syncs (Ok u) before after l m → IsWhole m
+synced_whole u before after l m w s =
     subst IsWhole (sym s.same) (record { idle = record { running = w.running; kept = w.kept; waiting = w.waiting; handled = w.handled }; synced = refl })
 
 pub sync_lt : (i l : LoopState) (w : Writing) → i ≡ l → IsFit i w → (i.synced ≡ i.kept → ⊥) → l.synced < l.kept

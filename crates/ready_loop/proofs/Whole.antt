@@ -23,7 +23,8 @@ use Rattle.ready_loop.specs.States.{LoopState, setting_of, kept_of, base_of, res
 use Rattle.ready_loop.specs.Choices.{ChoosesBy}
 use Rattle.ready_loop.specs.Going.{IsDeaf, polls_of}
 use Rattle.ready_loop.specs.Beginning.{given_by, IsNew, StandsBegun}
-use Rattle.ready_loop.specs.Settling.{IsWhole, ChoosesIn, StandsSettled}
+use Rattle.ready_loop.specs.Stops.{IsWhole, StandsSettled}
+use Rattle.ready_loop.specs.Settling.{ChoosesIn}
 use Rattle.ready_loop.specs.Polling.{GoesBy, round_of, StandsEnded}
 use Rattle.ready_loop.specs.Laws.{BeginningsAreHistories, end_of, RunsAreWhole, SettlingsEndRuns, RoundsEndRuns, RoundsLeadRuns}
 use Rattle.ready_loop.proofs.Idle.{still_view, all_kept}
@@ -125,6 +126,7 @@ pub runs_are_whole : RunsAreWhole
 runs_are_whole name by to polls ended l m n start items new b w = record {
   setting = w.goes.setting ∙ b.setting ∙ new_setting l new;
   told = w.goes.told;
+  new = w.goes.new b.new;
   few = subst (λ (k : ℕ). k ≤ polls) (sym made) w.few;
   stands = subst (λ (k : ℕ). StandsEnded by.plan polls k ended n) (sym made) w.stands;
   history = told_whole (given_by l.peer l.roster) name (end_of ended) items n w.goes.told (w.goes.setting ∙ b.setting ∙ new_setting l new)

@@ -8,6 +8,7 @@ use Rattle.loop_rules.specs.Settings.{Setting}
 use Rattle.loop_rules.specs.Views.{first_table}
 use Rattle.loop_rules.specs.Histories.{BeginsLog}
 use Rattle.loop_rules.specs.Told.{IsTold}
+use Rattle.loop_laws.specs.Sockets.{SocketsAreNew}
 use Rattle.ready_loop.specs.declared.beginning.Begun.{Begun}
 use Rattle.ready_loop.specs.declared.beginning.Begun.TheVariants as B
 use Rattle.ready_loop.specs.States.{LoopState, setting_of, view_of}
@@ -40,9 +41,11 @@ StandsBegun B.Ready l = IsIdle l × (l.synced ≡ l.kept)
 StandsBegun B.KeepFault l = l.phase ≡ KeepFault
 StandsBegun B.PollFault l = IsDeaf l
 
--- The history is one by the rules, of a log of that name, with no poll in it, and shows what the loop knows; and the peer is the same.
+-- The history is one by the rules, of a log of that name, with no poll in it, and shows what the
+-- loop knows. The numbers of the sockets in it are new, and the peer is the same.
 pub record Begins (name : List ℕ) (begun : Begun) (l m : LoopState) (items : List Item) : Type 0 where
   pub told : IsTold items (view_of m)
+  pub new : SocketsAreNew items
   pub named : BeginsLog name items
   pub polls : polls_of items ≡ 0
   pub peer : m.peer ≡ l.peer

@@ -1,13 +1,12 @@
 -- Going on: what the calls of a loop promise of the history of its station.
-use Rattle.std.specs.Prelude.{◌≡◌, ◌⊎◌, ℕ, ◌+◌, ◌≤◌, Bool, not, ◌&&◌, List, [], ◌∷◌, ◌++◌, None, length}
+use Rattle.std.specs.Prelude.{◌≡◌, ◌⊎◌, ℕ, ◌+◌, ◌≤◌, not, List, [], ◌∷◌, ◌++◌, None, length}
 use Rattle.std.specs.List.{count_by}
 use Rattle.definitions.specs.declared.logs.Entry.{Entry}
 use Rattle.definitions.specs.Advance.{advance, next_made}
-use Rattle.definitions.specs.Findings.{is_clean}
 use Rattle.socket_station.specs.Items.{Item, Polled}
 use Rattle.loop_rules.specs.declared.phases.Phase.TheVariants.{Running, KeepFault, PollFault}
-use Rattle.loop_rules.specs.Licence.{is_running}
 use Rattle.loop_rules.specs.Told.{IsTold}
+use Rattle.loop_laws.specs.Sockets.{SocketsAreNew}
 use Rattle.ready_loop.specs.States.{LoopState, kept_of, setting_of, choices_of, view_of}
 
 -- how many polls an item tells of
@@ -24,10 +23,12 @@ polls_of (item ∷ items) = poll_count item + polls_of items
 abbrev pub undialled : LoopState → ℕ
 undialled l = count_by (λ c. not c.is_dialled) l.table.seats
 
--- The history grew by items that the rules allow, none of them a poll, and shows what the loop knows.
+-- The history grew by items that the rules allow, none of them a poll, and shows what the loop
+-- knows. The numbers of the sockets in it are new, where they were before.
 pub record Grows (before after : List Item) (l m : LoopState) : Type 0 where
   pub more : List Item
   pub grown : after ≡ before ++ more
+  pub new : SocketsAreNew before → SocketsAreNew after
   pub polls : polls_of after ≡ polls_of before
   pub setting : setting_of m ≡ setting_of l
   pub undialled : undialled m ≤ undialled l
@@ -37,6 +38,7 @@ pub record Grows (before after : List Item) (l m : LoopState) : Type 0 where
 pub record Goes (before after : List Item) (l m : LoopState) : Type 0 where
   pub more : List Item
   pub grown : after ≡ before ++ more
+  pub new : SocketsAreNew before → SocketsAreNew after
   pub polls : polls_of after ≡ polls_of before
   pub setting : setting_of m ≡ setting_of l
   pub undialled : undialled m ≤ undialled l
@@ -81,7 +83,3 @@ pub record IsCut (l : LoopState) : Type 0 where
 pub record IsSteady (l : LoopState) : Type 0 where
   pub idle : IsIdle l
   pub made : next_made l.peer.game l.peer.me l.peer.entries ≡ None
-
--- no keep failed, and the log has no finding
-abbrev pub goes_on : LoopState → Bool
-goes_on l = is_running l.phase && is_clean l.peer.game l.peer.entries

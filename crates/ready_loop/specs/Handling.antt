@@ -1,5 +1,5 @@
 -- Handling: what stands after the calls that handle what came.
-use Rattle.std.specs.Prelude.{◌≡◌, ℕ, ◌+◌, ◌<◌, ◌≤◌, ◌&&◌, nat_lt, Bool, true, false, not, List, [], ◌∷◌, ◌++◌, Option, Some, None, length, map, slice_get, if◌then◌else◌}
+use Rattle.std.specs.Prelude.{◌≡◌, ℕ, ◌+◌, ◌<◌, ◌≤◌, ◌&&◌, nat_lt, Bool, true, false, not, List, [], ◌∷◌, ◌++◌, Option, Some, None, Result, Ok, Err, OnOk, length, map, slice_get, if◌then◌else◌}
 use Rattle.std.specs.List.{list_all}
 use Rattle.definitions.specs.Advance as A
 use Rattle.definitions.specs.Advance.{next_made}
@@ -25,30 +25,32 @@ use Rattle.ready_loop.specs.Hearers.{hearer_by}
 use Rattle.definitions.specs.Lists.{EachIs}
 use Rattle.ready_loop.specs.States.{LoopState, kept_of, view_of}
 use Rattle.ready_loop.specs.Steps.{with_table, read_on}
-use Rattle.ready_loop.specs.Going.{Goes, IsCut, IsPlayed, IsSteady, goes_on}
+use Rattle.ready_loop.specs.declared.stops.Stop.{Stop}
+use Rattle.ready_loop.specs.Going.{Goes, IsPlayed, IsSteady}
+use Rattle.ready_loop.specs.Stops.{StandsFaulty, StandsUnchosen}
 
 -- the loop runs, and every entry is kept and no own frame left; or a keep failed
-abbrev pub StandsPlayed : (done : Bool) → LoopState → Type 0
-StandsPlayed true m = (m.phase ≡ Running) × IsPlayed m
-StandsPlayed false m = IsCut m
+abbrev pub StandsPlayed : Result (Unit {0}) Stop → LoopState → Type 0
+StandsPlayed (Ok u) m = (m.phase ≡ Running) × IsPlayed m
+StandsPlayed (Err stop) m = StandsFaulty stop m
 
 -- the own frames are made that the protocol lets be made, and kept; nothing else changes
-pub record Advances (done : Bool) (before after : List Item) (l m : LoopState) : Type 0 where
+pub record Advances (r : Result (Unit {0}) Stop) (before after : List Item) (l m : LoopState) : Type 0 where
   pub goes : Goes before after l m
   pub table : m.table ≡ l.table
   pub handled : m.handled ≡ l.handled
   pub synced : m.synced ≡ l.synced
   pub entries : m.peer.entries ≡ A.advance l.peer.game l.peer.me l.peer.entries
-  pub stands : StandsPlayed done m
+  pub stands : StandsPlayed r m
 
 -- the own frames just made are kept; nothing else changes
-pub record KeepsMade (done : Bool) (before after : List Item) (l m : LoopState) : Type 0 where
+pub record KeepsMade (r : Result (Unit {0}) Stop) (before after : List Item) (l m : LoopState) : Type 0 where
   pub goes : Goes before after l m
   pub table : m.table ≡ l.table
   pub handled : m.handled ≡ l.handled
   pub synced : m.synced ≡ l.synced
   pub peer : m.peer ≡ l.peer
-  pub stands : StandsPlayed done m
+  pub stands : StandsPlayed r m
 
 -- nothing changes of the sockets, and as much may be read of each player
 pub record KeepsLines (t u : Table) : Type 0 where
@@ -87,20 +89,28 @@ pub record IsGot (l : LoopState) : Type 0 where
   pub others : EachIs (IsOfOther l.peer.game l.peer.me) l.table.waiting
 
 -- the first frame that waits is handled
-pub record Hears (done : Bool) (before after : List Item) (l m : LoopState) : Type 0 where
+pub record Hears (r : Result (Unit {0}) Stop) (before after : List Item) (l m : LoopState) : Type 0 where
   pub goes : Goes before after l m
   pub keeps : KeepsLines l.table m.table
   pub waiting : m.table.waiting ≡ l.table.waiting
-  pub handled : done ≡ true → m.handled ≡ l.handled + 1
-  pub stands : StandsPlayed done m
+  pub handled : OnOk r (m.handled ≡ l.handled + 1)
+  pub stands : StandsPlayed r m
+
+-- no frame waits any more
+abbrev pub cleared : LoopState → LoopState
+cleared l = record l { table = record l.table { waiting = [] }; handled = 0 }
+
+-- Nothing is left to be handled, made or kept, and the log has no finding; or the loop stops, as it
+-- has one, or as a call of the log failed.
+abbrev pub StandsHeard : Result (Unit {0}) Stop → LoopState → Type 0
+StandsHeard (Ok u) m = IsSteady m × (is_clean m.peer.game m.peer.entries ≡ true)
+StandsHeard (Err stop) m = StandsUnchosen stop m
 
 -- all frames that wait are handled, up to the first that makes a finding
-pub record Handles (answer : Bool) (before after : List Item) (l m : LoopState) : Type 0 where
+pub record Handles (r : Result (Unit {0}) Stop) (before after : List Item) (l m : LoopState) : Type 0 where
   pub goes : Goes before after l m
   pub keeps : KeepsLines l.table m.table
-  pub on : answer ≡ goes_on m
-  pub stands : m.phase ≡ Running → IsSteady m
-  pub fault : (m.phase ≡ Running → ⊥) → IsCut m
+  pub stands : StandsHeard r m
 
 -- ---- reading
 
@@ -142,29 +152,24 @@ pub record IsReadyToRead (items : List Item) (l : LoopState) : Type 0 where
   pub steady : IsSteady l
   pub clean : is_clean l.peer.game l.peer.entries ≡ true
 
--- what stands behind reads: the loop goes on where the log has no finding and no keep failed
-pub record StandsRead (answer : Bool) (l m : LoopState) : Type 0 where
-  pub on : answer ≡ goes_on m
-  pub steady : m.phase ≡ Running → IsSteady m
-  pub fault : (m.phase ≡ Running → ⊥) → IsCut m
-  pub sockets : SameSockets l.table m.table
-
 -- one read of the socket at the place, and what it brought handled
-pub record Reads (on : Bool) (k s : ℕ) (before after : List Item) (l m : LoopState) : Type 0 where
+pub record Reads (r : Result (Unit {0}) Stop) (k s : ℕ) (before after : List Item) (l m : LoopState) : Type 0 where
   pub goes : Goes before after l m
-  pub stands : StandsRead on l m
+  pub stands : StandsHeard r m
+  pub sockets : SameSockets l.table m.table
   pub calm : Calm s l.table m.table
   pub less : left_at k m < left_at k l
 
 -- the socket at the place is read until nothing is there
-pub record ReadsOut (on : Bool) (k s : ℕ) (before after : List Item) (l m : LoopState) : Type 0 where
+pub record ReadsOut (r : Result (Unit {0}) Stop) (k s : ℕ) (before after : List Item) (l m : LoopState) : Type 0 where
   pub goes : Goes before after l m
-  pub stands : StandsRead on l m
+  pub stands : StandsHeard r m
+  pub sockets : SameSockets l.table m.table
   pub calm : Calm s l.table m.table
-  pub out : on ≡ true → WantsNone m.table k
+  pub out : OnOk r (WantsNone m.table k)
 
 -- each socket is read until nothing is there
-pub record ReadsAll (on : Bool) (before after : List Item) (l m : LoopState) : Type 0 where
+pub record ReadsAll (r : Result (Unit {0}) Stop) (before after : List Item) (l m : LoopState) : Type 0 where
   pub goes : Goes before after l m
-  pub stands : StandsRead on l m
-  pub out : on ≡ true → list_all (λ x. not (wants_read m.table x)) m.table.lines ≡ true
+  pub stands : StandsHeard r m
+  pub out : OnOk r (list_all (λ x. not (wants_read m.table x)) m.table.lines ≡ true)

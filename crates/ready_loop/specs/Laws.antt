@@ -3,6 +3,7 @@ use Rattle.std.specs.Prelude.{◌≡◌, ◌≤◌, ℕ, ◌+◌, Bool, false, L
 use Rattle.socket_station.specs.Items.{Item}
 use Rattle.loop_rules.specs.Histories.{RunEnd, Handled, AtOwnMove, IsHistoryOf}
 use Rattle.loop_rules.specs.Told.{IsTold}
+use Rattle.loop_laws.specs.Sockets.{SocketsAreNew}
 use Rattle.ready_loop.specs.declared.beginning.Begun.{Begun}
 use Rattle.ready_loop.specs.declared.beginning.Begun.TheVariants as B
 use Rattle.ready_loop.specs.declared.settling.Settled.{Settled}
@@ -31,13 +32,17 @@ end_of E.KeepFault = Handled
 end_of (E.OwnMove turn fault) = AtOwnMove
 end_of E.GaveUp = Handled
 
--- From the new loop `l` to `n`, with so many polls granted: the history is a whole one, of what the loop was given and of the log kept, and shows what
--- the loop knows at its end; it has no more polls than were granted, and the run ended so for its reason, by the polls in it; that log is the peer's,
--- where no call of the log failed, and else its front; and its choices are those taken over and further ones by the chooser.
+-- From the new loop `l` to `n`, with so many polls granted. The history is a whole one, of what the
+-- loop was given and of the log kept, and shows what the loop knows at its end. The numbers of the
+-- sockets in it are new, as the laws of histories by their items alone want it. It has no more
+-- polls than were granted, and the run ended so for its reason, by the polls in it. That log is the
+-- peer's, where no call of the log failed, and else its front. Its choices are those taken over and
+-- further ones by the chooser.
 pub record IsRun (name : List ℕ) (by to : Chooser) (polls : ℕ) (ended : Ended) (l n : LoopState) (items : List Item) : Type 0 where
   pub history : IsHistoryOf (given_by l.peer l.roster) name (end_of ended) items (kept_of n)
   pub setting : setting_of n ≡ given_by l.peer l.roster
   pub told : IsTold items (view_of n)
+  pub new : SocketsAreNew items
   pub few : polls_of items ≤ polls
   pub stands : StandsEnded by.plan polls (polls_of items) ended n
   pub kept : (ended ≡ E.KeepFault → ⊥) → kept_of n ≡ n.peer.entries

@@ -3,6 +3,7 @@ pub mod States
 pub mod Steps
 pub mod Going
 pub mod Choices
+pub mod Stops
 pub mod Handling
 pub mod Serving
 pub mod Waiting

@@ -3,6 +3,7 @@ use Rattle.std.specs.Prelude.{◌≡◌, ◌≤◌, Bool, true, false, List, [],
 use Rattle.socket_station.specs.Items.{Item}
 use Rattle.loop_rules.specs.declared.phases.Phase.TheVariants.{Logged, Running, KeepFault, PollFault}
 use Rattle.loop_rules.specs.Told.{IsTold}
+use Rattle.loop_laws.specs.Sockets.{SocketsAreNew}
 use Rattle.ready_loop.specs.States.{LoopState, setting_of, view_of}
 use Rattle.ready_loop.specs.Steps.{in_phase, synced_all}
 use Rattle.ready_loop.specs.Going.{polls_of}
@@ -34,6 +35,7 @@ StandsOver false items m = m.phase ≡ KeepFault
 pub record TakesOver (done : Bool) (before after : List Item) (l m : LoopState) : Type 0 where
   pub more : List Item
   pub grown : after ≡ before ++ more
+  pub new : SocketsAreNew before → SocketsAreNew after
   pub polls : polls_of after ≡ polls_of before
   pub told : IsTold after (view_of m)
   pub peer : m.peer ≡ l.peer
@@ -45,6 +47,7 @@ pub record TakesOver (done : Bool) (before after : List Item) (l m : LoopState) 
 pub record SyncsOver (done : Bool) (before after : List Item) (l m : LoopState) : Type 0 where
   pub more : List Item
   pub grown : after ≡ before ++ more
+  pub new : SocketsAreNew before → SocketsAreNew after
   pub polls : polls_of after ≡ polls_of before
   pub told : IsTold after (view_of m)
   pub same : m ≡ synced_all done l

@@ -4,6 +4,7 @@ use Rattle.socket_station.specs.Items.{Item}
 use Rattle.pilots.specs.Plans.{Plan}
 use Rattle.loop_rules.specs.Licence.{is_licensed}
 use Rattle.loop_rules.specs.Told.{IsTold}
+use Rattle.loop_laws.specs.Sockets.{SocketsAreNew}
 use Rattle.ready_loop.specs.declared.settling.Settled.{Settled}
 use Rattle.ready_loop.specs.declared.settling.Settled.TheVariants as S
 use Rattle.ready_loop.specs.declared.polling.Round.{Round}
@@ -13,7 +14,8 @@ use Rattle.ready_loop.specs.declared.polling.Ended.TheVariants as E
 use Rattle.ready_loop.specs.States.{LoopState, setting_of, view_of}
 use Rattle.ready_loop.specs.Choices.{Chooser}
 use Rattle.ready_loop.specs.Going.{IsDeaf, polls_of}
-use Rattle.ready_loop.specs.Settling.{IsWhole, Refuses, ChoosesIn, StandsSettled}
+use Rattle.ready_loop.specs.Stops.{IsWhole, Refuses, StandsSettled}
+use Rattle.ready_loop.specs.Settling.{ChoosesIn}
 
 -- before a poll
 pub record IsLicensedToPoll (items : List Item) (l : LoopState) : Type 0 where
@@ -21,10 +23,12 @@ pub record IsLicensedToPoll (items : List Item) (l : LoopState) : Type 0 where
   pub whole : IsWhole l
   pub licensed : is_licensed (view_of l) ≡ true
 
--- the history grew by items that the rules allow, so many of them polls, and shows what the loop knows
+-- The history grew by items that the rules allow, so many of them polls, and shows what the loop
+-- knows. The numbers of the sockets in it are new, where they were before.
 pub record GoesBy (count : ℕ) (before after : List Item) (l m : LoopState) : Type 0 where
   pub more : List Item
   pub grown : after ≡ before ++ more
+  pub new : SocketsAreNew before → SocketsAreNew after
   pub polls : polls_of after ≡ polls_of before + count
   pub setting : setting_of m ≡ setting_of l
   pub told : IsTold after (view_of m)

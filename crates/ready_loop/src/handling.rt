@@ -6,9 +6,10 @@ ghost use Rattle.definitions.specs.Findings.{is_clean};
 ghost use Rattle.loop_rules.specs.Told.{IsTold};
 ghost use Rattle.ready_loop.specs.States.{kept_of, view_of};
 ghost use Rattle.definitions.specs.World.{players_of};
-ghost use Rattle.ready_loop.specs.Handling.{KeepsMade, Advances, Hears, Handles, IsHearing, IsGot, has_next, asked, passed_as};
+ghost use Rattle.ready_loop.specs.Handling.{KeepsMade, Advances, Hears, Handles, IsHearing, IsGot, has_next, asked, passed_as, cleared};
 
 use crate::ready::Loop;
+use crate::stops::Stop;
 use definitions::{GotAnswer, PlayerId};
 use loop_rules::{Arrival, Phase};
 use peer_core::is_logged;
@@ -16,7 +17,7 @@ use socket_station::Station;
 
 impl Loop {
     /// Keeps the own frames that were just made.
-    fn keep_made<S: Station>(&mut self, station: &mut S) -> bool
+    fn keep_made<S: Station>(&mut self, station: &mut S) -> Result<(), Stop>
         requires told { IsTold (S.history station.old) (view_of self.old) }
         requires running { self.old.phase ≡ Phase.Running }
         requires made { A.advance self.old.peer.game self.old.peer.me (kept_of self.old) ≡ self.old.peer.entries }
@@ -25,14 +26,14 @@ impl Loop {
         self.facts();
         while self.kept < self.peer.entries().len() {
             if !self.keep_next(station) {
-                return false;
+                return Err(Stop::KeepFault);
             }
         }
-        true
+        Ok(())
     }
 
     /// Makes the own frames that the protocol lets be made, and keeps them.
-    pub(crate) fn advance<S: Station>(&mut self, station: &mut S) -> bool
+    pub(crate) fn advance<S: Station>(&mut self, station: &mut S) -> Result<(), Stop>
         requires told { IsTold (S.history station.old) (view_of self.old) }
         requires running { self.old.phase ≡ Phase.Running }
         requires kept { self.old.kept ≡ length self.old.peer.entries }
@@ -43,14 +44,14 @@ impl Loop {
     }
 
     /// Keeps the entry of the first frame that waits, and the own frames that it lets be made.
-    fn keep_got<S: Station>(&mut self, station: &mut S) -> bool
+    fn keep_got<S: Station>(&mut self, station: &mut S) -> Result<(), Stop>
         requires told { IsTold (S.history station.old) (view_of self.old) }
         requires got { IsGot self.old }
         requires few { self.old.handled + 1 < 2 ^ 64 }
         ensures { Hears result (S.history station.old) (S.history station.new) self.old self.new }
     {
         if !self.keep_next(station) {
-            return false;
+            return Err(Stop::KeepFault);
         }
         self.go_on();
         self.advance(station)
@@ -95,7 +96,7 @@ impl Loop {
     }
 
     /// Handles the first frame that waits.
-    fn hear<S: Station>(&mut self, station: &mut S) -> bool
+    fn hear<S: Station>(&mut self, station: &mut S) -> Result<(), Stop>
         requires next { has_next self.old ≡ true }
         requires hearing { IsHearing (S.history station.old) self.old }
         ensures { Hears result (S.history station.old) (S.history station.new) self.old self.new }
@@ -106,7 +107,7 @@ impl Loop {
             return self.keep_got(station);
         }
         self.pass_over(arrival.player, answer);
-        true
+        Ok(())
     }
 
     /// Whether some frame waits that is to be handled: after a finding none is.
@@ -116,19 +117,24 @@ impl Loop {
         self.handled < self.table.waiting().len() && self.peer.finding().is_none()
     }
 
+    /// No frame waits any more.
+    fn clear(&mut self)
+        ensures { self.new ≡ cleared self.old }
+    {
+        self.table.clear_waiting();
+        self.handled = 0;
+    }
+
     /// Handles the frames that wait, up to the first that makes a finding.
-    pub(crate) fn handle<S: Station>(&mut self, station: &mut S) -> bool
+    pub(crate) fn handle<S: Station>(&mut self, station: &mut S) -> Result<(), Stop>
         requires hearing { IsHearing (S.history station.old) self.old }
         requires first { self.old.handled ≡ 0 }
         ensures { Handles result (S.history station.old) (S.history station.new) self.old self.new }
     {
         while self.has_next() {
-            if !self.hear(station) {
-                return false;
-            }
+            self.hear(station)?;
         }
-        self.table.clear_waiting();
-        self.handled = 0;
-        self.peer.finding().is_none()
+        self.clear();
+        self.stop_if_caught(station)
     }
 }

@@ -23,6 +23,7 @@ mod reading;
 mod ready;
 mod settling;
 mod shutting;
+mod stops;
 mod waiting;
 mod writing;
 

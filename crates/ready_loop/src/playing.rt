@@ -4,39 +4,15 @@ ghost use Rattle.std.specs.Prelude.{◌≡◌, true};
 ghost use Rattle.definitions.specs.Needs.{may_choose};
 ghost use Rattle.peer_core.specs.Views.{choice_of};
 ghost use Rattle.ready_loop.specs.Choices.{chooser};
-ghost use Rattle.ready_loop.specs.Settling.{Plays, Chooses, PutsChoice, IsPlaying, is_on, is_fault, illegal_of};
+ghost use Rattle.ready_loop.specs.Settling.{Plays, Chooses, PutsChoice, IsPlaying, illegal_of};
 
 use crate::ready::Loop;
-use definitions::{Move, MoveFault, Nonce, OwnFault, Turn};
+use crate::stops::Stop;
+use definitions::{Move, MoveFault, Nonce, OwnFault};
 use peer_core::Choice;
 use pilots::Pilot;
 use rand_core::Rng;
 use socket_station::Station;
-
-/// How the choosing of own moves ended.
-#[derive(Clone, Copy, Debug, PartialEq, Eq)]
-pub(crate) enum Played {
-    /// No further move may be chosen now.
-    On,
-    /// A `keep` failed.
-    KeepFault,
-    /// The pilot's move of this turn is not legal.
-    OwnMove(Turn, MoveFault),
-}
-
-/// Whether choosing goes on.
-fn is_on(played: &Played) -> bool
-    ensures { result ≡ is_on played.now }
-{
-    matches!(played, Played::On)
-}
-
-/// Whether a `keep` failed.
-pub(crate) fn is_fault(played: &Played) -> bool
-    ensures { result ≡ is_fault played.now }
-{
-    matches!(played, Played::KeepFault)
-}
 
 /// Why a move is not legal, where that is the fault.
 fn illegal_of(fault: &OwnFault) -> Option<MoveFault>
@@ -76,13 +52,14 @@ impl Loop {
         None
     }
 
-    /// Chooses the next own move, and keeps it, and the own frames that it lets be made.
+    /// Chooses the next own move, and keeps it, and the own frames that it lets be made. It stops
+    /// at a move that is not legal, once all is synced.
     fn choose<S: Station, P: Pilot, R: Rng>(
         &mut self,
         station: &mut S,
         pilot: &mut P,
         chance: &mut R,
-    ) -> Played
+    ) -> Result<(), Stop>
         requires playing { IsPlaying (S.history station.old) self.old }
         requires chooses { may_choose self.old.peer.game self.old.peer.me self.old.peer.entries ≡ true }
         ensures { Chooses (chooser (P.plan pilot.old) (R.stream chance.old)) (chooser (P.plan pilot.new) (R.stream chance.new)) result (S.history station.old) (S.history station.new) self.old self.new }
@@ -92,15 +69,13 @@ impl Loop {
         let mut bytes = [0; 32];
         chance.fill_bytes(&mut bytes);
         if let Some(fault) = self.put_choice(mv, Nonce { bytes }) {
-            return Played::OwnMove(choice.turn, fault);
+            self.sync(station)?;
+            return Err(Stop::OwnMove(choice.turn, fault));
         }
         if !self.keep_next(station) {
-            return Played::KeepFault;
+            return Err(Stop::KeepFault);
         }
-        if !self.advance(station) {
-            return Played::KeepFault;
-        }
-        Played::On
+        self.advance(station)
     }
 
     /// Chooses own moves as long as one may be chosen.
@@ -109,17 +84,14 @@ impl Loop {
         station: &mut S,
         pilot: &mut P,
         chance: &mut R,
-    ) -> Played
+    ) -> Result<(), Stop>
         requires playing { IsPlaying (S.history station.old) self.old }
         ensures { Plays (chooser (P.plan pilot.old) (R.stream chance.old)) (chooser (P.plan pilot.new) (R.stream chance.new)) result (S.history station.old) (S.history station.new) self.old self.new }
     {
         while self.may_choose() {
-            let played = self.choose(station, pilot, chance);
-            if !is_on(&played) {
-                return played;
-            }
+            self.choose(station, pilot, chance)?;
             self.facts();
         }
-        Played::On
+        Ok(())
     }
 }

@@ -1,12 +1,13 @@
 //! Polls, and the whole of a run.
 
 ghost use Rattle.std.specs.Prelude.{◌≡◌};
-ghost use Rattle.ready_loop.specs.Polling.{Polls, Rounds, Ends, IsLicensedToPoll, round_of, is_round_on, ended_of, ended_at};
+ghost use Rattle.ready_loop.specs.Polling.{Polls, Rounds, Ends, IsLicensedToPoll, round_of, ended_at};
+ghost use Rattle.ready_loop.specs.Stops.{settled_of};
 ghost use Rattle.ready_loop.specs.Choices.{chooser};
 ghost use Rattle.ready_loop.specs.Settling.{IsReady};
 
 use crate::ready::Loop;
-use crate::settling::Settled;
+use crate::stops::Stop;
 use definitions::{Finding, MoveFault, Turn};
 use loop_rules::Phase;
 use pilots::Pilot;
@@ -47,45 +48,28 @@ pub enum Ended {
     GaveUp,
 }
 
-/// How a round ended whose settling ended so.
-fn round_of(settled: &Settled) -> Round
-    ensures { result ≡ round_of settled.now }
+/// How a round ends that stopped so.
+fn round_at(stop: Stop) -> Round
+    ensures { result ≡ round_of (settled_of stop) }
 {
-    match *settled {
-        Settled::Idle => Round::On,
-        Settled::Done => Round::Done,
-        Settled::Caught(finding) => Round::Caught(finding),
-        Settled::KeepFault => Round::KeepFault,
-        Settled::OwnMove(turn, fault) => Round::OwnMove(turn, fault),
+    match stop {
+        Stop::Done => Round::Done,
+        Stop::Caught(finding) => Round::Caught(finding),
+        Stop::KeepFault => Round::KeepFault,
+        Stop::OwnMove(turn, fault) => Round::OwnMove(turn, fault),
     }
 }
 
-/// Whether a run goes on after the round.
-fn is_on(round: &Round) -> bool
-    ensures { result ≡ is_round_on round.now }
+/// How a run ends that stopped so.
+fn ended_at(stop: Stop) -> Ended
+    ensures { result ≡ ended_at (settled_of stop) }
 {
-    matches!(round, Round::On)
-}
-
-/// How a run ended whose last round ended so.
-fn ended_of(round: &Round) -> Ended
-    ensures { result ≡ ended_of round.now }
-{
-    match *round {
-        Round::On => Ended::GaveUp,
-        Round::Done => Ended::Done,
-        Round::Caught(finding) => Ended::Caught(finding),
-        Round::PollFault => Ended::PollFault,
-        Round::KeepFault => Ended::KeepFault,
-        Round::OwnMove(turn, fault) => Ended::OwnMove(turn, fault),
+    match stop {
+        Stop::Done => Ended::Done,
+        Stop::Caught(finding) => Ended::Caught(finding),
+        Stop::KeepFault => Ended::KeepFault,
+        Stop::OwnMove(turn, fault) => Ended::OwnMove(turn, fault),
     }
-}
-
-/// How a run ended that settled so after its last poll.
-fn ended_at(settled: &Settled) -> Ended
-    ensures { result ≡ ended_at settled.now }
-{
-    ended_of(&round_of(settled))
 }
 
 impl Loop {
@@ -117,9 +101,8 @@ impl Loop {
         requires ready { IsReady (S.history station.old) self.old }
         ensures { Rounds (chooser (P.plan pilot.old) (R.stream chance.old)) (chooser (P.plan pilot.new) (R.stream chance.new)) result (S.history station.old) (S.history station.new) self.old self.new }
     {
-        let settled = self.settle(station, pilot, chance);
-        if !settled.is_idle() {
-            return round_of(&settled);
+        if let Err(stop) = self.settle_all(station, pilot, chance) {
+            return round_at(stop);
         }
         if !self.poll(station) {
             return Round::PollFault;
@@ -142,12 +125,16 @@ impl Loop {
         let mut left = polls;
         while left > 0 {
             left -= 1;
-            let round = self.round(station, pilot, chance);
-            if !is_on(&round) {
-                return ended_of(&round);
+            if let Err(stop) = self.settle_all(station, pilot, chance) {
+                return ended_at(stop);
+            }
+            if !self.poll(station) {
+                return Ended::PollFault;
             }
         }
-        let settled = self.settle(station, pilot, chance);
-        ended_at(&settled)
+        match self.settle_all(station, pilot, chance) {
+            Ok(()) => Ended::GaveUp,
+            Err(stop) => ended_at(stop),
+        }
     }
 }

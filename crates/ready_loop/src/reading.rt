@@ -15,6 +15,7 @@ ghost use Rattle.ready_loop.specs.Handling.{ReadsOnce, Reads, ReadsOut, ReadsAll
 
 use crate::hears::PeerHears;
 use crate::ready::Loop;
+use crate::stops::Stop;
 use peer_core::Peer;
 use socket_station::{SocketId, SocketRead, Station};
 use socket_table::{FrameList, MOST_TAKEN, Table};
@@ -74,7 +75,12 @@ impl Loop {
     }
 
     /// Reads of the socket once, and handles what came.
-    fn read<S: Station>(&mut self, station: &mut S, place: usize, socket: SocketId) -> bool
+    fn read<S: Station>(
+        &mut self,
+        station: &mut S,
+        place: usize,
+        socket: SocketId,
+    ) -> Result<(), Stop>
         requires at { IsAt self.old.table place socket }
         requires ready { IsReadyToRead (S.history station.old) self.old }
         requires wants { WantsAt self.old.table place }
@@ -85,30 +91,31 @@ impl Loop {
     }
 
     /// Reads of the socket until nothing is there, and handles what came.
-    fn read_out<S: Station>(&mut self, station: &mut S, place: usize, socket: SocketId) -> bool
+    fn read_out<S: Station>(
+        &mut self,
+        station: &mut S,
+        place: usize,
+        socket: SocketId,
+    ) -> Result<(), Stop>
         requires at { IsAt self.old.table place socket }
         requires ready { IsReadyToRead (S.history station.old) self.old }
         ensures { ReadsOut result place socket (S.history station.old) (S.history station.new) self.old self.new }
     {
         while self.wants_read(place) {
-            if !self.read(station, place, socket) {
-                return false;
-            }
+            self.read(station, place, socket)?;
         }
-        true
+        Ok(())
     }
 
     /// Reads of each socket until nothing is there, and handles what came.
-    pub(crate) fn read_all<S: Station>(&mut self, station: &mut S) -> bool
+    pub(crate) fn read_all<S: Station>(&mut self, station: &mut S) -> Result<(), Stop>
         requires ready { IsReadyToRead (S.history station.old) self.old }
         ensures { ReadsAll result (S.history station.old) (S.history station.new) self.old self.new }
     {
         for place in 0..self.count() {
             let socket = self.socket_at(place);
-            if !self.read_out(station, place, socket) {
-                return false;
-            }
+            self.read_out(station, place, socket)?;
         }
-        true
+        Ok(())
     }
 }

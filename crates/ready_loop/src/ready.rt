@@ -3,7 +3,6 @@
 ghost use Rattle.std.specs.Prelude.{◌≡◌, ◌≤◌, ◌<◌, IfOk, not, is_some};
 ghost use Rattle.definitions.specs.Findings.{is_clean};
 ghost use Rattle.definition_laws.specs.First.{finding_of_log};
-ghost use Rattle.loop_rules.specs.Licence.{is_running};
 ghost use Rattle.definitions.specs.World.{players_of};
 ghost use Rattle.rosters.specs.Rosters.{LinksOthers};
 ghost use Rattle.peer_core.specs.Standing.{IsStanding};
@@ -81,13 +80,6 @@ impl Loop {
         ensures { IsStanding self.now.peer }
     {
         self.peer.facts();
-    }
-
-    /// Whether no call of the log or of the polls failed.
-    pub(crate) fn is_running(&self) -> bool
-        ensures { result ≡ is_running self.now.phase }
-    {
-        self.phase == Phase::Running
     }
 
     /// The first finding of the log, if it has one.

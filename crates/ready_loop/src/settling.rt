@@ -3,11 +3,12 @@
 ghost use Rattle.std.specs.Prelude.{◌≡◌, ◌<◌, ◌≤◌, None};
 ghost use Rattle.ready_loop.specs.Handling.{IsReadyToRead};
 ghost use Rattle.ready_loop.specs.Choices.{chooser};
-ghost use Rattle.ready_loop.specs.Settling.{Settles, IsReady, IsReadOut, Passes, ServesSo, Stops, Syncs, IsStopping, is_idle};
+ghost use Rattle.ready_loop.specs.Stops.{settled_by};
+ghost use Rattle.ready_loop.specs.Settling.{Settles, IsReady, IsReadOut, Passes, ServesSo, Syncs, Catches};
 ghost use Rattle.ready_loop.specs.Serving.{IsServing};
 
-use crate::playing::{Played, is_fault};
 use crate::ready::Loop;
+use crate::stops::Stop;
 use definitions::{Finding, MoveFault, Turn};
 use pilots::Pilot;
 use rand_core::Rng;
@@ -28,46 +29,49 @@ pub enum Settled {
     OwnMove(Turn, MoveFault),
 }
 
-impl Settled {
-    /// Whether a poll is licensed.
-    pub(crate) fn is_idle(&self) -> bool
-        ensures { result ≡ is_idle self.now }
-    {
-        matches!(self, Settled::Idle)
+/// How a settling ends: where a poll is licensed, or else as its loop stopped.
+fn settled_by(settled: Result<(), Stop>) -> Settled
+    ensures { result ≡ settled_by settled }
+{
+    match settled {
+        Ok(()) => Settled::Idle,
+        Err(Stop::Done) => Settled::Done,
+        Err(Stop::Caught(finding)) => Settled::Caught(finding),
+        Err(Stop::KeepFault) => Settled::KeepFault,
+        Err(Stop::OwnMove(turn, fault)) => Settled::OwnMove(turn, fault),
     }
 }
 
 impl Loop {
     /// Syncs the log, if there is something to sync.
-    fn sync<S: Station>(&mut self, station: &mut S) -> bool
+    pub(crate) fn sync<S: Station>(&mut self, station: &mut S) -> Result<(), Stop>
         requires ready { IsReady (S.history station.old) self.old }
         ensures { Syncs result (S.history station.old) (S.history station.new) self.old self.new }
     {
         if self.synced == self.kept {
-            return true;
+            return Ok(());
         }
-        self.sync_kept(station)
+        if !self.sync_kept(station) {
+            return Err(Stop::KeepFault);
+        }
+        Ok(())
     }
 
-    /// Ends with the finding of the log, once all is synced, or with the fault of a keep that failed.
-    fn stop<S: Station>(&mut self, station: &mut S) -> Settled
-        requires stopping { IsStopping (S.history station.old) self.old }
-        ensures { Stops result (S.history station.old) (S.history station.new) self.old self.new }
+    /// Stops at the first finding of the log, once all is synced. Without one nothing is done.
+    pub(crate) fn stop_if_caught<S: Station>(&mut self, station: &mut S) -> Result<(), Stop>
+        requires ready { IsReady (S.history station.old) self.old }
+        ensures { Catches result (S.history station.old) (S.history station.new) self.old self.new }
     {
-        if !self.is_running() {
-            return Settled::KeepFault;
+        if let Some(finding) = self.finding() {
+            self.sync(station)?;
+            return Err(Stop::Caught(finding));
         }
-        if !self.sync(station) {
-            return Settled::KeepFault;
-        }
-        match self.finding() {
-            Some(finding) => Settled::Caught(finding),
-            None => Settled::KeepFault,
-        }
+        Ok(())
     }
 
-    /// Shuts and writes what is to be, and dials one player. It goes on where a player was dialled.
-    fn serve<S: Station>(&mut self, station: &mut S) -> Option<Settled>
+    /// Shuts and writes what is to be, and dials one player, if one is to be. It says whether one
+    /// was: else a poll is licensed.
+    fn serve<S: Station>(&mut self, station: &mut S) -> Result<bool, Stop>
         requires serving { IsServing (S.history station.old) self.old }
         requires out { IsReadOut self.old }
         ensures { ServesSo result (S.history station.old) (S.history station.new) self.old self.new }
@@ -76,42 +80,52 @@ impl Loop {
         self.write_all(station);
         self.facts();
         if !self.is_waited_for() {
-            return Some(Settled::Done);
+            return Err(Stop::Done);
         }
         match self.next_dial() {
-            None => Some(Settled::Idle),
+            None => Ok(false),
             Some(seat) => {
                 self.dial(station, seat);
-                None
+                Ok(true)
             }
         }
     }
 
-    /// Reads all that is there, chooses the moves that may be, and keeps and syncs; then it shuts, writes, and dials one player. It goes on where
-    /// a player was dialled.
+    /// Reads all that is there, chooses the moves that may be, and keeps and syncs; then it shuts,
+    /// writes, and dials one player, if one is to be. It says whether one was, as `serve` does.
     fn pass<S: Station, P: Pilot, R: Rng>(
         &mut self,
         station: &mut S,
         pilot: &mut P,
         chance: &mut R,
-    ) -> Option<Settled>
+    ) -> Result<bool, Stop>
         requires ready { IsReadyToRead (S.history station.old) self.old }
         ensures { Passes (chooser (P.plan pilot.old) (R.stream chance.old)) (chooser (P.plan pilot.new) (R.stream chance.new)) result (S.history station.old) (S.history station.new) self.old self.new }
     {
-        if !self.read_all(station) {
-            return Some(self.stop(station));
-        }
-        let played = self.choose_all(station, pilot, chance);
-        if is_fault(&played) {
-            return Some(Settled::KeepFault);
-        }
-        if !self.sync(station) {
-            return Some(Settled::KeepFault);
-        }
-        if let Played::OwnMove(turn, fault) = played {
-            return Some(Settled::OwnMove(turn, fault));
-        }
+        self.read_all(station)?;
+        self.choose_all(station, pilot, chance)?;
+        self.sync(station)?;
         self.serve(station)
+    }
+
+    /// Handles everything that is there, until a poll is licensed or the loop stops.
+    pub(crate) fn settle_all<S: Station, P: Pilot, R: Rng>(
+        &mut self,
+        station: &mut S,
+        pilot: &mut P,
+        chance: &mut R,
+    ) -> Result<(), Stop>
+        requires ready { IsReady (S.history station.old) self.old }
+        ensures { Settles (chooser (P.plan pilot.old) (R.stream chance.old)) (chooser (P.plan pilot.new) (R.stream chance.new)) (settled_by result) (S.history station.old) (S.history station.new) self.old self.new }
+    {
+        self.advance(station)?;
+        self.stop_if_caught(station)?;
+        loop {
+            let dialled = self.pass(station, pilot, chance)?;
+            if !dialled {
+                return Ok(());
+            }
+        }
     }
 
     /// Handles everything that is there, until a poll is licensed or the run is over. Behind a keep fault, a finding or an own move that is not
@@ -126,17 +140,6 @@ impl Loop {
         requires ready { IsReady (S.history station.old) self.old }
         ensures { Settles (chooser (P.plan pilot.old) (R.stream chance.old)) (chooser (P.plan pilot.new) (R.stream chance.new)) result (S.history station.old) (S.history station.new) self.old self.new }
     {
-        if !self.advance(station) {
-            return Settled::KeepFault;
-        }
-        if self.finding().is_some() {
-            return self.stop(station);
-        }
-        loop {
-            let passed = self.pass(station, pilot, chance);
-            if let Some(settled) = passed {
-                return settled;
-            }
-        }
+        settled_by(self.settle_all(station, pilot, chance))
     }
 }

@@ -7,14 +7,14 @@ ghost use Rattle.report_lines.specs.Report.{stand_text, viewed_text, players_tex
 
 use crate::{due_line, player_line, put_needs, score_line};
 use definitions::PlayerId;
-use line_io::{Written, put};
+use line_io::{SinkFault, put};
 use peer_core::Peer;
 use station::Sink;
 
-/// Writes how the peer stands: the turn that it may choose, or the frames of others that it needs, or that it is done; nothing where its log
-/// has a finding.
+/// Writes how the peer stands: the turn that it may choose, or the frames of others that it needs,
+/// or that it is done. Where its log has a finding, writes nothing. Fails where the sink does.
 #[tactic(auto, unfolding(crate::specs::Report::stand_text))]
-pub fn put_stand<O: Sink>(peer: &Peer, out: &mut O) -> Written
+pub fn put_stand<O: Sink>(peer: &Peer, out: &mut O) -> Result<(), SinkFault>
     ensures { Puts (O.state out.old) (O.state out.new) (stand_text peer.now.game peer.now.me peer.now.entries) result }
 {
     if peer.finding().is_some() {
@@ -28,7 +28,7 @@ pub fn put_stand<O: Sink>(peer: &Peer, out: &mut O) -> Written
 }
 
 /// Writes what the peer's log shows of a player.
-fn put_player<O: Sink>(peer: &Peer, player: PlayerId, out: &mut O) -> Written
+fn put_player<O: Sink>(peer: &Peer, player: PlayerId, out: &mut O) -> Result<(), SinkFault>
     requires { player < players_of peer.now.game }
     ensures { Puts (O.state out.old) (O.state out.new) (viewed_text peer.now.game peer.now.me peer.now.entries player) result }
 {
@@ -39,22 +39,20 @@ fn put_player<O: Sink>(peer: &Peer, player: PlayerId, out: &mut O) -> Written
     )
 }
 
-/// Writes what the peer's log shows of each player, by rising number.
-pub fn put_players<O: Sink>(peer: &Peer, out: &mut O) -> Written
+/// Writes what the peer's log shows of each player, by rising number. Fails where the sink does.
+pub fn put_players<O: Sink>(peer: &Peer, out: &mut O) -> Result<(), SinkFault>
     ensures { Puts (O.state out.old) (O.state out.new) (players_text peer.now.game peer.now.me peer.now.entries 0 (players_of peer.now.game)) result }
 {
     'players: for player in 0..peer.session().players() {
-        match put_player(peer, player, out) {
-            Written::All => {}
-            Written::Failed => return Written::Failed,
-        }
+        put_player(peer, player, out)?;
     }
-    Written::All
+    Ok(())
 }
 
-/// Writes the peer's own score: how many of its turns are settled, and the hits that it gave and took in them.
+/// Writes the peer's own score: how many of its turns are settled, and the hits that it gave and
+/// took in them. Fails where the sink does.
 #[tactic(auto, unfolding(crate::specs::Report::own_score_text))]
-pub fn put_score<O: Sink>(peer: &Peer, out: &mut O) -> Written
+pub fn put_score<O: Sink>(peer: &Peer, out: &mut O) -> Result<(), SinkFault>
     ensures { Puts (O.state out.old) (O.state out.new) (own_score_text peer.now.game peer.now.me peer.now.entries) result }
 {
     let score = peer.score();

@@ -6,3 +6,5 @@ pub mod Alone
 pub mod SessionRead
 pub mod Opening
 pub mod OverInput
+pub mod FrontFaults
+pub mod TextFaults

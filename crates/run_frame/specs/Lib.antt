@@ -1,4 +1,5 @@
 pub mod Statuses
+pub mod Faults
 pub mod Frame
 pub mod Turns
 pub mod Ends

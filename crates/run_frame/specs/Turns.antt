@@ -1,5 +1,5 @@
 -- A loop over the lines of an input, turn by turn.
-use Rattle.std.specs.Prelude.{◌≡◌, ℕ, true, false, List, ◌++◌}
+use Rattle.std.specs.Prelude.{◌≡◌, ℕ, true, false, List, ◌++◌, Result, Ok, Err}
 use Rattle.station.specs.Since.{since}
 use Rattle.station.specs.Sinks.{SinkState}
 use Rattle.station.specs.Sources.{SourceState}
@@ -8,8 +8,6 @@ use Rattle.line_io.specs.Inputs.{Input, Ending, AtEnd, AtFault, MayFollow, input
 use Rattle.line_io.specs.Readings.{Drew}
 use Rattle.run_frame.specs.declared.statuses.Status.{Status}
 use Rattle.run_frame.specs.declared.statuses.Status.TheVariants.{InputFault}
-use Rattle.run_frame.specs.declared.turns.LoopTurn.{LoopTurn}
-use Rattle.run_frame.specs.declared.turns.LoopTurn.TheVariants.{On, Over}
 
 -- the input of a run that ended with this status, where it read these bytes and `rest` stands behind them
 abbrev pub input_by : Status → (read rest : List ℕ) → Input
@@ -17,9 +15,9 @@ input_by InputFault read rest = input_of AtFault read
 input_by status read rest = input_of AtEnd (read ++ rest)
 
 -- A turn that reads nothing: the loop goes on with what is still due, or has ended.
-abbrev pub Turns : (before now : SinkState) → (due rest : Answer) → LoopTurn → Type 0
-Turns before now due rest On = Onward before now due rest
-Turns before now due rest (Over status) = Ends before now due status
+abbrev pub Turns : (before now : SinkState) → (due rest : Answer) → Result (Unit {0}) Status → Type 0
+Turns before now due rest (Ok done) = Onward before now due rest
+Turns before now due rest (Err status) = Ends before now due status
 
 -- A loop reads on and goes on. `due` is what was due before, `rest` what is due now, each by the input that the reader held or
 -- holds and what comes behind it: whatever stands behind the bytes read, and whether the source fails behind them.
@@ -37,11 +35,6 @@ pub record Plays (source source' : SourceState) (sink sink' : SinkState) (due : 
   pub over : OnDone status (source'.ended ≡ true)
 
 -- A turn: the loop goes on or has ended.
-abbrev pub PlaysTurn : (source source' : SourceState) → (sink sink' : SinkState) → (due rest : Input → Answer) → (held held' : List ℕ) → LoopTurn → Type 0
-PlaysTurn source source' sink sink' due rest held held' On = PlaysOn source source' sink sink' due rest held held'
-PlaysTurn source source' sink sink' due rest held held' (Over status) = Plays source source' sink sink' due held status
-
--- P, where the loop goes on
-abbrev pub OnTurn : LoopTurn → Type 0 → Type 0
-OnTurn On P = P
-OnTurn (Over status) P = Unit {0}
+abbrev pub PlaysTurn : (source source' : SourceState) → (sink sink' : SinkState) → (due rest : Input → Answer) → (held held' : List ℕ) → Result (Unit {0}) Status → Type 0
+PlaysTurn source source' sink sink' due rest held held' (Ok done) = PlaysOn source source' sink sink' due rest held held'
+PlaysTurn source source' sink sink' due rest held held' (Err status) = Plays source source' sink sink' due held status

@@ -8,7 +8,7 @@ use crate::statuses::{Status, TextName};
 use arrayvec::ArrayVec;
 use definitions::{LogWhy, SessionRule};
 use itoa::Buffer;
-use line_io::{Written, put, text_of};
+use line_io::{put, text_of};
 use station::Sink;
 
 /// Room for a line of a refusal, which has at most 46 bytes.
@@ -136,7 +136,7 @@ pub fn refuse<O: Sink>(status: Status, out: &mut O) -> Status
     ensures { Refuses (O.state out.old) (O.state out.new) status result }
 {
     match put(out, refusal_line(status).as_slice()) {
-        Written::All => status,
-        Written::Failed => Status::OutputFault,
+        Ok(()) => status,
+        Err(fault) => Status::from(fault),
     }
 }

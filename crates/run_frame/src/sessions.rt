@@ -8,7 +8,7 @@ ghost use Rattle.run_frame.specs.Sessions.{IsDue, OpensSession, is_shelf_fault};
 use crate::statuses::Status;
 use definitions::limits::SESSION_FRONT;
 use grid_world::{Session, SessionFault, read_session};
-use line_io::{FrontFault, read_front};
+use line_io::read_front;
 use station::Shelf;
 use std::alloc::Global;
 
@@ -31,9 +31,6 @@ fn session_of(alloc: Global, text: &[u8]) -> Result<Session, Status>
 pub fn open_session<H: Shelf>(alloc: Global, shelf: &mut H, name: &[u8]) -> Result<Session, Status>
     ensures { OpensSession (H.state shelf.old) (H.state shelf.new) name.now result }
 {
-    match read_front(alloc, shelf, name, SESSION_FRONT) {
-        Err(FrontFault::NoMemory) => Err(Status::NoMemory),
-        Err(FrontFault::Failed) => Err(Status::InputFault),
-        Ok(text) => session_of(alloc, text.as_slice()),
-    }
+    let text = read_front(alloc, shelf, name, SESSION_FRONT)?;
+    session_of(alloc, text.as_slice())
 }

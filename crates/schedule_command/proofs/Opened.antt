@@ -1,5 +1,6 @@
 -- Opened: what a line comes to that stands before the one which names the hostile players, or is that one.
-use Rattle.std.proofs.Common.{◌≡◌, ◌<◌, ◌+◌, ℕ, true, false, List, [], ◌∷◌, ◌++◌, length, refl, ap, sym, ◌∙◌}
+use Rattle.std.proofs.Common.{◌≡◌, ◌<◌, ◌+◌, ℕ, true, false, List, [], ◌∷◌, ◌++◌, length, refl, ap, sym, subst, ◌∙◌}
+use Rattle.std.specs.Prelude.{Result, Ok, Err, Some}
 use Rattle.definitions.specs.declared.limits.TheConstants.{LONGEST_LINE}
 use Rattle.definitions.specs.World.{Game}
 use Rattle.station.specs.Since.{since}
@@ -19,8 +20,8 @@ use Rattle.run_frame.proofs.Frames.{onward_same, plays_ends, plays_on}
 use Rattle.schedule_command.specs.declared.opening.Naming.{Naming}
 use Rattle.schedule_command.specs.declared.opening.Naming.TheVariants.{Names, Passed, Unknown}
 use Rattle.schedule_command.specs.declared.opening.Opening.{Opening}
-use Rattle.schedule_command.specs.declared.opening.Opening.TheVariants.{Fails, Last, Named}
-use Rattle.schedule_command.specs.Played.{Opens, OpensTurn, open_by, open_last}
+use Rattle.schedule_command.specs.declared.opening.Opening.TheVariants.{Last, Named}
+use Rattle.schedule_command.specs.Played.{Opens, OpensOrPasses, open_by, open_last}
 use Rattle.schedule_command.specs.Schedule.{first_table, named_answer, naming_behind, opened_from, schedule_from}
 use Rattle.schedule_command.proofs.Readings.{Came, bare_ends, come_plays, comes, is_overlong, line_bad, line_on}
 
@@ -40,7 +41,7 @@ named_line game n line input naming e = ap (λ (m : Naming). named_answer game m
 
 module _ (game : Game) (n : ℕ) (i j : SourceState) (held : List ℕ) where
   -- the source failed
-  pub fault_opens : Drew i j true → (line : List ℕ) → IsOpen line → held ++ since i.seen j.seen ≡ line → (held' : List ℕ) → Opens game i j (opened_from game n) held held' (Fails InputFault)
+  pub fault_opens : Drew i j true → (line : List ℕ) → IsOpen line → held ++ since i.seen j.seen ≡ line → (held' : List ℕ) → Opens game i j (opened_from game n) held held' (Err InputFault)
   fault_opens drew line uncut is held' sink = (
     record {
       drew = drew;
@@ -53,7 +54,7 @@ module _ (game : Game) (n : ℕ) (i j : SourceState) (held : List ℕ) where
 
   -- a line is too long
   pub long_opens : Drew i j false → ((rest : List ℕ) → StartsLonger LONGEST_LINE (lines_of ((held ++ since i.seen j.seen) ++ rest))) → (held' : List ℕ) →
-      Opens game i j (opened_from game n) held held' (Fails (BadLine Script (n + 1)))
+      Opens game i j (opened_from game n) held held' (Err (BadLine Script (n + 1)))
   long_opens drew longer held' sink = (
     record {
       drew = drew;
@@ -66,11 +67,11 @@ module _ (game : Game) (n : ℕ) (i j : SourceState) (held : List ℕ) where
 
   -- the source was read to its end, and this is due by it
   module _ (drew : Drew i j false) (over : j.ended ≡ true) (held' : List ℕ) where
-    bad_comes : (m : ℕ) → Came i j (opened_from game n) held (bare_answer (BadLine Script m)) → Opens game i j (opened_from game n) held held' (Fails (BadLine Script m))
+    bad_comes : (m : ℕ) → Came i j (opened_from game n) held (bare_answer (BadLine Script m)) → Opens game i j (opened_from game n) held held' (Err (BadLine Script m))
     bad_comes m c sink = (come_plays i j (opened_from game n) held (bare_answer (BadLine Script m)) c sink sink (BadLine Script m) refl (bare_ends sink sink _ (BadLine Script m) refl refl), (λ e. cc), refl)
 
     -- no line is left
-    pub end_opens : held ++ since i.seen j.seen ≡ [] → Opens game i j (opened_from game n) held held' (Fails (BadLine Script (n + 1)))
+    pub end_opens : held ++ since i.seen j.seen ≡ [] → Opens game i j (opened_from game n) held held' (Err (BadLine Script (n + 1)))
     end_opens is = bad_comes (n + 1) (record { drew = drew; over = over; rest_is = λ behind m. ap (opened_from game n) (end_read _ behind is (m over)) })
 
     -- the last line, without its end
@@ -87,21 +88,30 @@ module _ (game : Game) (n : ℕ) (i j : SourceState) (held : List ℕ) where
 
   -- a line with its end
   pub line_opens : (held' line : List ℕ) → Drew i j false → IsOpen line → held ++ since i.seen j.seen ≡ line ++ 10 ∷ held' → (naming : Naming) → naming ≡ naming_behind game n line →
-      OpensTurn game i j (opened_from game n) (n + 1) held held' (open_by naming n)
+      OpensOrPasses game i j (opened_from game n) (n + 1) held held' (open_by naming n)
   line_opens held' line drew uncut is naming e = by_naming naming (λ input. named_line game n line input naming e)
     where
       by_naming : (k : Naming) → ((input : Input) → opened_from game n (Line line input) ≡ named_answer game k (n + 1) (opened_from game (n + 1) input) input) →
-          OpensTurn game i j (opened_from game n) (n + 1) held held' (open_by k n)
+          OpensOrPasses game i j (opened_from game n) (n + 1) held held' (open_by k n)
       by_naming Passed r = λ sink. line_on i j held held' line drew uncut is sink sink (opened_from game n) (opened_from game (n + 1)) (λ input. onward_same sink _ _ (r input))
       by_naming (Names hostile) r = λ sink.
           line_on i j held held' line drew uncut is sink sink (opened_from game n) (schedule_from (first_table game hostile) (n + 1)) (λ input. onward_same sink _ _ (r input))
       by_naming Unknown r = λ sink. (line_bad i j held held' line drew uncut is sink sink (opened_from game n) (n + 1) refl r, (λ e. cc), refl)
 
 -- the lines behind those that were passed over
-pub opens_behind : (game : Game) (i j k : SourceState) (due mid : Input → Answer) (x y z : List ℕ) (opening : Opening) → ((sink : SinkState) → PlaysOn i j sink sink due mid x y) →
+pub opens_behind : (game : Game) (i j k : SourceState) (due mid : Input → Answer) (x y z : List ℕ) (opening : Result Opening Status) → ((sink : SinkState) → PlaysOn i j sink sink due mid x y) →
     Opens game j k mid y z opening → Opens game i k due x z opening
-opens_behind game i j k due mid x y z (Named hostile n) u v = λ sink. plays_on i j k sink sink sink due mid (schedule_from (first_table game hostile) n) x y z (u sink) (v sink)
-opens_behind game i j k due mid x y z (Last hostile n) u v =
+opens_behind game i j k due mid x y z (Ok (Named hostile n)) u v = λ sink. plays_on i j k sink sink sink due mid (schedule_from (first_table game hostile) n) x y z (u sink) (v sink)
+opens_behind game i j k due mid x y z (Ok (Last hostile n)) u v =
     let sink : SinkState = record { held = []; faults = 0 } in
     record { drew = drew_on i j k false (u sink).drew v.drew; over = v.over; plays = λ a b s f e. plays_ends i j k a a b due mid x y s (u a) (v.plays a b s f e) }
-opens_behind game i j k due mid x y z (Fails status) u v = λ sink. (plays_ends i j k sink sink sink due mid x y status (u sink) (v sink).0, (v sink).1, (v sink).2)
+opens_behind game i j k due mid x y z (Err status) u v = λ sink. (plays_ends i j k sink sink sink due mid x y status (u sink) (v sink).0, (v sink).1, (v sink).2)
+
+-- the last of the lines was read, without its end or with it
+pub last_opened : (game : Game) (i j : SourceState) (due : Input → Answer) (n : ℕ) (x y : List ℕ) (r : Result Opening Status) (opening : Opening) → r ≡ Ok opening → Opens game i j due x y r →
+    OpensOrPasses game i j due n x y (Ok (Some opening))
+last_opened game i j due n x y r opening e h = subst (Opens game i j due x y) e h
+
+pub last_failed : (game : Game) (i j : SourceState) (due : Input → Answer) (n : ℕ) (x y : List ℕ) (r : Result Opening Status) (status : Status) → r ≡ Err status → Opens game i j due x y r →
+    OpensOrPasses game i j due n x y (Err status)
+last_failed game i j due n x y r status e h = subst (Opens game i j due x y) e h

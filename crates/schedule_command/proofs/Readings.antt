@@ -1,6 +1,6 @@
 -- Readings: lines that are read and answered, and the ends to which reading comes.
 use Rattle.std.proofs.Common.{◌≡◌, ◌+◌, ℕ, Bool, true, false, List, [], ◌∷◌, ◌++◌, ◌<◌, length, refl, ap, subst, sym, ◌∙◌, nat_lt}
-use Rattle.std.specs.Prelude.{◌||◌, nat_le, if◌then◌else◌}
+use Rattle.std.specs.Prelude.{◌||◌, nat_le, if◌then◌else◌, Result, Ok, Err}
 use Rattle.std.proofs.lemmas.Bool.{lt-ltb}
 use Rattle.definitions.specs.declared.limits.TheConstants.{LONGEST_LINE, MOST_LINES}
 use Rattle.definitions.specs.World.{Game}
@@ -23,7 +23,7 @@ use Rattle.run_frame.proofs.Frames.{onward_same, plays_ends}
 use Rattle.schedule.specs.Tables.{TableState}
 use Rattle.schedule_command.specs.declared.grammar.ScheduleLine.TheVariants as says
 use Rattle.schedule_command.specs.Grammar.{line_of}
-use Rattle.schedule_command.specs.Played.{Comes, EndsOrLacks, PlaysOrLacks}
+use Rattle.schedule_command.specs.Played.{AnswersLine, Comes, EndsOrLacks, OnErrEnd, PlaysOrLacks, is_end}
 use Rattle.schedule_command.specs.Schedule.{is_too_much, said_behind, schedule_from}
 
 -- a status that is all that is due ends the run, and nothing is written
@@ -93,6 +93,31 @@ module _ (i j : SourceState) (held held' line : List ℕ) (drew : Drew i j false
     ends = λ behind m. subst (λ (n : Input). CutShort a b (due n).body) (sym (line_is AtEnd behind)) (e (input_of AtEnd (held' ++ behind)));
     over = tt;
   }
+
+  -- and is answered so
+  pub line_turns : (a b : SinkState) (due rest : Input → Answer) (n : ℕ) (r : Result (Unit {0}) Status) → ((input : Input) → AnswersLine a b (due (Line line input)) (rest input) n r) →
+      PlaysTurn i j a b due rest held held' r
+  line_turns a b due rest n (Ok done) h = line_on a b due rest h
+  line_turns a b due rest n (Err OutputFault) h = line_failed a b due h
+  line_turns a b due rest n (Err s) h =
+      let first = h End in
+      subst (λ (t : Status). Plays i j a b due held t) (sym first.0) (line_bad a b due n first.1 (λ input. (h input).2))
+
+-- an answered line that ends the run
+module _ (a b : SinkState) (due rest : Answer) (n : ℕ) where
+  pub line_ends : (s : Status) → AnswersLine a b due rest n (Err s) → Ends a b due s
+  line_ends OutputFault h = h
+  line_ends s h = subst (Ends a b due) (sym h.0) (bare_ends a b due (BadLine Script n) h.1 h.2)
+
+  -- is no fault of the source, and not the command's end
+  pub line_calm : (s : Status) → AnswersLine a b due rest n (Err s) → is_input_fault s ≡ false
+  line_calm OutputFault h = refl
+  line_calm s h = ap is_input_fault h.0
+
+  pub line_over : (P : Type 0) (r : Result (Unit {0}) Status) → AnswersLine a b due rest n r → OnErrEnd r P
+  line_over P (Ok done) h = tt
+  line_over P (Err OutputFault) h = λ e. absurd (let never : false ≡ true = e in cc)
+  line_over P (Err s) h = λ e. absurd (let never : false ≡ true = sym (ap is_end h.0) ∙ e in cc)
 
 -- a line that is too long
 pub is_overlong : (n : ℕ) (line : List ℕ) → LONGEST_LINE < length line → is_too_much n line ≡ true

@@ -1,30 +1,21 @@
 //! Lines that are answered.
 
-ghost use Rattle.std.specs.Prelude.{◌≡◌, ◌<◌, ◌≤◌, ◌+◌, false, length};
+ghost use Rattle.std.specs.Prelude.{◌≡◌, ◌<◌, ◌≤◌, ◌+◌, false, length, OnOk};
 ghost use Rattle.line_io.specs.Inputs.{Input, Line};
 ghost use Rattle.line_io.specs.Texts.{Puts};
 ghost use Rattle.schedule.specs.Steps.{HasPlayers};
 ghost use Rattle.schedule_command.specs.Grammar.{IsOfPlayers, is_bad};
-ghost use Rattle.schedule_command.specs.Played.{AnswersLine, OnLine};
+ghost use Rattle.schedule_command.specs.Played.{AnswersLine};
 ghost use Rattle.schedule_command.specs.Schedule as S;
 
 use crate::grammar::{ScheduleLine, read_line};
-use crate::telling::{entries_of, kept, mover_of, put_step, put_tally};
+use crate::opening::bad_line;
+use crate::telling::{entries_of, kept, mover_of, put_made, put_tally, step_line};
 use definitions::limits::{LONGEST_LINE, MOST_LINES};
-use line_io::Written;
+use line_io::{SinkFault, put};
+use run_frame::Status;
 use schedule::{Step, Table};
 use station::Sink;
-
-/// What a line came to.
-#[derive(Clone, Copy)]
-pub(crate) enum LineTurn {
-    /// It was answered.
-    On,
-    /// It is in no grammar, or one too many, and nothing changed.
-    Bad,
-    /// The sink failed.
-    Failed,
-}
 
 /// What the line says that comes behind so many lines.
 #[tactic(auto, unfolding(crate::specs::Schedule::said_behind))]
@@ -42,7 +33,7 @@ fn said_behind(table: &Table, lines: u32, line: &[u8]) -> ScheduleLine
 
 /// Takes a step, and tells of it.
 #[tactic(auto, unfolding(crate::specs::Schedule::step_text, crate::specs::Schedule::table_after))]
-fn take_step<O: Sink>(table: &mut Table, step: &Step, out: &mut O) -> Written
+fn take_step<O: Sink>(table: &mut Table, step: &Step, out: &mut O) -> Result<(), SinkFault>
     requires { HasPlayers table.old.game step.now }
     ensures text { Puts (O.state out.old) (O.state out.new) (S.step_text table.old step.now) result }
     ensures table { table.new ≡ S.table_after table.old step.now }
@@ -50,26 +41,35 @@ fn take_step<O: Sink>(table: &mut Table, step: &Step, out: &mut O) -> Written
     let entries = entries_of(table, mover_of(step));
     let said = table.step(step);
     let count = kept(step, &said, entries);
-    put_step(table, step, &said, count, out)
+    put(out, step_line(table.session(), step, &said).as_slice())?;
+    put_made(table, mover_of(step), count, out)
 }
 
-/// Answers the line that was read, which comes behind so many lines.
-pub(crate) fn answer<O: Sink>(table: &mut Table, lines: u32, line: &[u8], out: &mut O) -> LineTurn
-    requires { length line.now ≤ LONGEST_LINE }
+/// Answers the line that was read, which comes behind so many lines. An error is the status with
+/// which the run ends: `BadLine` where the line is in no grammar or one too many, when nothing
+/// changed, and `OutputFault` where the sink failed.
+pub(crate) fn answer<O: Sink>(
+    table: &mut Table,
+    lines: u32,
+    line: &[u8],
+    out: &mut O,
+) -> Result<(), Status>
+    requires short { length line.now ≤ LONGEST_LINE }
+    requires few { lines ≤ MOST_LINES }
     ensures text { (input : Input) → AnswersLine (O.state out.old) (O.state out.new)
         (S.schedule_from table.old lines (Line line.now input)) (S.schedule_from table.new (lines + 1) input) (lines + 1) result }
-    ensures few { OnLine result (lines < MOST_LINES) }
+    ensures few { OnOk result (lines < MOST_LINES) }
 {
     match said_behind(table, lines, line) {
-        ScheduleLine::Nothing => LineTurn::On,
-        ScheduleLine::Step(step) => match take_step(table, &step, out) {
-            Written::All => LineTurn::On,
-            Written::Failed => LineTurn::Failed,
-        },
-        ScheduleLine::Tally(player) => match put_tally(table, player, out) {
-            Written::All => LineTurn::On,
-            Written::Failed => LineTurn::Failed,
-        },
-        ScheduleLine::Bad => LineTurn::Bad,
+        ScheduleLine::Nothing => Ok(()),
+        ScheduleLine::Step(step) => {
+            take_step(table, &step, out)?;
+            Ok(())
+        }
+        ScheduleLine::Tally(player) => {
+            put_tally(table, player, out)?;
+            Ok(())
+        }
+        ScheduleLine::Bad => Err(bad_line(lines)),
     }
 }

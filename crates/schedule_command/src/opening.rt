@@ -1,7 +1,7 @@
 //! The lines up to the one that names the hostile players.
 
-ghost use Rattle.std.specs.Prelude.{◌≡◌, ◌<◌, ◌≤◌, ◌+◌, length};
-ghost use Rattle.schedule_command.specs.Played.{Opens, OpensTurn};
+ghost use Rattle.std.specs.Prelude.{◌≡◌, ◌<◌, ◌≤◌, ◌+◌, length, IfOk};
+ghost use Rattle.schedule_command.specs.Played.{Opens, OpensOrPasses};
 ghost use Rattle.schedule_command.specs.Played as P;
 ghost use Rattle.schedule_command.specs.Schedule as S;
 
@@ -31,17 +31,6 @@ pub(crate) enum Opening {
     Named(u64, u32),
     /// The same, and the input ended in that line.
     Last(u64, u32),
-    /// The run ends with this status.
-    Fails(Status),
-}
-
-/// What one of these lines came to.
-#[derive(Clone, Copy)]
-pub(crate) enum OpenTurn {
-    /// It was passed over.
-    Passed,
-    /// It is the last of them.
-    Opened(Opening),
 }
 
 /// What the line says that comes behind so many lines.
@@ -74,62 +63,70 @@ pub(crate) fn bad_line(lines: u32) -> Status
     }
 }
 
-/// What the line came to, which has its end.
-fn open_by(naming: Naming, lines: u32) -> OpenTurn
+/// What the line came to, which has its end: nothing where it is passed over. An error is the
+/// status with which the run ends.
+fn open_by(naming: Naming, lines: u32) -> Result<Option<Opening>, Status>
     requires { lines ≤ MOST_LINES }
     ensures { result ≡ P.open_by naming lines }
 {
     match naming {
-        Naming::Passed => OpenTurn::Passed,
-        Naming::Names(hostile) => OpenTurn::Opened(Opening::Named(hostile, lines + 1)),
-        Naming::Unknown => OpenTurn::Opened(Opening::Fails(bad_line(lines))),
+        Naming::Passed => Ok(None),
+        Naming::Names(hostile) => Ok(Some(Opening::Named(hostile, lines + 1))),
+        Naming::Unknown => Err(bad_line(lines)),
     }
 }
 
-/// What the line came to, in which the input ended.
-fn open_last(naming: Naming, lines: u32) -> Opening
+/// What the line came to, in which the input ended. An error is the status with which the run ends.
+fn open_last(naming: Naming, lines: u32) -> Result<Opening, Status>
     requires { lines ≤ MOST_LINES }
     ensures { result ≡ P.open_last naming lines }
 {
     match naming {
-        Naming::Passed => Opening::Fails(bad_line(lines + 1)),
-        Naming::Names(hostile) => Opening::Last(hostile, lines + 1),
-        Naming::Unknown => Opening::Fails(bad_line(lines)),
+        Naming::Passed => Err(bad_line(lines + 1)),
+        Naming::Names(hostile) => Ok(Opening::Last(hostile, lines + 1)),
+        Naming::Unknown => Err(bad_line(lines)),
     }
 }
 
-/// Reads the line that comes behind so many that were passed over.
+/// Reads the line that comes behind so many that were passed over. Nothing comes where it is passed
+/// over too, and an error is the status with which the run ends.
 fn open_line<I: Source>(
     session: &Session,
     lines: u32,
     reader: &mut LineReader,
     input: &mut I,
-) -> OpenTurn
+) -> Result<Option<Opening>, Status>
     requires { lines ≤ MOST_LINES }
-    ensures text { OpensTurn session.now (I.state input.old) (I.state input.new) (S.opened_from session.now lines) (lines + 1) reader.old.pending reader.new.pending result }
+    ensures text { OpensOrPasses session.now (I.state input.old) (I.state input.new) (S.opened_from session.now lines) (lines + 1) reader.old.pending reader.new.pending result }
     ensures few { P.HasFewSo result lines }
 {
     match reader.next(input) {
-        NextLine::Failed => OpenTurn::Opened(Opening::Fails(Status::InputFault)),
-        NextLine::TooLong => OpenTurn::Opened(Opening::Fails(bad_line(lines))),
-        NextLine::End => OpenTurn::Opened(Opening::Fails(bad_line(lines))),
+        NextLine::Failed => Err(Status::InputFault),
+        NextLine::TooLong => Err(bad_line(lines)),
+        NextLine::End => Err(bad_line(lines)),
         NextLine::Last => {
-            OpenTurn::Opened(open_last(naming_behind(session, lines, reader.line()), lines))
+            let opening = open_last(naming_behind(session, lines, reader.line()), lines)?;
+            Ok(Some(opening))
         }
         NextLine::Line => open_by(naming_behind(session, lines, reader.line()), lines),
     }
 }
 
-/// Reads the lines up to the one that names the hostile players.
-pub(crate) fn open<I: Source>(session: &Session, reader: &mut LineReader, input: &mut I) -> Opening
+/// Reads the lines up to the one that names the hostile players. An error is the status with which
+/// the run ends.
+pub(crate) fn open<I: Source>(
+    session: &Session,
+    reader: &mut LineReader,
+    input: &mut I,
+) -> Result<Opening, Status>
     ensures text { Opens session.now (I.state input.old) (I.state input.new) (S.opened_from session.now 0) reader.old.pending reader.new.pending result }
-    ensures few { P.HasFew result }
+    ensures few { IfOk result P.HasFew }
 {
     let mut lines = 0;
     'lines: loop {
-        match open_line(session, lines, reader, input) {
-            OpenTurn::Passed => lines += 1,
-            OpenTurn::Opened(opening) => return opening,
+        match open_line(session, lines, reader, input)? {
+            None => lines += 1,
+            Some(opening) => return Ok(opening),
         }
     }
 }

@@ -1,19 +1,19 @@
 //! A schedule that is answered line by line.
 
-ghost use Rattle.std.specs.Prelude.{◌≡◌, ◌<◌, ◌≤◌, ◌+◌, ℕ, [], false, length, true};
+ghost use Rattle.std.specs.Prelude.{◌≡◌, ◌<◌, ◌≤◌, ◌+◌, ℕ, [], false, length, true, OnOk};
 ghost use Rattle.line_io.specs.Inputs.{End, Line};
 ghost use Rattle.run_frame.specs.Frame.{Ends, is_input_fault};
-ghost use Rattle.run_frame.specs.Turns.{OnTurn, Plays, PlaysTurn};
-ghost use Rattle.schedule_command.specs.Played.{EndsOrLacks, OnEnd, OnTurnEnd, PlaysOrLacks};
+ghost use Rattle.run_frame.specs.Turns.{Plays, PlaysTurn};
+ghost use Rattle.schedule_command.specs.Played.{EndsOrLacks, OnEnd, OnErrEnd, PlaysOrLacks};
 ghost use Rattle.schedule_command.specs.Schedule as S;
 
-use crate::answering::{LineTurn, answer};
+use crate::answering::answer;
 use crate::opening::{Opening, bad_line, open};
 use crate::telling::put_end;
 use definitions::limits::{LONGEST_LINE, MOST_LINES};
 use grid_world::Session;
-use line_io::{LineReader, NextLine, Written};
-use run_frame::{LoopTurn, Status};
+use line_io::{LineReader, NextLine};
+use run_frame::Status;
 use schedule::{Stand, Table};
 use station::{Sink, Source};
 use std::alloc::Global;
@@ -35,8 +35,8 @@ fn end<O: Sink>(table: &Table, out: &mut O) -> Status
 {
     let stand = table.stand();
     match put_end(stand, out) {
-        Written::All => status_of(stand),
-        Written::Failed => Status::OutputFault,
+        Ok(()) => status_of(stand),
+        Err(fault) => Status::from(fault),
     }
 }
 
@@ -48,36 +48,32 @@ fn answer_last<O: Sink>(table: &mut Table, lines: u32, line: &[u8], out: &mut O)
     ensures source { is_input_fault result ≡ false }
 {
     match answer(table, lines, line, out) {
-        LineTurn::On => end(table, out),
-        LineTurn::Bad => bad_line(lines),
-        LineTurn::Failed => Status::OutputFault,
+        Ok(()) => end(table, out),
+        Err(status) => status,
     }
 }
 
-/// Reads the next line, which comes behind so many, and answers it.
+/// Reads the next line, which comes behind so many, and answers it. An error is the status with
+/// which the run ends.
 fn answer_line<I: Source, O: Sink>(
     table: &mut Table,
     lines: u32,
     reader: &mut LineReader,
     input: &mut I,
     out: &mut O,
-) -> LoopTurn
+) -> Result<(), Status>
     requires { lines ≤ MOST_LINES }
     ensures text { PlaysTurn (I.state input.old) (I.state input.new) (O.state out.old) (O.state out.new)
         (S.schedule_from table.old lines) (S.schedule_from table.new (lines + 1)) reader.old.pending reader.new.pending result }
-    ensures over { OnTurnEnd result ((I.state input.new).ended ≡ true) }
-    ensures few { OnTurn result (lines < MOST_LINES) }
+    ensures over { OnErrEnd result ((I.state input.new).ended ≡ true) }
+    ensures few { OnOk result (lines < MOST_LINES) }
 {
     match reader.next(input) {
-        NextLine::Failed => LoopTurn::Over(Status::InputFault),
-        NextLine::TooLong => LoopTurn::Over(bad_line(lines)),
-        NextLine::End => LoopTurn::Over(end(table, out)),
-        NextLine::Last => LoopTurn::Over(answer_last(table, lines, reader.line(), out)),
-        NextLine::Line => match answer(table, lines, reader.line(), out) {
-            LineTurn::On => LoopTurn::On,
-            LineTurn::Bad => LoopTurn::Over(bad_line(lines)),
-            LineTurn::Failed => LoopTurn::Over(Status::OutputFault),
-        },
+        NextLine::Failed => Err(Status::InputFault),
+        NextLine::TooLong => Err(bad_line(lines)),
+        NextLine::End => Err(end(table, out)),
+        NextLine::Last => Err(answer_last(table, lines, reader.line(), out)),
+        NextLine::Line => answer(table, lines, reader.line(), out),
     }
 }
 
@@ -96,8 +92,8 @@ fn answer_lines<I: Source, O: Sink>(
     let mut count = lines;
     'lines: loop {
         match answer_line(table, count, reader, input, out) {
-            LoopTurn::On => count += 1,
-            LoopTurn::Over(status) => return status,
+            Ok(()) => count += 1,
+            Err(status) => return status,
         }
     }
 }
@@ -151,9 +147,9 @@ pub fn play_schedule<I: Source, O: Sink>(
 {
     let mut reader = LineReader::new();
     match open(session, &mut reader, input) {
-        Opening::Fails(status) => status,
-        Opening::Last(hostile, _) => end_at_once(alloc, session, hostile, out),
-        Opening::Named(hostile, lines) => {
+        Err(status) => status,
+        Ok(Opening::Last(hostile, _)) => end_at_once(alloc, session, hostile, out),
+        Ok(Opening::Named(hostile, lines)) => {
             play_on(alloc, session, hostile, lines, &mut reader, input, out)
         }
     }

@@ -15,7 +15,7 @@ use crate::lines::{
 };
 use definitions::{Entry, PlayerId};
 use grid_world::Session;
-use line_io::{Written, put, text_of};
+use line_io::{SinkFault, put, text_of};
 use report_lines::end_line;
 use schedule::{Stand, Step, StepAnswer, Table};
 use station::Sink;
@@ -52,7 +52,7 @@ fn place_shown(session: &Session, step: &Step) -> u64
 }
 
 /// The line of a step, by what came of it.
-fn step_line(session: &Session, step: &Step, said: &StepAnswer) -> ScheduleText
+pub(crate) fn step_line(session: &Session, step: &Step, said: &StepAnswer) -> ScheduleText
     ensures { result.items ≡ L.step_line session.now step.now said.now }
 {
     match said {
@@ -95,21 +95,23 @@ pub(crate) fn entries_of(table: &Table, player: PlayerId) -> usize
 }
 
 /// Writes the lines of these entries, which came into a player's log.
-fn put_entries<O: Sink>(player: PlayerId, entries: &[Entry], out: &mut O) -> Written
+fn put_entries<O: Sink>(player: PlayerId, entries: &[Entry], out: &mut O) -> Result<(), SinkFault>
     ensures { Puts (O.state out.old) (O.state out.new) (flat_map (L.entry_line player) entries.now) result }
 {
     'entries: for entry in entries {
-        match put(out, entry_line(player, entry).as_slice()) {
-            Written::All => {}
-            Written::Failed => return Written::Failed,
-        }
+        put(out, entry_line(player, entry).as_slice())?;
     }
-    Written::All
+    Ok(())
 }
 
 /// Writes the lines of the entries that a player's log has behind the first so many.
 #[tactic(auto, unfolding(crate::specs::Lines::added_lines))]
-fn put_added<O: Sink>(player: PlayerId, count: usize, log: &[Entry], out: &mut O) -> Written
+fn put_added<O: Sink>(
+    player: PlayerId,
+    count: usize,
+    log: &[Entry],
+    out: &mut O,
+) -> Result<(), SinkFault>
     ensures { Puts (O.state out.old) (O.state out.new) (L.added_lines player count log.now) result }
 {
     if count <= log.len() {
@@ -120,7 +122,12 @@ fn put_added<O: Sink>(player: PlayerId, count: usize, log: &[Entry], out: &mut O
 }
 
 /// Writes what a player made since its log had so many entries; nothing of a hostile player.
-fn put_made<O: Sink>(table: &Table, player: PlayerId, count: usize, out: &mut O) -> Written
+pub(crate) fn put_made<O: Sink>(
+    table: &Table,
+    player: PlayerId,
+    count: usize,
+    out: &mut O,
+) -> Result<(), SinkFault>
     requires { player < players_of table.now.game }
     ensures { Puts (O.state out.old) (O.state out.new) (L.made_lines player count (D.log_of table.now.logs player)) result }
 {
@@ -131,27 +138,13 @@ fn put_made<O: Sink>(table: &Table, player: PlayerId, count: usize, out: &mut O)
     }
 }
 
-/// Writes what came of a step that was taken, and what was made in it, where the player's log had so many entries left.
-pub(crate) fn put_step<O: Sink>(
-    table: &Table,
-    step: &Step,
-    said: &StepAnswer,
-    count: usize,
-    out: &mut O,
-) -> Written
-    requires { mover step.now < players_of table.now.game }
-    ensures { Puts (O.state out.old) (O.state out.new)
-        (L.step_line table.now.game step.now said.now ++ L.made_lines (mover step.now) count (D.log_of table.now.logs (mover step.now))) result }
-{
-    match put(out, step_line(table.session(), step, said).as_slice()) {
-        Written::All => put_made(table, mover_of(step), count, out),
-        Written::Failed => Written::Failed,
-    }
-}
-
 /// Writes how often a player's peer gave each answer, or that the player isn't honest.
 #[tactic(auto, unfolding(crate::specs::Schedule::tally_text))]
-pub(crate) fn put_tally<O: Sink>(table: &Table, player: PlayerId, out: &mut O) -> Written
+pub(crate) fn put_tally<O: Sink>(
+    table: &Table,
+    player: PlayerId,
+    out: &mut O,
+) -> Result<(), SinkFault>
     requires { player < players_of table.now.game }
     ensures { Puts (O.state out.old) (O.state out.new) (S.tally_text table.now player) result }
 {
@@ -164,11 +157,9 @@ pub(crate) fn put_tally<O: Sink>(table: &Table, player: PlayerId, out: &mut O) -
 
 /// Writes how the match stands, and that this is the end.
 #[tactic(auto, unfolding(crate::specs::Schedule::end_text))]
-pub(crate) fn put_end<O: Sink>(stand: Stand, out: &mut O) -> Written
+pub(crate) fn put_end<O: Sink>(stand: Stand, out: &mut O) -> Result<(), SinkFault>
     ensures { Puts (O.state out.old) (O.state out.new) (S.end_text stand) result }
 {
-    match put(out, stand_line(stand).as_slice()) {
-        Written::All => put(out, end_line()),
-        Written::Failed => Written::Failed,
-    }
+    put(out, stand_line(stand).as_slice())?;
+    put(out, end_line())
 }

@@ -1,5 +1,5 @@
 -- Found: what stands where an entry begins, in words.
-use Rattle.std.proofs.Common.{◌≡◌, ◌≤◌, ℕ, ◌+◌, ◌<◌, Bool, true, false, cond, List, [], ◌∷◌, ◌++◌, length, take, drop, refl, sym, ◌∙◌, ap, arith, subst, length-append, append_assoc}
+use Rattle.std.proofs.Common.{◌≡◌, ◌≤◌, ◌⊎◌, inl, inr, ℕ, ◌+◌, ◌<◌, Bool, true, false, cond, List, [], ◌∷◌, ◌++◌, length, take, drop, refl, sym, ◌∙◌, ap, arith, subst, length-append, append_assoc}
 use Rattle.std.specs.Prelude.{Option, Some, None, not, bytes_eq, IsTrue}
 use Rattle.std.specs.Cmp.Lexicographic.{same_text}
 use Rattle.std.proofs.Math.Seq.{take-add}
@@ -7,10 +7,11 @@ use Rattle.std.proofs.lemmas.Bool.{and_from, eq-eqb, le-ltb, ltb-false, not-fals
 use Rattle.std.proofs.lemmas.List.{take_at, drop_at, take-append-le, drop-append-le, length-drop}
 use Rattle.sha2.specs.Sha256.{sha256, digest_bytes}
 use Rattle.definitions.specs.declared.logs.Entry.{Entry}
+use Rattle.definitions.specs.declared.logs.LogWhy.TheVariants.{BadChain, BadEntry}
 use Rattle.definitions.specs.Entries.{is_well_formed}
 use Rattle.definitions.specs.World.{Game}
 use Rattle.session_log.specs.declared.finding.Found.{Found}
-use Rattle.session_log.specs.declared.finding.Found.TheVariants.{Torn, BadChain, BadEntry, Whole}
+use Rattle.session_log.specs.declared.finding.Found.TheVariants.{Torn, Bad, Whole}
 use Rattle.session_log.specs.Spelling.{body_of, entry_text, chained, entry_bytes, FitsEntry}
 use Rattle.session_log.specs.Entries.{told_len, entry_of}
 use Rattle.session_log.specs.Finding.{text_at, digest_at, is_torn, is_unchained, owned_by, entry_at}
@@ -49,7 +50,7 @@ entry_found game me chain e more fits well =
     = ap (λ xs. not (bytes_eq (digest_at bytes) (chained chain xs))) is_text ∙ ap (λ xs. not (bytes_eq xs digest)) is_digest ∙ ap not (bytes_same digest) in
     let read : entry_of (text_at bytes) ≡ Some e = ap entry_of is_text ∙ entry_read e fits in
     let last : owned_by game me (entry_of (text_at bytes)) (told_len bytes + 35) (digest_at bytes) ≡ Whole e (length (text ++ digest)) digest
-    = ap (λ o. owned_by game me o (told_len bytes + 35) (digest_at bytes)) read ∙ ap (λ b. cond b (Whole e (told_len bytes + 35) (digest_at bytes)) BadEntry) well ∙
+    = ap (λ o. owned_by game me o (told_len bytes + 35) (digest_at bytes)) read ∙ ap (λ b. cond b (Whole e (told_len bytes + 35) (digest_at bytes)) (Bad BadEntry)) well ∙
     ap (λ n. Whole e n (digest_at bytes)) count ∙ ap (λ xs. Whole e (length (text ++ digest)) xs) is_digest in
     rw (whole, chained_so) last
 
@@ -78,7 +79,7 @@ owned_so : (game : Game) (me : ℕ) (o : Option Entry) (n : ℕ) (d : List ℕ) 
 owned_so game me None n d e count digest q = absurd cc
 owned_so game me (Some f) n d e count digest q = go (is_well_formed game me f) refl q
   where
-    go : (b : Bool) → is_well_formed game me f ≡ b → cond b (Whole f n d) BadEntry ≡ Whole e count digest → IsOwned game me (Some f) n d e count digest
+    go : (b : Bool) → is_well_formed game me f ≡ b → cond b (Whole f n d) (Bad BadEntry) ≡ Whole e count digest → IsOwned game me (Some f) n d e count digest
     go false t h = absurd cc
     go true t h =
         let same : f ≡ e = cc in
@@ -89,7 +90,7 @@ pub found_stands : (game : Game) (me : ℕ) (chain bytes : List ℕ) (e : Entry)
 unfolding entry_at
 found_stands game me chain bytes e count digest b q =
     let whole = tried_not (is_torn bytes) Torn _ e count digest (λ t. cc) q in
-    let linked = tried_not (is_unchained chain bytes) BadChain _ e count digest (λ b. cc) whole.1 in
+    let linked = tried_not (is_unchained chain bytes) (Bad BadChain) _ e count digest (λ b. cc) whole.1 in
     let o = owned_so game me (entry_of (text_at bytes)) (told_len bytes + 35) (digest_at bytes) e count digest linked.1 in
     let n : ℕ = told_len bytes + 3 in
     let text : entry_text e ≡ text_at bytes = entry_spelled (text_at bytes) e (take_bytes n bytes b) o.read in
@@ -110,7 +111,7 @@ pub found_count : (game : Game) (me : ℕ) (chain bytes : List ℕ) (e : Entry) 
 unfolding entry_at
 found_count game me chain bytes e count digest q =
     let whole = tried_not (is_torn bytes) Torn _ e count digest (λ t. cc) q in
-    let linked = tried_not (is_unchained chain bytes) BadChain _ e count digest (λ b. cc) whole.1 in
+    let linked = tried_not (is_unchained chain bytes) (Bad BadChain) _ e count digest (λ b. cc) whole.1 in
     let o = owned_so game me (entry_of (text_at bytes)) (told_len bytes + 35) (digest_at bytes) e count digest linked.1 in
     (sym o.counted, sym o.same)
 
@@ -120,11 +121,11 @@ owned_not_torn : (game : Game) (me : ℕ) (o : Option Entry) (n : ℕ) (d : List
 owned_not_torn game me None n d q = absurd cc
 owned_not_torn game me (Some f) n d q = go (is_well_formed game me f) q
   where
-    go : (b : Bool) → cond b (Whole f n d) BadEntry ≡ Torn → ⊥
+    go : (b : Bool) → cond b (Whole f n d) (Bad BadEntry) ≡ Torn → ⊥
     go true h = absurd cc
     go false h = absurd cc
 
-untorn : (b c : Bool) (x : Found) → (x ≡ Torn → ⊥) → cond b Torn (cond c BadChain x) ≡ Torn → b ≡ true
+untorn : (b c : Bool) (x : Found) → (x ≡ Torn → ⊥) → cond b Torn (cond c (Bad BadChain) x) ≡ Torn → b ≡ true
 untorn true c x other q = refl
 untorn false true x other q = absurd cc
 untorn false false x other q = absurd (other q)
@@ -157,7 +158,32 @@ found_more game me chain bytes rest whole =
     let digest : digest_at (bytes ++ rest) ≡ digest_at bytes = digest_more bytes rest whole in
     let linked : is_unchained chain (bytes ++ rest) ≡ is_unchained chain bytes
     = ap (λ xs. not (bytes_eq xs (chained chain (text_at (bytes ++ rest))))) digest ∙ ap (λ xs. not (bytes_eq (digest_at bytes) (chained chain xs))) text in
-    rw (still, whole) (ap (λ b. cond b BadChain (owned_by game me (entry_of (text_at (bytes ++ rest))) (told_len (bytes ++ rest) + 35) (digest_at (bytes ++ rest)))) linked
-    ∙ ap (λ xs. cond (is_unchained chain bytes) BadChain (owned_by game me (entry_of xs) (told_len (bytes ++ rest) + 35) (digest_at (bytes ++ rest)))) text
-    ∙ ap (λ n. cond (is_unchained chain bytes) BadChain (owned_by game me (entry_of (text_at bytes)) (n + 35) (digest_at (bytes ++ rest)))) told
-    ∙ ap (λ xs. cond (is_unchained chain bytes) BadChain (owned_by game me (entry_of (text_at bytes)) (told_len bytes + 35) xs)) digest)
+    rw (still, whole) (ap (λ b. cond b (Bad BadChain) (owned_by game me (entry_of (text_at (bytes ++ rest))) (told_len (bytes ++ rest) + 35) (digest_at (bytes ++ rest)))) linked
+    ∙ ap (λ xs. cond (is_unchained chain bytes) (Bad BadChain) (owned_by game me (entry_of xs) (told_len (bytes ++ rest) + 35) (digest_at (bytes ++ rest)))) text
+    ∙ ap (λ n. cond (is_unchained chain bytes) (Bad BadChain) (owned_by game me (entry_of (text_at bytes)) (n + 35) (digest_at (bytes ++ rest)))) told
+    ∙ ap (λ xs. cond (is_unchained chain bytes) (Bad BadChain) (owned_by game me (entry_of (text_at bytes)) (told_len bytes + 35) xs)) digest)
+
+-- ---- why an entry that stands there can't be used
+
+-- a reader names two causes
+abbrev pub IsWhy : Found → Type 0
+IsWhy Torn = Unit {0}
+IsWhy (Bad why) = (why ≡ BadChain) ⊎ (why ≡ BadEntry)
+IsWhy (Whole e count digest) = Unit {0}
+
+owned_why : (game : Game) (me : ℕ) (o : Option Entry) (n : ℕ) (d : List ℕ) → IsWhy (owned_by game me o n d)
+owned_why game me None n d = inr refl
+owned_why game me (Some f) n d = go (is_well_formed game me f)
+  where
+    go : (b : Bool) → IsWhy (cond b (Whole f n d) (Bad BadEntry))
+    go true = tt
+    go false = inr refl
+
+pub found_why : (game : Game) (me : ℕ) (chain bytes : List ℕ) → IsWhy (entry_at game me chain bytes)
+unfolding entry_at
+found_why game me chain bytes = go (is_torn bytes) (is_unchained chain bytes)
+  where
+    go : (torn unchained : Bool) → IsWhy (cond torn Torn (cond unchained (Bad BadChain) (owned_by game me (entry_of (text_at bytes)) (told_len bytes + 35) (digest_at bytes))))
+    go true unchained = tt
+    go false true = inl refl
+    go false false = owned_why game me (entry_of (text_at bytes)) (told_len bytes + 35) (digest_at bytes)

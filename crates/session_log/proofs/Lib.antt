@@ -9,3 +9,4 @@ pub mod Unread
 pub mod Pieces
 pub mod FedWell
 pub mod ReadSo
+pub mod GoneOn

@@ -7,7 +7,8 @@ use Rattle.std.proofs.Math.Seq.{take-add}
 use Rattle.sha2.specs.Hashers.{Holds256}
 use Rattle.sha2.specs.Sha256.{sha256}
 use Rattle.definitions.specs.World.{Game}
-use Rattle.session_log.specs.declared.finding.Found.TheVariants.{BadChain, BadEntry}
+use Rattle.definitions.specs.declared.logs.LogWhy.TheVariants.{BadChain, BadEntry}
+use Rattle.session_log.specs.declared.finding.Found.TheVariants.{Bad}
 use Rattle.session_log.specs.declared.part.Part.{Part}
 use Rattle.session_log.specs.Spelling.{chained}
 use Rattle.session_log.specs.Entries.{told_len, entry_of}
@@ -320,13 +321,13 @@ part_full p chain held part full =
 
 -- what stands there, by whether the digest is the one that chains the text
 found_so : (game : Game) (me : ℕ) (chain held text digest : List ℕ) → IsWhole held text digest →
-    entry_at game me chain held ≡ (if not (bytes_eq digest (chained chain text)) then BadChain else owned_by game me (entry_of text) (length text + 32) digest)
+    entry_at game me chain held ≡ (if not (bytes_eq digest (chained chain text)) then Bad BadChain else owned_by game me (entry_of text) (length text + 32) digest)
 unfolding entry_at
 found_so game me chain held text digest is =
     let torn = is.torn in
-    rw torn (ap (λ xs. if not (bytes_eq xs (chained chain (text_at held))) then BadChain else owned_by game me (entry_of (text_at held)) (told_len held + 35) xs) is.digest_is
-    ∙ ap (λ xs. if not (bytes_eq digest (chained chain xs)) then BadChain else owned_by game me (entry_of xs) (told_len held + 35) digest) is.text_is
-    ∙ ap (λ n. if not (bytes_eq digest (chained chain text)) then BadChain else owned_by game me (entry_of text) n digest) is.count)
+    rw torn (ap (λ xs. if not (bytes_eq xs (chained chain (text_at held))) then Bad BadChain else owned_by game me (entry_of (text_at held)) (told_len held + 35) xs) is.digest_is
+    ∙ ap (λ xs. if not (bytes_eq digest (chained chain xs)) then Bad BadChain else owned_by game me (entry_of xs) (told_len held + 35) digest) is.text_is
+    ∙ ap (λ n. if not (bytes_eq digest (chained chain text)) then Bad BadChain else owned_by game me (entry_of text) n digest) is.count)
 
 -- what a part has that came whole
 pub record HasCome (game : Game) (me : ℕ) (p : Part) (chain held : List ℕ) : Type 0 where
@@ -335,7 +336,7 @@ pub record HasCome (game : Game) (me : ℕ) (p : Part) (chain held : List ℕ) :
   pub kept : take p.text_len p.kept ≡ take 64 text
   pub hashed : Holds256 p.hasher (chain ++ text)
   pub digest_is : digest_at held ≡ p.digest
-  pub found : entry_at game me chain held ≡ (if not (bytes_eq p.digest (chained chain text)) then BadChain else owned_by game me (entry_of text) (p.text_len + 32) p.digest)
+  pub found : entry_at game me chain held ≡ (if not (bytes_eq p.digest (chained chain text)) then Bad BadChain else owned_by game me (entry_of text) (p.text_len + 32) p.digest)
 
 pub has_come : (game : Game) (me : ℕ) (p : Part) (chain held : List ℕ) → length p.digest ≡ 32 → p.digest_len ≡ 32 → HoldsBegun p chain held → HasCome game me p chain held
 has_come game me p chain held size whole part =
@@ -349,8 +350,8 @@ has_come game me p chain held size whole part =
       hashed = part.of_text.hashed;
       digest_is = is.digest_is ∙ sym all;
       found = found_so game me chain held part.text part.digest is
-          ∙ ap (λ xs. if not (bytes_eq xs (chained chain part.text)) then BadChain else owned_by game me (entry_of part.text) (length part.text + 32) xs) (sym all)
-          ∙ ap (λ n. if not (bytes_eq p.digest (chained chain part.text)) then BadChain else owned_by game me (entry_of part.text) (n + 32) p.digest) (sym part.of_text.len);
+          ∙ ap (λ xs. if not (bytes_eq xs (chained chain part.text)) then Bad BadChain else owned_by game me (entry_of part.text) (length part.text + 32) xs) (sym all)
+          ∙ ap (λ n. if not (bytes_eq p.digest (chained chain part.text)) then Bad BadChain else owned_by game me (entry_of part.text) (n + 32) p.digest) (sym part.of_text.len);
     }
 
 -- nothing came of the next one
@@ -366,14 +367,14 @@ is_compared game me p q chain held hash same come is =
 
 -- what is found, by whether the digest is the same
 pub by_digest : (game : Game) (me : ℕ) (p q : Part) (chain held hash : List ℕ) (same b : Bool) (come : HasCome game me p chain held) → IsCompared p q hash same → same ≡ b →
-    (if not b then BadChain else owned_by game me (entry_of come.text) (p.text_len + 32) p.digest) ≡ entry_at game me chain held
+    (if not b then Bad BadChain else owned_by game me (entry_of come.text) (p.text_len + 32) p.digest) ≡ entry_at game me chain held
 by_digest game me p q chain held hash same b come is so =
     let e : bytes_eq p.digest (chained chain come.text) ≡ b = is_compared game me p q chain held hash same come is ∙ so in
-    sym (come.found ∙ ap (λ t. if not t then BadChain else owned_by game me (entry_of come.text) (p.text_len + 32) p.digest) e)
+    sym (come.found ∙ ap (λ t. if not t then Bad BadChain else owned_by game me (entry_of come.text) (p.text_len + 32) p.digest) e)
 
 -- with the same digest the text is longer than any entry's, or all is there
 pub too_long : (game : Game) (me : ℕ) (p q : Part) (chain held hash : List ℕ) (same : Bool) → HasCome game me p chain held → IsCompared p q hash same → same ≡ true → 64 < p.text_len →
-    BadEntry ≡ entry_at game me chain held
+    Bad BadEntry ≡ entry_at game me chain held
 too_long game me p q chain held hash same come is agrees long =
     let n = come.len in
     ap (λ o. owned_by game me o (p.text_len + 32) p.digest) (sym (entry_of-long come.text (omega arith))) ∙ by_digest game me p q chain held hash same true come is agrees
@@ -415,10 +416,10 @@ whole_found game me chain bytes hash whole is = rw whole (ap (found_by game me b
 
 -- and so by whether the digest that is stored is that one
 pub whole_met : (game : Game) (me : ℕ) (chain bytes hash digest : List ℕ) (same b : Bool) → is_torn bytes ≡ false → hash ≡ chained chain (text_at bytes) → digest ≡ digest_at bytes → same ≡ bytes_eq digest hash → same ≡ b →
-    (if not b then BadChain else owned_by game me (entry_of (text_at bytes)) (told_len bytes + 35) (digest_at bytes)) ≡ entry_at game me chain bytes
+    (if not b then Bad BadChain else owned_by game me (entry_of (text_at bytes)) (told_len bytes + 35) (digest_at bytes)) ≡ entry_at game me chain bytes
 whole_met game me chain bytes hash digest same b whole is stored compared so =
     let e : bytes_eq (digest_at bytes) hash ≡ b = ap (λ (xs : List ℕ). bytes_eq xs hash) (sym stored) ∙ sym compared ∙ so in
-    ap (λ (t : Bool). if not t then BadChain else owned_by game me (entry_of (text_at bytes)) (told_len bytes + 35) (digest_at bytes)) (sym e) ∙ whole_found game me chain bytes hash whole is
+    ap (λ (t : Bool). if not t then Bad BadChain else owned_by game me (entry_of (text_at bytes)) (told_len bytes + 35) (digest_at bytes)) (sym e) ∙ whole_found game me chain bytes hash whole is
 
 -- a digest and the text behind it, where they stand in one piece
 pub joined_text : (joined bytes digest : List ℕ) (end : ℕ) → drop 32 joined ≡ bytes → take 32 joined ≡ digest → take (32 + end) joined ≡ digest ++ take end bytes

@@ -1,25 +1,21 @@
 -- Pieces: a log is read alike however its bytes are cut.
 use Rattle.std.proofs.Common.{◌≡◌, ◌≤◌, ℕ, zero, suc, ◌+◌, ◌-◌, ◌<◌, Bool, true, false, List, [], ◌∷◌, ◌++◌, length, drop, refl, sym, ◌∙◌, ap, arith, subst, length-append, append_assoc, inl, inr}
-use Rattle.std.specs.Prelude.{Option, Some, None, flat_map, nat_lt, if◌then◌else◌}
+use Rattle.std.specs.Prelude.{Option, Some, None, Ok, Err, flat_map, nat_lt, if◌then◌else◌}
 use Rattle.std.proofs.lemmas.Bool.{cases_lt, le-ltb, lt-ltb, ltb-true}
 use Rattle.std.proofs.lemmas.List.{length-drop, drop-append-le, append-nil}
 use Rattle.std.proofs.Math.Seq.{drop-append-add}
 use Rattle.definitions.specs.declared.logs.Entry.{Entry}
+use Rattle.session_log.specs.declared.faults.LogFault.{LogFault}
+use Rattle.definitions.specs.declared.logs.LogWhy.TheVariants.{BadEntry}
 use Rattle.definitions.specs.World.{Game, players_of}
 use Rattle.session_log.specs.declared.finding.Found.{Found}
 use Rattle.session_log.specs.declared.finding.Found.TheVariants as found
-use Rattle.session_log.specs.declared.reader.Next.{Next}
-use Rattle.session_log.specs.declared.reader.Next.TheVariants as next
-use Rattle.session_log.specs.declared.feed.LogFedWhat.{LogFedWhat}
-use Rattle.session_log.specs.declared.feed.LogFedWhat.TheVariants as what
-use Rattle.session_log.specs.declared.feed.Fault.{Fault}
-use Rattle.session_log.specs.declared.feed.Fault.TheVariants as fault
-use Rattle.session_log.specs.declared.feed.LogFed.{LogFed}
 use Rattle.session_log.specs.Entries.{told_len}
 use Rattle.session_log.specs.Fed.{Fed, IsFeedOf, IsGivenFirst}
 use Rattle.session_log.specs.Finding.{is_torn, entry_at}
-use Rattle.session_log.specs.Feeding.{LogFeeding, FeedStep, LogGiven, feed_at_start, feed_of, entry_fed, fault_step, fed_step, finished, first_fed, given_by, given_of, given_on, given_over, next_of, one_more, step_by_found}
+use Rattle.session_log.specs.Feeding.{FeedAnswer, LogFeeding, FeedStep, LogGiven, feed_at_start, feed_of, entry_fed, fault_step, fed_step, finished, first_fed, given_by, given_of, given_on, given_over, one_more, step_by_found}
 use Rattle.session_log.specs.Laws.{IsReadOf, owner_in}
+use Rattle.session_log.specs.Reading.{Ending, Answer, fault_at}
 use Rattle.session_log.proofs.Found.{found_count, found_more, found_torn, torn_found}
 use Rattle.session_log.proofs.Parts.{part_torn}
 use Rattle.session_log.proofs.Unread.{Unread, log_reads, none_but, unread, unread_is, unread_log, unread_owner, with_entry}
@@ -34,9 +30,9 @@ abbrev unread_owned : Game → Option ℕ → LogFeeding → List ℕ → Unread
 unread_owned game None f bytes = unread_log game f.at f.chain bytes
 unread_owned game (Some me) f bytes = unread game me f.at f.chain (f.held ++ bytes)
 
-abbrev unread_unless : Option Fault → Option ℕ → Unread → Unread
+abbrev unread_unless : Option LogFault → Option ℕ → Unread → Unread
 unread_unless None owner u = u
-unread_unless (Some x) owner u = none_but (next_of x) owner
+unread_unless (Some x) owner u = none_but (Err x) owner
 
 abbrev unread_on : Game → LogFeeding → List ℕ → Unread
 unread_on game f bytes = unread_unless f.fault f.owner (unread_owned game f.owner f bytes)
@@ -45,18 +41,16 @@ abbrev with_entries : List Entry → Unread → Unread
 with_entries es u = record { entries = es ++ u.entries; last = u.last; owner = u.owner }
 
 -- what a step gives: all, behind its entry if it found one
-abbrev GivesAll : LogFedWhat → (before still left : Unread) → Type 0
-GivesAll what.More before still left = before ≡ still
-GivesAll (what.Entry e) before still left = before ≡ with_entry e left
-GivesAll (what.BadChain at) before still left = before ≡ still
-GivesAll (what.BadEntry at) before still left = before ≡ still
+abbrev GivesAll : Answer → (before still left : Unread) → Type 0
+GivesAll (Ok None) before still left = before ≡ still
+GivesAll (Ok (Some e)) before still left = before ≡ with_entry e left
+GivesAll (Err fault) before still left = before ≡ still
 
 -- a step uses some bytes where it finds an entry, and no more than there are
-abbrev UsesSome : LogFedWhat → ℕ → Type 0
-UsesSome what.More used = Unit {0}
-UsesSome (what.Entry e) used = 0 < used
-UsesSome (what.BadChain at) used = Unit {0}
-UsesSome (what.BadEntry at) used = Unit {0}
+abbrev UsesSome : Answer → ℕ → Type 0
+UsesSome (Ok None) used = Unit {0}
+UsesSome (Ok (Some e)) used = 0 < used
+UsesSome (Err fault) used = Unit {0}
 
 record IsFed (game : Game) (f : LogFeeding) (piece rest : List ℕ) (s : FeedStep) : Type 0 where
   feeding : IsFeeding s.feeding
@@ -70,10 +64,10 @@ going me at chain held = record { owner = Some me; at = at; chain = chain; held 
 none_owned : (me : ℕ) → Some me ≡ None → ⊥
 none_owned me h = cc
 
-no_fault : (x : Fault) → Some x ≡ None → ⊥
+no_fault : (x : LogFault) → Some x ≡ None → ⊥
 no_fault x h = cc
 
-faulty : (me at : ℕ) (chain : List ℕ) (x : Fault) → IsFeeding (record { owner = Some me; at = at; chain = chain; held = []; fault = Some x })
+faulty : (me at : ℕ) (chain : List ℕ) (x : LogFault) → IsFeeding (record { owner = Some me; at = at; chain = chain; held = []; fault = Some x })
 faulty me at chain x = record { torn = λ h. absurd (no_fault x h); begun = λ h. refl }
 
 nothing_held : (me at : ℕ) (chain : List ℕ) → IsFeeding (going me at chain [])
@@ -112,14 +106,10 @@ fed_found found.Torn game me at chain held piece rest torn is = record {
   some = tt;
   all = ap (unread game me at chain) (sym (append_assoc held piece rest));
 }
-fed_found found.BadChain game me at chain held piece rest torn is =
-    let there = entry_there game me chain held piece rest found.BadChain torn is (λ h. cc) in
+fed_found (found.Bad why) game me at chain held piece rest torn is =
+    let there = entry_there game me chain held piece rest (found.Bad why) torn is (λ h. cc) in
     let below = there.below in
-    record { feeding = faulty me at chain (fault.BadChain at); within = omega arith; some = tt; all = unread_is found.BadChain game me at chain (held ++ (piece ++ rest)) there.same }
-fed_found found.BadEntry game me at chain held piece rest torn is =
-    let there = entry_there game me chain held piece rest found.BadEntry torn is (λ h. cc) in
-    let below = there.below in
-    record { feeding = faulty me at chain (fault.BadEntry at); within = omega arith; some = tt; all = unread_is found.BadEntry game me at chain (held ++ (piece ++ rest)) there.same }
+    record { feeding = faulty me at chain (fault_at at why); within = omega arith; some = tt; all = unread_is (found.Bad why) game me at chain (held ++ (piece ++ rest)) there.same }
 fed_found (found.Whole e n digest) game me at chain held piece rest torn is =
     let there = entry_there game me chain held piece rest (found.Whole e n digest) torn is (λ h. cc) in
     let count = (found_count game me chain (held ++ piece) e n digest is).0 in
@@ -142,17 +132,15 @@ waiting : (at : ℕ) (chain : List ℕ) → LogFeeding
 waiting at chain = record { owner = None; at = at; chain = chain; held = []; fault = None }
 
 -- a byte more before it
-gives_more : (w : LogFedWhat) (before other still left : Unread) → other ≡ before → GivesAll w before still left → GivesAll w other still left
-gives_more what.More before other still left e h = e ∙ h
-gives_more (what.Entry x) before other still left e h = e ∙ h
-gives_more (what.BadChain at) before other still left e h = e ∙ h
-gives_more (what.BadEntry at) before other still left e h = e ∙ h
+gives_more : (w : Answer) (before other still left : Unread) → other ≡ before → GivesAll w before still left → GivesAll w other still left
+gives_more (Ok None) before other still left e h = e ∙ h
+gives_more (Ok (Some x)) before other still left e h = e ∙ h
+gives_more (Err fault) before other still left e h = e ∙ h
 
-some_more : (w : LogFedWhat) (used : ℕ) → UsesSome w used → UsesSome w (used + 1)
-some_more what.More used h = tt
-some_more (what.Entry x) used h = omega arith
-some_more (what.BadChain at) used h = tt
-some_more (what.BadEntry at) used h = tt
+some_more : (w : Answer) (used : ℕ) → UsesSome w used → UsesSome w (used + 1)
+some_more (Ok None) used h = tt
+some_more (Ok (Some x)) used h = omega arith
+some_more (Err fault) used h = tt
 
 drop_more_one : (n me : ℕ) (piece : List ℕ) → drop (n + 1) (me ∷ piece) ≡ drop n piece
 drop_more_one n me piece = let e : n + 1 ≡ suc n = omega arith in ap (λ k. drop k (me ∷ piece)) e
@@ -174,17 +162,16 @@ fed_first game at chain (me ∷ piece) rest = by_test (nat_lt me (players_of gam
     f : LogFeeding
     f = record { owner = None; at = at; chain = chain; held = []; fault = None }
 
-    by_test : (b : Bool) → nat_lt me (players_of game) ≡ b → IsFed game f (me ∷ piece) rest (if b then one_more (entry_fed game me (feed_of f me) piece) else fault_step f 1 (fault.BadEntry 0))
+    by_test : (b : Bool) → nat_lt me (players_of game) ≡ b → IsFed game f (me ∷ piece) rest (if b then one_more (entry_fed game me (feed_of f me) piece) else fault_step f 1 (fault_at 0 BadEntry))
     by_test true t =
         let same : unread_on game f (me ∷ (piece ++ rest)) ≡ unread_on game (feed_of f me) (piece ++ rest) = rw t refl in
         fed_behind game f (feed_of f me) me piece rest (entry_fed game me (feed_of f me) piece) same (fed_entry game me (at + 1) (feed_of f me).chain [] piece rest refl)
     by_test false t = record { feeding = record { torn = λ h. absurd (no_fault _ h); begun = λ h. refl }; within = omega arith; some = tt; all = rw t refl }
 
-fed_fields : (game : Game) (owner : Option ℕ) (at : ℕ) (chain held : List ℕ) (x : Option Fault) (piece rest : List ℕ) → let f : LogFeeding = record { owner = owner; at = at; chain = chain; held = held; fault = x } in
+fed_fields : (game : Game) (owner : Option ℕ) (at : ℕ) (chain held : List ℕ) (x : Option LogFault) (piece rest : List ℕ) → let f : LogFeeding = record { owner = owner; at = at; chain = chain; held = held; fault = x } in
     IsFeeding f → IsFed game f piece rest (fed_step game f piece)
 unfolding fed_step waiting
-fed_fields game owner at chain held (Some (fault.BadChain n)) piece rest is = record { feeding = is; within = omega arith; some = tt; all = refl }
-fed_fields game owner at chain held (Some (fault.BadEntry n)) piece rest is = record { feeding = is; within = omega arith; some = tt; all = refl }
+fed_fields game owner at chain held (Some x) piece rest is = record { feeding = is; within = omega arith; some = tt; all = refl }
 fed_fields game (Some me) at chain held None piece rest is = fed_entry game me at chain held piece rest (is.torn refl)
 fed_fields game None at chain held None piece rest is =
     subst (λ (xs : List ℕ). IsFed game (record { owner = None; at = at; chain = chain; held = xs; fault = None }) piece rest (first_fed game (record { owner = None; at = at; chain = chain; held = xs; fault = None }) piece))
@@ -199,13 +186,12 @@ record IsGiven (game : Game) (f : LogFeeding) (piece rest : List ℕ) (g : LogGi
   feeding : IsFeeding g.feeding
   all : unread_on game f (piece ++ rest) ≡ with_entries g.entries (unread_on game g.feeding rest)
 
-given_step : (w : LogFedWhat) (game : Game) (f : LogFeeding) (piece rest : List ℕ) (most used : ℕ) (next : LogFeeding) → IsFeeding next → used ≤ length piece → UsesSome w used → length piece < suc most →
+given_step : (w : Answer) (game : Game) (f : LogFeeding) (piece rest : List ℕ) (most used : ℕ) (next : LogFeeding) → IsFeeding next → used ≤ length piece → UsesSome w used → length piece < suc most →
     GivesAll w (unread_on game f (piece ++ rest)) (unread_on game next rest) (unread_on game next (drop used piece ++ rest)) →
     ((left : List ℕ) → length left < most → IsGiven game next left rest (given_by game most next left)) → IsGiven game f piece rest (given_on w next (given_by game most next (drop used piece)))
-given_step what.More game f piece rest most used next is within some few all ih = record { feeding = is; all = all }
-given_step (what.BadChain at) game f piece rest most used next is within some few all ih = record { feeding = is; all = all }
-given_step (what.BadEntry at) game f piece rest most used next is within some few all ih = record { feeding = is; all = all }
-given_step (what.Entry e) game f piece rest most used next is within some few all ih =
+given_step (Ok None) game f piece rest most used next is within some few all ih = record { feeding = is; all = all }
+given_step (Err fault) game f piece rest most used next is within some few all ih = record { feeding = is; all = all }
+given_step (Ok (Some e)) game f piece rest most used next is within some few all ih =
     let left = length-drop used piece in
     let more = ih (drop used piece) (omega arith) in
     record { feeding = more.feeding; all = all ∙ ap (with_entry e) more.all }
@@ -221,15 +207,14 @@ given_piece : (game : Game) (f : LogFeeding) (piece rest : List ℕ) → IsFeedi
 given_piece game f piece rest is = given_most (suc (length piece)) game f piece rest is (omega arith)
 
 -- with feeds enough it doesn't matter how many there may be
-same_by : (w : LogFedWhat) (game : Game) (next : LogFeeding) (piece : List ℕ) (m n used : ℕ) → used ≤ length piece → UsesSome w used → length piece < suc m → length piece < suc n →
+same_by : (w : Answer) (game : Game) (next : LogFeeding) (piece : List ℕ) (m n used : ℕ) → used ≤ length piece → UsesSome w used → length piece < suc m → length piece < suc n →
     ((left : List ℕ) → length left < m → length left < n → given_by game m next left ≡ given_by game n next left) →
     given_on w next (given_by game m next (drop used piece)) ≡ given_on w next (given_by game n next (drop used piece))
-same_by what.More game next piece m n used within some a b ih = refl
-same_by (what.BadChain at) game next piece m n used within some a b ih = refl
-same_by (what.BadEntry at) game next piece m n used within some a b ih = refl
-same_by (what.Entry e) game next piece m n used within some a b ih =
+same_by (Ok None) game next piece m n used within some a b ih = refl
+same_by (Err fault) game next piece m n used within some a b ih = refl
+same_by (Ok (Some e)) game next piece m n used within some a b ih =
     let left = length-drop used piece in
-    ap (λ (g : LogGiven). given_on (what.Entry e) next g) (ih (drop used piece) (omega arith) (omega arith))
+    ap (λ (g : LogGiven). given_on (Ok (Some e)) next g) (ih (drop used piece) (omega arith) (omega arith))
 
 given_same : (m n : ℕ) (game : Game) (f : LogFeeding) (piece : List ℕ) → IsFeeding f → length piece < m → length piece < n → given_by game m f piece ≡ given_by game n f piece
 given_same zero n game f piece is a b = absurd (omega arith)
@@ -239,14 +224,13 @@ given_same (suc m) (suc n) game f piece is a b =
     let fed = fed_is game f piece [] is in
     same_by s.fed.what game s.feeding piece m n s.fed.used fed.within fed.some a b (λ left c d. given_same m n game s.feeding left fed.feeding c d)
 
-first_by : (w : LogFedWhat) (game : Game) (next : LogFeeding) (piece : List ℕ) (used : ℕ) → IsFeeding next → used ≤ length piece → UsesSome w used →
+first_by : (w : Answer) (game : Game) (next : LogFeeding) (piece : List ℕ) (used : ℕ) → IsFeeding next → used ≤ length piece → UsesSome w used →
     given_on w next (given_by game (length piece) next (drop used piece)) ≡ given_on w next (given_of game next (drop used piece))
-first_by what.More game next piece used is within some = refl
-first_by (what.BadChain at) game next piece used is within some = refl
-first_by (what.BadEntry at) game next piece used is within some = refl
-first_by (what.Entry e) game next piece used is within some =
+first_by (Ok None) game next piece used is within some = refl
+first_by (Err fault) game next piece used is within some = refl
+first_by (Ok (Some e)) game next piece used is within some =
     let left = length-drop used piece in
-    ap (λ (g : LogGiven). given_on (what.Entry e) next g) (given_same (length piece) (suc (length (drop used piece))) game next (drop used piece) is (omega arith) (omega arith))
+    ap (λ (g : LogGiven). given_on (Ok (Some e)) next g) (given_same (length piece) (suc (length (drop used piece))) game next (drop used piece) is (omega arith) (omega arith))
 
 -- what a piece gives is what the first feed finds, and then what the rest gives
 given_rest : (game : Game) (f : LogFeeding) (piece : List ℕ) → IsFeeding f →
@@ -256,13 +240,13 @@ given_rest game f piece is =
     let fed = fed_is game f piece [] is in
     first_by s.fed.what game s.feeding piece s.fed.used fed.feeding fed.within fed.some
 
-pub given_first : (game : Game) (f : LogFeeding) (r : Fed) (piece : List ℕ) (fed : LogFed) → IsFeedOf r f → r.part.digest_len < 32 → fed ≡ (fed_step game f piece).fed → IsGivenFirst game f piece fed
+pub given_first : (game : Game) (f : LogFeeding) (r : Fed) (piece : List ℕ) (fed : FeedAnswer) → IsFeedOf r f → r.part.digest_len < 32 → fed ≡ (fed_step game f piece).fed → IsGivenFirst game f piece fed
 given_first game f r piece fed is few answer =
     let feeding : IsFeeding f = record { torn = λ good. lt-ltb _ _ (part_torn r.part f.chain f.held (is.part good) few); begun = is.begun } in
-    subst (λ (x : LogFed). IsGivenFirst game f piece x) (sym answer) (given_rest game f piece feeding)
+    subst (λ (x : FeedAnswer). IsGivenFirst game f piece x) (sym answer) (given_rest game f piece feeding)
 
 -- nothing more comes
-none_fields : (game : Game) (owner : Option ℕ) (at : ℕ) (chain held : List ℕ) (x : Option Fault) → let f : LogFeeding = record { owner = owner; at = at; chain = chain; held = held; fault = x } in
+none_fields : (game : Game) (owner : Option ℕ) (at : ℕ) (chain held : List ℕ) (x : Option LogFault) → let f : LogFeeding = record { owner = owner; at = at; chain = chain; held = held; fault = x } in
     IsFeeding f → unread_on game f [] ≡ none_but (finished f) owner
 none_fields game owner at chain held (Some x) is = refl
 none_fields game None at chain held None is = refl
@@ -294,7 +278,7 @@ owner_first : (game : Game) (at : ℕ) (id bytes : List ℕ) → (unread_log gam
 owner_first game at id [] = refl
 owner_first game at id (me ∷ bytes) = by_test (nat_lt me (players_of game))
   where
-    by_test : (b : Bool) → (if b then unread game me (at + 1) (id ++ me ∷ []) bytes else none_but (next.BadEntry 0) None).owner ≡ (if b then Some me else None)
+    by_test : (b : Bool) → (if b then unread game me (at + 1) (id ++ me ∷ []) bytes else none_but (Err (fault_at 0 BadEntry)) None).owner ≡ (if b then Some me else None)
     by_test true = unread_owner game me (at + 1) (id ++ me ∷ []) bytes
     by_test false = refl
 
@@ -307,6 +291,6 @@ log_pieces_same game pieces =
     let read = log_reads game bytes in
     record {
       entries = sym seen.entries ∙ sym read.entries;
-      last = read.said ∙ ap (λ (n : Next). Some n) seen.last;
+      last = read.said ∙ ap (λ (n : Ending). Some n) seen.last;
       owner = sym seen.owner ∙ owner_first game 0 game.id bytes;
     }

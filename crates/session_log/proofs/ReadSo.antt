@@ -1,9 +1,10 @@
 -- ReadSo: what holds of each entry that stands in a log's bytes holds of all that are read of it.
 use Rattle.std.proofs.Common.{◌≡◌, ℕ, zero, suc, ◌+◌, Bool, true, false, List, [], ◌∷◌, Option, Some, None, length, drop, refl, sym, subst, ap, ◌∙◌}
-use Rattle.std.specs.Prelude.{◌==◌, IsTrue, slice_index, nat_le, nat_lt, if◌then◌else◌}
+use Rattle.std.specs.Prelude.{Ok, Err, ◌==◌, IsTrue, slice_index, nat_le, nat_lt, if◌then◌else◌}
 use Rattle.definitions.specs.declared.frames.TurnFrame.{TurnFrame}
 use Rattle.definitions.specs.declared.frames.TurnFrame.TheVariants.{Commit, Reveal}
 use Rattle.definitions.specs.declared.logs.Entry.{Entry}
+use Rattle.definitions.specs.declared.logs.LogWhy.TheVariants.{BadChain, BadEntry}
 use Rattle.definitions.specs.declared.logs.Entry.TheVariants.{Chose, Made, Got}
 use Rattle.definitions.specs.Lists.{EachIs}
 use Rattle.commitment.specs.Spelling.{turn_frame_of}
@@ -15,72 +16,57 @@ use Rattle.definitions.specs.World.{Game, players_of}
 use Rattle.definitions.specs.Entries.{AreWellFormed, is_well_formed}
 use Rattle.session_log.specs.declared.finding.Found.{Found}
 use Rattle.session_log.specs.declared.finding.Found.TheVariants as found
-use Rattle.session_log.specs.declared.reader.Next.{Next}
-use Rattle.session_log.specs.declared.reader.Next.TheVariants as next
 use Rattle.session_log.specs.Spelling.{first_chain}
 use Rattle.session_log.specs.Entries.{as_reveal, choice_of, chose_of, entry_by, entry_of, got_of, made_of, told_len}
 use Rattle.session_log.specs.Finding.{digest_at, entry_at, is_torn, is_unchained, owned_by, text_at}
 use Rattle.session_log.specs.Laws.{AreBytes, GotFrameFits, GotFramesFit, ReadEntriesAreWellFormed, owner_in}
-use Rattle.session_log.specs.Reading.{LogReading, ReadLog, Step, ended, further_step, log_at_start, next_step, owned, read_by, read_log, read_on, step_behind, step_on}
+use Rattle.session_log.specs.Reading.{Ending, Answer, fault_at, LogReading, ReadLog, Step, ended, further_step, log_at_start, next_step, owned, read_by, read_log, read_on, step_behind, step_on}
 
 -- P of the entry that is found, or of the one that is answered
 abbrev FoundSo : (P : Entry → Type 0) → Found → Type 0
 FoundSo P (found.Whole e count digest) = P e
 FoundSo P f = Unit {0}
 
-abbrev AnswerSo : (P : Entry → Type 0) → Next → Type 0
-AnswerSo P (next.Entry e) = P e
+abbrev AnswerSo : (P : Entry → Type 0) → Answer → Type 0
+AnswerSo P (Ok (Some e)) = P e
 AnswerSo P answer = Unit {0}
-
--- what was said last is no entry
-abbrev IsLast : Option Next → Type 0
-IsLast None = Unit {0}
-IsLast (Some (next.Entry e)) = ⊥
-IsLast (Some answer) = Unit {0}
 
 -- a step of a reader of this owner's log
 record IsStepOf (P : Entry → Type 0) (me : ℕ) (s : Step) : Type 0 where
   owner : s.reader.owner ≡ Some me
-  last : IsLast s.reader.said
   so : AnswerSo P s.answer
 
-step_so : (P : Entry → Type 0) (r : LogReading) (me at : ℕ) (f : Found) → IsLast r.said → FoundSo P f → IsStepOf P me (step_on r me at f)
-step_so P r me at found.Torn l w = record { owner = refl; last = tt; so = tt }
-step_so P r me at found.BadChain l w = record { owner = refl; last = tt; so = tt }
-step_so P r me at found.BadEntry l w = record { owner = refl; last = tt; so = tt }
-step_so P r me at (found.Whole e count digest) l w = record { owner = refl; last = l; so = w }
+step_so : (P : Entry → Type 0) (r : LogReading) (me at : ℕ) (f : Found) → FoundSo P f → IsStepOf P me (step_on r me at f)
+step_so P r me at found.Torn w = record { owner = refl; so = tt }
+step_so P r me at (found.Bad why) w = record { owner = refl; so = tt }
+step_so P r me at (found.Whole e count digest) w = record { owner = refl; so = w }
 
-on_so : (P : Entry → Type 0) (answer : Next) (r : LogReading) (l : ReadLog) → AnswerSo P answer → EachIs P l.entries → EachIs P (read_on answer r l).entries
-on_so P (next.Entry e) r l w ws = (w, ws)
-on_so P next.End r l w ws = tt
-on_so P (next.Torn p) r l w ws = tt
-on_so P (next.BadChain p) r l w ws = tt
-on_so P (next.BadEntry p) r l w ws = tt
+on_so : (P : Entry → Type 0) (answer : Answer) (r : LogReading) (l : ReadLog) → AnswerSo P answer → EachIs P l.entries → EachIs P (read_on answer r l).entries
+on_so P (Ok (Some e)) r l w ws = (w, ws)
+on_so P (Ok None) r l w ws = tt
+on_so P (Err fault) r l w ws = tt
 
 module _ (P : Entry → Type 0) (game : Game) (log : List ℕ) (me : ℕ) (stands : (chain : List ℕ) (at : ℕ) → FoundSo P (entry_at game me chain (drop at log))) where
-  further_so : (r : LogReading) → r.owner ≡ Some me → IsLast r.said → IsStepOf P me (further_step game r me log)
-  further_so r o l = go (nat_le (length log) r.at)
+  further_so : (r : LogReading) → r.owner ≡ Some me → IsStepOf P me (further_step game r me log)
+  further_so r o = go (nat_le (length log) r.at)
     where
-      go : (b : Bool) → IsStepOf P me (if b then ended r next.End else step_on r me r.at (entry_at game me r.chain (drop r.at log)))
-      go true = record { owner = o; last = tt; so = tt }
-      go false = step_so P r me r.at (entry_at game me r.chain (drop r.at log)) l (stands r.chain r.at)
+      go : (b : Bool) → IsStepOf P me (if b then ended r (Ok tt) else step_on r me r.at (entry_at game me r.chain (drop r.at log)))
+      go true = record { owner = o; so = tt }
+      go false = step_so P r me r.at (entry_at game me r.chain (drop r.at log)) (stands r.chain r.at)
 
-  next_so : (at : ℕ) (chain : List ℕ) (said : Option Next) → IsLast said → let r : LogReading = record { owner = Some me; at = at; chain = chain; said = said } in IsStepOf P me (next_step game log r)
+  next_so : (at : ℕ) (chain : List ℕ) (said : Option Ending) → let r : LogReading = record { owner = Some me; at = at; chain = chain; said = said } in IsStepOf P me (next_step game log r)
   unfolding next_step
-  next_so at chain None l = further_so (record { owner = Some me; at = at; chain = chain; said = None }) refl tt
-  next_so at chain (Some (next.Entry e)) l = absurd l
-  next_so at chain (Some next.End) l = record { owner = refl; last = tt; so = tt }
-  next_so at chain (Some (next.Torn p)) l = record { owner = refl; last = tt; so = tt }
-  next_so at chain (Some (next.BadChain p)) l = record { owner = refl; last = tt; so = tt }
-  next_so at chain (Some (next.BadEntry p)) l = record { owner = refl; last = tt; so = tt }
+  next_so at chain None = further_so (record { owner = Some me; at = at; chain = chain; said = None }) refl
+  next_so at chain (Some (Ok whole)) = record { owner = refl; so = tt }
+  next_so at chain (Some (Err fault)) = record { owner = refl; so = tt }
 
-  read_so : (most : ℕ) (r : LogReading) → r.owner ≡ Some me → IsLast r.said → EachIs P (read_by game log most r).entries
-  read_so zero r o l = tt
-  read_so (suc most) r o l =
+  read_so : (most : ℕ) (r : LogReading) → r.owner ≡ Some me → EachIs P (read_by game log most r).entries
+  read_so zero r o = tt
+  read_so (suc most) r o =
       let s : Step = next_step game log r in
       let is : IsStepOf P me s = subst (λ (q : LogReading). IsStepOf P me (next_step game log q)) (ap (λ (w : Option ℕ). record { owner = w; at = r.at; chain = r.chain; said = r.said }) (sym o))
-      (next_so r.at r.chain r.said l) in
-      on_so P s.answer s.reader (read_by game log most s.reader) is.so (read_so most s.reader is.owner is.last)
+      (next_so r.at r.chain r.said) in
+      on_so P s.answer s.reader (read_by game log most s.reader) is.so (read_so most s.reader is.owner)
 
 -- all that is read of a log whose first byte is this
 log_so : (P : Entry → Type 0) (game : Game) (me : ℕ) (bytes : List ℕ) → ((chain : List ℕ) (at : ℕ) → FoundSo P (entry_at game me chain (drop at (me ∷ bytes)))) → EachIs P (read_log game (me ∷ bytes)).entries
@@ -91,26 +77,26 @@ log_so P game me bytes stands = go (nat_lt me (players_of game))
     most = length (me ∷ bytes)
 
     behind : (rest : List ℕ) → bytes ≡ rest → IsStepOf P me (step_behind game (log_at_start game.id) me rest)
-    behind [] e = record { owner = refl; last = tt; so = tt }
+    behind [] e = record { owner = refl; so = tt }
     behind (b ∷ rest) e =
         let there : FoundSo P (entry_at game me (first_chain game.id me) (b ∷ rest)) = subst (λ xs. FoundSo P (entry_at game me (first_chain game.id me) xs)) e (stands (first_chain game.id me) 1) in
-        step_so P (log_at_start game.id) me 1 (entry_at game me (first_chain game.id me) (b ∷ rest)) tt there
+        step_so P (log_at_start game.id) me 1 (entry_at game me (first_chain game.id me) (b ∷ rest)) there
 
     go : (b : Bool) →
-        let s : Step = if b then step_behind game (log_at_start game.id) me bytes else ended (owned (log_at_start game.id) me) (next.BadEntry 0) in
+        let s : Step = if b then step_behind game (log_at_start game.id) me bytes else ended (owned (log_at_start game.id) me) (Err (fault_at 0 BadEntry)) in
         EachIs P (read_on s.answer s.reader (read_by game (me ∷ bytes) most s.reader)).entries
     go false = tt
     go true =
         let s : Step = step_behind game (log_at_start game.id) me bytes in
         let w = behind bytes refl in
-        on_so P s.answer s.reader (read_by game (me ∷ bytes) most s.reader) w.so (read_so P game (me ∷ bytes) me stands most s.reader w.owner w.last)
+        on_so P s.answer s.reader (read_by game (me ∷ bytes) most s.reader) w.so (read_so P game (me ∷ bytes) me stands most s.reader w.owner)
 
 -- what is owned or stands there is found by its text
 owned_so : (P : Entry → Type 0) (game : Game) (me : ℕ) (o : Option Entry) (count : ℕ) (digest : List ℕ) → ((e : Entry) → o ≡ Some e → IsTrue (is_well_formed game me e) → P e) → FoundSo P (owned_by game me o count digest)
 owned_so P game me None count digest h = tt
 owned_so P game me (Some e) count digest h = go (is_well_formed game me e) refl
   where
-    go : (b : Bool) → is_well_formed game me e ≡ b → FoundSo P (if b then found.Whole e count digest else found.BadEntry)
+    go : (b : Bool) → is_well_formed game me e ≡ b → FoundSo P (if b then found.Whole e count digest else found.Bad BadEntry)
     go true is = h e refl is
     go false is = tt
 
@@ -119,7 +105,7 @@ unfolding entry_at
 found_so P game me chain bytes h = go (is_torn bytes) (is_unchained chain bytes)
   where
     go : (torn unchained : Bool) →
-        FoundSo P (if torn then found.Torn else if unchained then found.BadChain else owned_by game me (entry_of (text_at bytes)) (told_len bytes + 35) (digest_at bytes))
+        FoundSo P (if torn then found.Torn else if unchained then found.Bad BadChain else owned_by game me (entry_of (text_at bytes)) (told_len bytes + 35) (digest_at bytes))
     go true b = tt
     go false true = tt
     go false false = owned_so P game me (entry_of (text_at bytes)) (told_len bytes + 35) (digest_at bytes) h

@@ -1,19 +1,15 @@
 -- Feeding: what a reader of a log that comes in pieces does with the next bytes, and what all pieces give.
-use Rattle.std.specs.Prelude.{ℕ, zero, suc, ◌+◌, ◌-◌, List, [], ◌∷◌, ◌++◌, Option, Some, None, drop, length, nat_lt, ◌==◌, if◌then◌else◌}
+use Rattle.std.specs.Prelude.{ℕ, zero, suc, ◌+◌, ◌-◌, List, [], ◌∷◌, ◌++◌, Option, Some, None, Ok, Err, drop, length, nat_lt, ◌==◌, if◌then◌else◌}
 use Rattle.definitions.specs.declared.logs.Entry.{Entry}
+use Rattle.session_log.specs.declared.faults.LogFault.{LogFault}
+use Rattle.definitions.specs.declared.logs.LogWhy.TheVariants.{Torn, BadEntry}
 use Rattle.definitions.specs.World.{Game, players_of}
 use Rattle.session_log.specs.declared.finding.Found.{Found}
 use Rattle.session_log.specs.declared.finding.Found.TheVariants as found
-use Rattle.session_log.specs.declared.reader.Next.{Next}
-use Rattle.session_log.specs.declared.reader.Next.TheVariants as next
-use Rattle.session_log.specs.declared.feed.LogFedWhat.{LogFedWhat}
-use Rattle.session_log.specs.declared.feed.LogFedWhat.TheVariants as what
-use Rattle.session_log.specs.declared.feed.LogFed.{LogFed}
-use Rattle.session_log.specs.declared.feed.Fault.{Fault}
-use Rattle.session_log.specs.declared.feed.Fault.TheVariants.{BadChain, BadEntry}
 use Rattle.session_log.specs.Spelling.{first_chain}
 use Rattle.session_log.specs.Entries.{told_len}
 use Rattle.session_log.specs.Finding.{entry_at}
+use Rattle.session_log.specs.Reading.{Ending, Answer, fault_at}
 
 -- a log that comes in pieces: the owner, once a player's byte came, where the entry begun begins, the digest before it (or what
 -- stands for it), the bytes of it that came, and the fault, once one was met
@@ -22,7 +18,7 @@ pub record LogFeeding : Type 0 where
   pub at : ℕ
   pub chain : List ℕ
   pub held : List ℕ
-  pub fault : Option Fault
+  pub fault : Option LogFault
 
 -- no byte came yet
 abbrev pub feed_at_start : List ℕ → LogFeeding
@@ -32,46 +28,42 @@ feed_at_start id = record { owner = None; at = 0; chain = id; held = []; fault =
 abbrev pub feed_of : LogFeeding → ℕ → LogFeeding
 feed_of f me = record { owner = Some me; at = f.at + 1; chain = first_chain f.chain me; held = []; fault = None }
 
--- a fault as it is answered, and as the log's end
-abbrev pub what_of : Fault → LogFedWhat
-what_of (BadChain at) = what.BadChain at
-what_of (BadEntry at) = what.BadEntry at
-
-abbrev pub next_of : Fault → Next
-next_of (BadChain at) = next.BadChain at
-next_of (BadEntry at) = next.BadEntry at
+-- What a feed answers: how many bytes it used, and what comes next of the log. Nothing comes where
+-- all bytes were used and end no entry.
+pub record FeedAnswer : Type 0 where
+  pub used : ℕ
+  pub what : Answer
 
 -- a log after a feed, and what was answered
 pub record FeedStep : Type 0 where
   pub feeding : LogFeeding
-  pub fed : LogFed
+  pub fed : FeedAnswer
 
 -- all bytes were used, and end no entry
 abbrev pub more_step : LogFeeding → List ℕ → FeedStep
 more_step f bytes = record {
   feeding = record { owner = f.owner; at = f.at; chain = f.chain; held = f.held ++ bytes; fault = f.fault };
-  fed = record { used = length bytes; what = what.More };
+  fed = record { used = length bytes; what = Ok None };
 }
 
 -- a fault was met
-abbrev pub fault_step : LogFeeding → ℕ → Fault → FeedStep
+abbrev pub fault_step : LogFeeding → ℕ → LogFault → FeedStep
 fault_step f used x = record {
   feeding = record { owner = f.owner; at = f.at; chain = f.chain; held = []; fault = Some x };
-  fed = record { used = used; what = what_of x };
+  fed = record { used = used; what = Err x };
 }
 
 -- an entry of so many bytes came
 abbrev pub entry_step : LogFeeding → Entry → ℕ → List ℕ → FeedStep
 entry_step f e count digest = record {
   feeding = record { owner = f.owner; at = f.at + count; chain = digest; held = []; fault = None };
-  fed = record { used = count - length f.held; what = what.Entry e };
+  fed = record { used = count - length f.held; what = Ok (Some e) };
 }
 
 -- the step where, with these bytes, this is what stands at the begin of the entry, which has so many bytes
 abbrev pub step_by_found : LogFeeding → List ℕ → ℕ → Found → FeedStep
 step_by_found f bytes count found.Torn = more_step f bytes
-step_by_found f bytes count found.BadChain = fault_step f (count - length f.held) (BadChain f.at)
-step_by_found f bytes count found.BadEntry = fault_step f (count - length f.held) (BadEntry f.at)
+step_by_found f bytes count (found.Bad why) = fault_step f (count - length f.held) (fault_at f.at why)
 step_by_found f bytes count (found.Whole e n digest) = entry_step f e n digest
 
 -- the step on an entry of the owner's log
@@ -85,39 +77,39 @@ one_more s = record { feeding = s.feeding; fed = record { used = s.fed.used + 1;
 -- the step where no byte came yet
 abbrev pub first_fed : Game → LogFeeding → List ℕ → FeedStep
 first_fed game f [] = more_step f []
-first_fed game f (me ∷ bytes) = if nat_lt me (players_of game) then one_more (entry_fed game me (feed_of f me) bytes) else fault_step f 1 (BadEntry 0)
+first_fed game f (me ∷ bytes) = if nat_lt me (players_of game) then one_more (entry_fed game me (feed_of f me) bytes) else fault_step f 1 (fault_at 0 BadEntry)
 
 abbrev pub fed_by_owner : Game → Option ℕ → LogFeeding → List ℕ → FeedStep
 fed_by_owner game None f bytes = first_fed game f bytes
 fed_by_owner game (Some me) f bytes = entry_fed game me f bytes
 
-abbrev pub fed_unless : Option Fault → LogFeeding → FeedStep → FeedStep
+abbrev pub fed_unless : Option LogFault → LogFeeding → FeedStep → FeedStep
 fed_unless None f s = s
-fed_unless (Some x) f s = record { feeding = f; fed = record { used = 0; what = what_of x } }
+fed_unless (Some x) f s = record { feeding = f; fed = record { used = 0; what = Err x } }
 
 -- what a feed of these bytes does: a fault that was met stays
 unfoldable pub fed_step : Game → LogFeeding → List ℕ → FeedStep
 fed_step game f bytes = fed_unless f.fault f (fed_by_owner game f.owner f bytes)
 
 -- how a log ends where no entry begins: a log of the owner's byte alone is torn
-abbrev pub end_at : ℕ → Next
-end_at at = if at == 1 then next.Torn 0 else next.End
+abbrev pub end_at : ℕ → Ending
+end_at at = if at == 1 then Err (fault_at 0 Torn) else Ok tt
 
 -- how it ends behind these bytes of an entry
-abbrev pub torn_at : ℕ → List ℕ → Next
+abbrev pub torn_at : ℕ → List ℕ → Ending
 torn_at at [] = end_at at
-torn_at at (b ∷ bytes) = next.Torn at
+torn_at at (b ∷ bytes) = Err (fault_at at Torn)
 
-abbrev pub end_by_owner : Option ℕ → ℕ → List ℕ → Next
-end_by_owner None at held = next.End
+abbrev pub end_by_owner : Option ℕ → ℕ → List ℕ → Ending
+end_by_owner None at held = Ok tt
 end_by_owner (Some me) at held = torn_at at held
 
-abbrev pub end_unless : Option Fault → Next → Next
+abbrev pub end_unless : Option LogFault → Ending → Ending
 end_unless None end = end
-end_unless (Some x) end = next_of x
+end_unless (Some x) end = Err x
 
 -- how the log ends if no more bytes come
-abbrev pub finished : LogFeeding → Next
+abbrev pub finished : LogFeeding → Ending
 finished f = end_unless f.fault (end_by_owner f.owner f.at f.held)
 
 -- the entries that feeds gave, and the log after them
@@ -126,11 +118,10 @@ pub record LogGiven : Type 0 where
   pub feeding : LogFeeding
 
 -- what was given by a feed, and by feeding what it left
-abbrev pub given_on : LogFedWhat → LogFeeding → LogGiven → LogGiven
-given_on what.More f behind = record { entries = []; feeding = f }
-given_on (what.Entry e) f behind = record { entries = e ∷ behind.entries; feeding = behind.feeding }
-given_on (what.BadChain at) f behind = record { entries = []; feeding = f }
-given_on (what.BadEntry at) f behind = record { entries = []; feeding = f }
+abbrev pub given_on : Answer → LogFeeding → LogGiven → LogGiven
+given_on (Ok None) f behind = record { entries = []; feeding = f }
+given_on (Ok (Some e)) f behind = record { entries = e ∷ behind.entries; feeding = behind.feeding }
+given_on (Err fault) f behind = record { entries = []; feeding = f }
 
 -- what is given of a piece that is fed until a feed says More or a fault, with so many feeds at most
 abbrev pub given_by : Game → ℕ → LogFeeding → List ℕ → LogGiven

@@ -1,20 +1,20 @@
 -- Laws of logs: what is written is read again, and what is read was written so.
-use Rattle.std.specs.Prelude.{ℕ, ◌≡◌, ◌≤◌, ◌<◌, ◌+◌, ◌⊎◌, List, [], ◌∷◌, ◌++◌, length, flat_map, nat_lt, Option, Some, None, if◌then◌else◌, slice_index}
+use Rattle.std.specs.Prelude.{ℕ, ◌≡◌, ◌≤◌, ◌<◌, ◌+◌, ◌⊎◌, List, [], ◌∷◌, ◌++◌, length, flat_map, nat_lt, Option, Some, None, Ok, Err, if◌then◌else◌, slice_index}
 use Rattle.definitions.specs.declared.logs.Entry.{Entry}
 use Rattle.definitions.specs.declared.logs.Entry.TheVariants.{Chose, Made, Got}
+use Rattle.definitions.specs.declared.logs.LogWhy.{LogWhy}
+use Rattle.definitions.specs.declared.logs.LogWhy.TheVariants.{TooLong, Torn, BadChain, BadEntry, NotReplayed}
 use Rattle.commitment.specs.Spelling.{FitsFrame, frame_bytes}
 use Rattle.definitions.specs.Lists.{EachIs}
 use Rattle.definitions.specs.Entries.{AreWellFormed}
 use Rattle.definitions.specs.World.{Game, players_of}
-use Rattle.session_log.specs.declared.reader.Next.{Next}
-use Rattle.session_log.specs.declared.reader.Next.TheVariants as next
 use Rattle.session_log.specs.declared.finding.Found.{Found}
 use Rattle.session_log.specs.declared.finding.Found.TheVariants as found
 use Rattle.session_log.specs.Spelling.{entry_text, chained, entries_bytes, first_chain, log_bytes, FitsEntry}
 use Rattle.session_log.specs.Finding.{entry_at}
 use Rattle.session_log.specs.Entries.{entry_of}
-use Rattle.session_log.specs.Reading.{read_log}
-use Rattle.session_log.specs.Writing.{fresh, all_written}
+use Rattle.session_log.specs.Reading.{Ending, ReadLog, read_log}
+use Rattle.session_log.specs.Writing.{all_after, all_written, fresh, going_on}
 use Rattle.session_log.specs.Feeding.{LogGiven, feed_at_start, finished, given_over}
 
 -- all items are bytes
@@ -35,7 +35,7 @@ WritersWriteLogs = (id : List ℕ) (owner : ℕ) (entries : List Entry) → all_
 -- an owner's log that a session allows is read as its entries and the end
 abbrev pub LogsAreRead : Type 0
 LogsAreRead = (game : Game) (me : ℕ) (entries : List Entry) → me < players_of game → EachIs FitsEntry entries → AreWellFormed game me entries →
-    ((read_log game (log_bytes game.id me entries)).entries ≡ entries) × ((read_log game (log_bytes game.id me entries)).reader.said ≡ Some next.End)
+    ((read_log game (log_bytes game.id me entries)).entries ≡ entries) × ((read_log game (log_bytes game.id me entries)).reader.said ≡ Some (Ok tt))
 
 -- a log that is read to its end is the log of the entries that were read, which the session allows, and its owner, if it has one, is a player
 pub record IsLogOf (game : Game) (bytes : List ℕ) (entries : List Entry) : Type 0 where
@@ -68,18 +68,37 @@ IsOwnerAlone game bytes entries place = (me : ℕ) × (me < players_of game) × 
 abbrev pub IsOfNobody : Game → List ℕ → List Entry → ℕ → Type 0
 IsOfNobody game bytes entries place = (me : ℕ) × (rest : List ℕ) × (players_of game ≤ me) × (bytes ≡ me ∷ rest) × (entries ≡ []) × (place ≡ 0)
 
--- what the last answer says of the log
-abbrev pub EndsSo : Game → List ℕ → List Entry → Next → Type 0
-EndsSo game bytes entries (next.Entry e) = ⊥
-EndsSo game bytes entries next.End = IsLogOf game bytes entries
-EndsSo game bytes entries (next.Torn place) = StandsThere game bytes entries place found.Torn ⊎ IsOwnerAlone game bytes entries place
-EndsSo game bytes entries (next.BadChain place) = StandsThere game bytes entries place found.BadChain
-EndsSo game bytes entries (next.BadEntry place) = StandsThere game bytes entries place found.BadEntry ⊎ IsOfNobody game bytes entries place
+-- what a fault at this place says of the log: a reader names three kinds
+abbrev pub IsFaultAt : Game → List ℕ → List Entry → ℕ → LogWhy → Type 0
+IsFaultAt game bytes entries place TooLong = ⊥
+IsFaultAt game bytes entries place Torn = StandsThere game bytes entries place found.Torn ⊎ IsOwnerAlone game bytes entries place
+IsFaultAt game bytes entries place BadChain = StandsThere game bytes entries place (found.Bad BadChain)
+IsFaultAt game bytes entries place BadEntry = StandsThere game bytes entries place (found.Bad BadEntry) ⊎ IsOfNobody game bytes entries place
+IsFaultAt game bytes entries place NotReplayed = ⊥
 
--- reading comes to a last answer, and the log is so
+-- what its end says of the log
+abbrev pub EndsSo : Game → List ℕ → List Entry → Ending → Type 0
+EndsSo game bytes entries (Ok whole) = IsLogOf game bytes entries
+EndsSo game bytes entries (Err fault) = IsFaultAt game bytes entries fault.at fault.why
+
+-- reading comes to an end, and the log is so
 abbrev pub LogsEndSo : Type 0
 LogsEndSo = (game : Game) (bytes : List ℕ) → AreBytes bytes →
-    (last : Next) × ((read_log game bytes).reader.said ≡ Some last) × EndsSo game bytes (read_log game bytes).entries last
+    (last : Ending) × ((read_log game bytes).reader.said ≡ Some last) × EndsSo game bytes (read_log game bytes).entries last
+
+-- the entries that were read are this player's, or there are none
+abbrev pub AreEntriesOf : ℕ → ReadLog → Type 0
+AreEntriesOf me l = (l.reader.owner ≡ Some me) ⊎ (l.entries ≡ [])
+
+-- The reader's writer stands as one that wrote the entries that were read, and the reader has used
+-- their bytes.
+pub record StandsAfter (game : Game) (me : ℕ) (l : ReadLog) : Type 0 where
+  pub writer_is : going_on l.reader me ≡ all_after (fresh game.id me) l.entries
+  pub used_is : l.reader.at ≡ length (log_bytes game.id me l.entries)
+
+-- a reader of a player's log does so
+abbrev pub ReadersGoOn : Type 0
+ReadersGoOn = (game : Game) (bytes : List ℕ) (me : ℕ) → AreBytes bytes → AreEntriesOf me (read_log game bytes) → StandsAfter game me (read_log game bytes)
 
 -- the owner of a log, where its byte is there and a player's
 abbrev pub owner_in : Game → List ℕ → Option ℕ

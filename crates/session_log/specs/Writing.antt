@@ -1,6 +1,7 @@
 -- Writing: what a writer of a log writes next, and all that it writes.
-use Rattle.std.specs.Prelude.{ℕ, Bool, true, false, List, [], ◌∷◌, ◌++◌, if◌then◌else◌}
+use Rattle.std.specs.Prelude.{ℕ, Bool, true, false, List, [], ◌∷◌, ◌++◌, nat_lt, if◌then◌else◌}
 use Rattle.definitions.specs.declared.logs.Entry.{Entry}
+use Rattle.session_log.specs.Reading.{LogReading}
 use Rattle.session_log.specs.Spelling.{entry_text, chained, entry_bytes, first_chain}
 
 -- a writer: the owner of the log, whether an entry was written, and the digest of the last one (or the session's id)
@@ -33,3 +34,12 @@ after w e = record { owner = w.owner; begun = true; chain = chained (chain_of w)
 abbrev pub all_written : Writing → List Entry → List ℕ
 all_written w [] = []
 all_written w (e ∷ entries) = written w e ++ all_written (after w e) entries
+
+-- the writer behind these entries
+abbrev pub all_after : Writing → List Entry → Writing
+all_after w [] = w
+all_after w (e ∷ entries) = all_after (after w e) entries
+
+-- a writer of this owner that goes on where a reader is
+abbrev pub going_on : LogReading → ℕ → Writing
+going_on r me = record { owner = me; begun = nat_lt 0 r.at; chain = r.chain }

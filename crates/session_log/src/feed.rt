@@ -2,19 +2,21 @@
 //!
 //! What reads an entry to its room is inlined, here and in [`crate::part`], [`crate::finding`] and [`crate::entries`].
 
-ghost use Rattle.std.specs.Prelude.{◌≡◌, ◌+◌, ◌-◌, ◌≤◌, ◌<◌, ◌∷◌, ℕ, List, [], drop, false, true, length, IfSome, None, Some};
+ghost use Rattle.std.specs.Prelude.{◌≡◌, ◌+◌, ◌-◌, ◌≤◌, ◌<◌, ◌∷◌, ℕ, List, [], drop, false, true, length, Err, IfErr, IfSome, None, Ok, Some};
 ghost use Rattle.session_log.specs.Feeding as S;
+ghost use Rattle.session_log.specs.Reading.{answer_of, fault_at, next_of};
 ghost use Rattle.session_log.specs.Finding as F;
 ghost use Rattle.session_log.specs.Feeding.{LogFeeding};
 ghost use Rattle.session_log.specs.Fed as D;
-ghost use Rattle.session_log.specs.Fed.{IsFedSo, IsFeedOf, IsGivenFirst, IsStepOf, after_found, fed_as, what_found};
+ghost use Rattle.session_log.specs.Fed.{IsFedSo, IsFeedFault, IsFeedOf, IsFeedWhy, IsGivenFirst, IsStepOf, IsToldFirst, IsToldOf, IsToldSo, after_found, fed_as, what_found};
 
 use crate::entries::{NO_ENTRY, told_len};
-use crate::finding::{Met, is_torn};
+use crate::faults::LogFault;
+use crate::finding::is_torn;
 use crate::part::Part;
 use crate::reader::Next;
 use definitions::limits::LONGEST_LOG;
-use definitions::{Entry, PlayerId};
+use definitions::{Entry, LogWhy, PlayerId};
 use grid_world::Session;
 use std::marker::Model;
 
@@ -27,8 +29,8 @@ pub enum LogFedWhat {
     Entry(Entry),
     /// With its last byte: the entry isn't chained to those before it.
     BadChain(u32),
-    /// With its last byte: the entry is none that the owner's log may have. Or at 0, with the owner's byte: that is no player's
-    /// number.
+    /// With its last byte: the entry is none that the owner's log may have. Or at 0, with the
+    /// owner's byte: that is no player's number.
     BadEntry(u32),
 }
 
@@ -39,63 +41,29 @@ pub struct LogFed {
     pub what: LogFedWhat,
 }
 
-/// What a feed of a log found, where the entry stands in the room that was given for it. The places are those of the bytes where the
-/// faulty entry begins.
-#[derive(Clone, Copy, Debug, PartialEq, Eq)]
-pub enum LogStepWhat {
-    /// All bytes were used, and they end no entry.
-    More,
-    /// The next entry came, with its last byte.
-    Entry,
-    /// As [`LogFedWhat::BadChain`].
-    BadChain(u32),
-    /// As [`LogFedWhat::BadEntry`].
-    BadEntry(u32),
-}
-
-/// What a feed of a log found, and how many of its bytes it used.
+/// What a feed of a log found that writes an entry to the room that was given for it, and how many
+/// of its bytes it used.
 #[derive(Clone, Copy, Debug, PartialEq, Eq)]
 pub struct LogStep {
     pub used: usize,
-    pub what: LogStepWhat,
+    /// Whether the next entry came, with its last byte: else all bytes were used, and they end no
+    /// entry. Or the log's first fault, which is BadChain or BadEntry, as [`LogFedWhat`] has them.
+    pub what: Result<bool, LogFault>,
 }
 
 /// What was found, with the entry that stands in the room.
-fn what_as(what: LogStepWhat, entry: Entry) -> LogFedWhat
-    ensures { result ≡ D.what_as what entry }
+fn told(what: Result<bool, LogFault>, entry: Entry) -> LogFedWhat
+    ensures { result ≡ D.what_of (D.what_as what entry) }
 {
     match what {
-        LogStepWhat::More => LogFedWhat::More,
-        LogStepWhat::Entry => LogFedWhat::Entry(entry),
-        LogStepWhat::BadChain(at) => LogFedWhat::BadChain(at),
-        LogStepWhat::BadEntry(at) => LogFedWhat::BadEntry(at),
-    }
-}
-
-/// Why no entry comes any more.
-#[derive(Clone, Copy, Debug, PartialEq, Eq)]
-pub(crate) enum Fault {
-    BadChain(u32),
-    BadEntry(u32),
-}
-
-/// The fault as a feed answers it.
-fn what_of(fault: Fault) -> LogStepWhat
-    ensures { (e : Entry) → D.what_as result e ≡ S.what_of fault }
-{
-    match fault {
-        Fault::BadChain(at) => LogStepWhat::BadChain(at),
-        Fault::BadEntry(at) => LogStepWhat::BadEntry(at),
-    }
-}
-
-/// The fault as the end of the log.
-fn next_of(fault: Fault) -> Next
-    ensures { result ≡ S.next_of fault }
-{
-    match fault {
-        Fault::BadChain(at) => Next::BadChain(at),
-        Fault::BadEntry(at) => Next::BadEntry(at),
+        Ok(false) => LogFedWhat::More,
+        Ok(true) => LogFedWhat::Entry(entry),
+        Err(fault) => match fault.why {
+            LogWhy::BadChain => LogFedWhat::BadChain(fault.at),
+            LogWhy::TooLong | LogWhy::Torn | LogWhy::BadEntry | LogWhy::NotReplayed => {
+                LogFedWhat::BadEntry(fault.at)
+            }
+        },
     }
 }
 
@@ -117,18 +85,18 @@ pub struct LogFeed {
     used: u32,
     at: u32,
     part: Part,
-    fault: Option<Fault>,
+    fault: Option<LogFault>,
 }
 
 impl Model for LogFeed {
     ghost use Rattle.std.specs.Prelude.{◌<◌};
-    ghost use Rattle.session_log.specs.Fed.{Fed};
+    ghost use Rattle.session_log.specs.Fed.{Fed, IsFeedFault};
 
     ghost Value = { Fed };
 
     ghost view = { λ f. record { owner = f.owner; used = f.used; at = f.at; part = f.part; fault = f.fault } };
 
-    ghost invariant = { λ f. f.part.digest_len < 32 };
+    ghost invariant = { λ f. (f.part.digest_len < 32) × IsFeedFault f.fault };
 }
 
 impl LogFeed {
@@ -153,37 +121,51 @@ impl LogFeed {
         self.owner
     }
 
+    /// The log's fault, once a feed has answered it, which is BadChain or BadEntry. A log that is
+    /// only torn has none: more of it may come.
+    pub fn fault(&self) -> Option<LogFault>
+        ensures fault { result ≡ self.now.fault }
+        ensures why { IsFeedFault result }
+    {
+        self.fault
+    }
+
     /// The fault was met, of which the last of so many bytes tells.
-    fn fail(&mut self, used: usize, fault: Fault) -> LogStep
+    fn fail(&mut self, used: usize, fault: LogFault) -> LogStep
+        requires why { IsFeedWhy fault.why }
         ensures feed { self.new ≡ record self.old { fault = Some fault } }
-        ensures fed { (e : Entry) → fed_as result e ≡ record { used = used; what = S.what_of fault } }
+        ensures fed { (e : Entry) → fed_as result e ≡ record { used = used; what = Err fault } }
         ensures used { result.used ≡ used }
     {
         self.fault = Some(fault);
         LogStep {
             used,
-            what: what_of(fault),
+            what: Err(fault),
         }
     }
 
-    /// The answer where this was met at the begin of the entry, of whose bytes the last of so many is the last.
-    fn answer(&mut self, used: usize, met: Met) -> LogStep
+    /// The answer where the entry that began last can be used or not, and the last of so many
+    /// bytes is its last.
+    fn answer(&mut self, used: usize, read: Result<(), LogWhy>) -> LogStep
         requires some { 0 < used }
+        requires why { IfErr read IsFeedWhy }
         requires good { self.old.fault ≡ None }
         ensures so { (e : Entry) → IsFedSo (D.what_as result.what e) result.used self.new }
-        ensures feed { (e : Entry) (n : ℕ) (d : List ℕ) → self.new ≡ after_found self.old (F.found_as met e n d) }
-        ensures fed { (e : Entry) (n : ℕ) (d : List ℕ) → fed_as result e ≡ record { used = used; what = what_found self.old.at (F.found_as met e n d) } }
+        ensures feed { (e : Entry) (n : ℕ) (d : List ℕ) → self.new ≡ after_found self.old (F.found_as read e n d) }
+        ensures fed { (e : Entry) (n : ℕ) (d : List ℕ) → fed_as result e ≡ record { used = used; what = what_found self.old.at (F.found_as read e n d) } }
         ensures used { result.used ≡ used }
         ensures kept { self.new.used ≡ self.old.used }
     {
-        match met {
-            Met::BadChain => self.fail(used, Fault::BadChain(self.at)),
-            Met::BadEntry => self.fail(used, Fault::BadEntry(self.at)),
-            Met::Whole => {
+        match read {
+            Err(why) => {
+                let at = self.at;
+                self.fail(used, LogFault { at, why })
+            }
+            Ok(()) => {
                 self.at = self.used;
                 LogStep {
                     used,
-                    what: LogStepWhat::Entry,
+                    what: Ok(true),
                 }
             }
         }
@@ -212,8 +194,8 @@ impl LogFeed {
     {
         let count = told_len(bytes) + 35;
         self.used += count as u32;
-        let met = self.part.take_whole(session, owner, bytes, joined, entry);
-        self.answer(count, met)
+        let read = self.part.take_whole(session, owner, bytes, joined, entry);
+        self.answer(count, read)
     }
 
     /// Reads on in the owner's entry that is begun, or that doesn't end in these bytes.
@@ -236,11 +218,11 @@ impl LogFeed {
         if !self.part.is_whole() {
             return LogStep {
                 used: count,
-                what: LogStepWhat::More,
+                what: Ok(false),
             };
         }
-        let met = self.part.close(session, owner, entry);
-        self.answer(count, met)
+        let read = self.part.close(session, owner, entry);
+        self.answer(count, read)
     }
 
     /// Reads on in the owner's entries. One that comes whole is read where it stands. `joined` is empty, or the bytes with the 32 before
@@ -294,12 +276,18 @@ impl LogFeed {
         match bytes {
             [] => LogStep {
                 used: 0,
-                what: LogStepWhat::More,
+                what: Ok(false),
             },
             [owner, rest @ ..] => {
                 if *owner >= session.players() {
                     self.used += 1;
-                    return self.fail(1, Fault::BadEntry(0));
+                    return self.fail(
+                        1,
+                        LogFault {
+                            at: 0,
+                            why: LogWhy::BadEntry,
+                        },
+                    );
                 }
                 self.begin(*owner);
                 let step = self.feed_entry(session, *owner, rest, &[], entry);
@@ -326,13 +314,13 @@ impl LogFeed {
         ensures step { (f : LogFeeding) → IsFeedOf self.old f → IsStepOf self.new (fed_as result entry.new) (S.fed_step session.now f bytes.now) }
         ensures within { result.used ≤ length bytes.now }
         ensures used { self.new.used ≡ self.old.used + result.used }
-        ensures still { IfSome self.old.fault (λ x. (fed_as result entry.new ≡ record { used = 0; what = S.what_of x }) × (self.new ≡ self.old)) }
+        ensures still { IfSome self.old.fault (λ x. (fed_as result entry.new ≡ record { used = 0; what = Err x }) × (self.new ≡ self.old)) }
         ensures so { IsFedSo (D.what_as result.what entry.new) result.used self.new }
     {
         if let Some(fault) = self.fault {
             return LogStep {
                 used: 0,
-                what: what_of(fault),
+                what: Err(fault),
             };
         }
         match self.owner {
@@ -358,7 +346,7 @@ impl LogFeed {
         ensures step { (f : LogFeeding) → IsFeedOf self.old f → IsStepOf self.new (fed_as result entry.new) (S.fed_step session.now f (drop at piece.now)) }
         ensures within { at + result.used ≤ length piece.now }
         ensures used { self.new.used ≡ self.old.used + result.used }
-        ensures still { IfSome self.old.fault (λ x. (fed_as result entry.new ≡ record { used = 0; what = S.what_of x }) × (self.new ≡ self.old)) }
+        ensures still { IfSome self.old.fault (λ x. (fed_as result entry.new ≡ record { used = 0; what = Err x }) × (self.new ≡ self.old)) }
         ensures so { IsFedSo (D.what_as result.what entry.new) result.used self.new }
 
         // What the bytes give is what was found, and then what the rest of them gives.
@@ -371,46 +359,67 @@ impl LogFeed {
 
     /// Reads on in the log with these bytes, up to the end of the first entry that ends in them.
     ///
-    /// Entry, BadChain and BadEntry come with the entry's last byte, BadEntry of 0 also with an owner's byte that is no player's
-    /// number, and `used` counts the bytes up to that one: the rest is to be fed next. More comes where all bytes are used and
-    /// none of these comes. After a fault each feed answers it again, and uses nothing. A log has at most `LONGEST_LOG` bytes.
+    /// Entry, BadChain and BadEntry come with the entry's last byte, BadEntry of 0 also with an
+    /// owner's byte that is no player's number. `used` counts the bytes up to that one: the rest
+    /// is to be fed next. More comes where all bytes are used and none of these comes. After a
+    /// fault each feed answers it again, and uses nothing. A log has at most `LONGEST_LOG` bytes.
     pub fn feed(&mut self, session: &Session, bytes: &[u8]) -> LogFed
         requires { self.old.used + length bytes.now ≤ LONGEST_LOG }
-        ensures step { (f : LogFeeding) → IsFeedOf self.old f → IsStepOf self.new result (S.fed_step session.now f bytes.now) }
+        ensures step { (f : LogFeeding) → IsFeedOf self.old f → IsToldOf self.new result (S.fed_step session.now f bytes.now) }
         ensures within { result.used ≤ length bytes.now }
         ensures used { self.new.used ≡ self.old.used + result.used }
-        ensures still { IfSome self.old.fault (λ x. (result ≡ record { used = 0; what = S.what_of x }) × (self.new ≡ self.old)) }
-        ensures so { IsFedSo result.what result.used self.new }
+        ensures still { IfSome self.old.fault (λ x. (result ≡ record { used = 0; what = D.what_by x.why x.at }) × (self.new ≡ self.old)) }
+        ensures so { IsToldSo result.what result.used self.new }
 
-        // What the bytes give is what was found, and then what the rest of them gives.
-        ensures rest { (f : LogFeeding) → IsFeedOf self.old f → IsGivenFirst session.now f bytes.now result }
+        // What the bytes give is what was told, and then what the rest of them gives.
+        ensures rest { (f : LogFeeding) → IsFeedOf self.old f → IsToldFirst session.now f bytes.now result }
     {
         let mut entry = NO_ENTRY;
         let step = self.feed_at(session, bytes, 0, &mut entry);
+        // a fault is one of the two that can be told
+        let _ = self.fault();
         LogFed {
             used: step.used,
-            what: what_as(step.what, entry),
+            what: told(step.what, entry),
         }
     }
 
-    /// How the log ends if no more bytes come: End behind an entry or where no byte came, Torn with the place where the entry
-    /// begins of which bytes lack, or the fault that was answered. A log of the owner's byte alone is torn at 0.
-    pub fn finish(&self) -> Next
+    /// How the log ends if no more bytes come: it is whole behind an entry or where no byte came.
+    /// Else it is Torn, at the place where the entry begins of which bytes lack, or has the fault
+    /// that was answered. A log of the owner's byte alone is torn at 0.
+    pub fn ending(&self) -> Result<(), LogFault>
         ensures { (f : LogFeeding) → IsFeedOf self.now f → result ≡ S.finished f }
     {
         if let Some(fault) = self.fault {
-            return next_of(fault);
+            return Err(fault);
         }
         if self.owner.is_none() {
-            return Next::End;
+            return Ok(());
         }
         if self.used > self.at {
-            return Next::Torn(self.at);
+            return Err(LogFault {
+                at: self.at,
+                why: LogWhy::Torn,
+            });
         }
         if self.at == 1 {
-            Next::Torn(0)
-        } else {
-            Next::End
+            return Err(LogFault {
+                at: 0,
+                why: LogWhy::Torn,
+            });
+        }
+        Ok(())
+    }
+
+    /// How the log ends if no more bytes come, as a reader tells it. End comes behind an entry or
+    /// where no byte came, Torn with the place where the entry begins of which bytes lack, and
+    /// else the fault that was answered. A log of the owner's byte alone is torn at 0.
+    pub fn finish(&self) -> Next
+        ensures { (f : LogFeeding) → IsFeedOf self.now f → result ≡ next_of (answer_of (S.finished f)) }
+    {
+        match self.ending() {
+            Ok(()) => Next::End,
+            Err(fault) => Next::of(fault),
         }
     }
 }

@@ -9,26 +9,17 @@ ghost use Rattle.session_log.specs.Finding as F;
 
 use crate::entries::{NO_ENTRY, read_into, told_len};
 use byte_fields::take_array;
-use definitions::{Entry, PlayerId, Turn, TurnFrame};
+use definitions::{Entry, LogWhy, PlayerId, Turn, TurnFrame};
 use grid_world::Session;
 use sha2::{Digest as _, Sha256};
 
-/// What stands where an entry begins: less than an entry, one that isn't chained to those before, one that the log may not
-/// have, or an entry with the number of its bytes and its digest.
+/// What stands where an entry begins: less than an entry, one that can't be used, or an entry with
+/// the number of its bytes and its digest.
 #[derive(Clone, Copy)]
 pub(crate) enum Found {
     Torn,
-    BadChain,
-    BadEntry,
+    Bad(LogWhy),
     Whole(Entry, usize, [u8; 32]),
-}
-
-/// What a whole entry is, which stands in the room that was given for it.
-#[derive(Clone, Copy)]
-pub(crate) enum Met {
-    BadChain,
-    BadEntry,
-    Whole,
 }
 
 /// The session's id with the owner's byte, to which the first entry is chained.
@@ -115,7 +106,7 @@ fn owned_by(
     if read_owned(session, owner, text, &mut entry) {
         Found::Whole(entry, count, digest)
     } else {
-        Found::BadEntry
+        Found::Bad(LogWhy::BadEntry)
     }
 }
 
@@ -149,7 +140,7 @@ fn found_by(session: &Session, owner: PlayerId, bytes: &[u8], hash: &[u8; 32]) -
     let end = told_len(bytes) + 3;
     let digest = digest_at(bytes, end);
     if !same_digest(&digest, hash) {
-        return Found::BadChain;
+        return Found::Bad(LogWhy::BadChain);
     }
     owned_by(session, owner, &bytes[..end], end + 32, digest)
 }

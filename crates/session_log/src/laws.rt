@@ -1,6 +1,6 @@
 //! Laws of logs: functions that do nothing, whose clauses are proved.
 
-ghost use Rattle.session_log.specs.Laws.{EntriesAreRead, EntriesAreSpelled, WritersWriteLogs, LogsAreRead, LogsEndSo, LogPiecesDoNotMatter, GotFramesFit, ReadEntriesAreWellFormed};
+ghost use Rattle.session_log.specs.Laws.{EntriesAreRead, EntriesAreSpelled, WritersWriteLogs, LogsAreRead, LogsEndSo, LogPiecesDoNotMatter, GotFramesFit, ReadEntriesAreWellFormed, ReadersGoOn};
 
 /// An entry is read from its text, and an entry that is read has the text.
 pub fn entries_are_read()
@@ -20,6 +20,12 @@ pub fn writers_write_logs()
 pub fn logs_are_read()
     ensures read { LogsAreRead }
     ensures ends { LogsEndSo }
+{}
+
+/// Where what was read of a log are the player's entries, or none, a reader's writer stands as one
+/// that wrote just these, and the reader has used their bytes.
+pub fn readers_go_on()
+    ensures { ReadersGoOn }
 {}
 
 /// In whatever pieces a log comes, the entries that are fed and the end are those that a reader gives for the joined bytes, and

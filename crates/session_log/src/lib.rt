@@ -11,6 +11,7 @@
 
 mod bodies;
 mod entries;
+mod faults;
 mod feed;
 mod finding;
 pub mod laws;
@@ -18,8 +19,9 @@ mod part;
 mod reader;
 mod writer;
 
-pub use definitions::Entry;
+pub use definitions::{Entry, LogWhy};
 pub use entries::{NO_ENTRY, read_entry};
-pub use feed::{LogFed, LogFedWhat, LogFeed, LogStep, LogStepWhat};
+pub use faults::LogFault;
+pub use feed::{LogFed, LogFedWhat, LogFeed, LogStep};
 pub use reader::{LogReader, Next};
 pub use writer::LogWriter;

@@ -1,17 +1,18 @@
 //! The entry of a log that is begun, as its bytes come: what a good one needs of them, and a hash of the rest.
 
-ghost use Rattle.std.specs.Prelude.{◌≡◌, ◌+◌, ◌-◌, ◌<◌, ◌≤◌, ◌^◌, ◌++◌, ℕ, List, [], false, true, length, min, take, drop, ◌==◌};
+ghost use Rattle.std.specs.Prelude.{◌≡◌, ◌+◌, ◌-◌, ◌<◌, ◌≤◌, ◌^◌, ◌++◌, ℕ, List, [], IfErr, false, true, length, min, take, drop, ◌==◌};
 ghost use Rattle.sha2.specs.Hashers.{Holds256};
 ghost use Rattle.sha2.specs.Sha256.{sha256};
 ghost use Rattle.session_log.specs.Entries as E;
 ghost use Rattle.session_log.specs.Finding as F;
 ghost use Rattle.session_log.specs.Spelling as S;
+ghost use Rattle.session_log.specs.Fed.{IsFeedWhy};
 ghost use Rattle.session_log.specs.Parts.{HoldsBegun, HoldsPart, HoldsText, lacked};
 
 use crate::entries::told_len;
-use crate::finding::{Met, chained, digest_at, read_owned, same_digest};
+use crate::finding::{chained, digest_at, read_owned, same_digest};
 use byte_fields::put_slice;
-use definitions::{Entry, PlayerId};
+use definitions::{Entry, LogWhy, PlayerId};
 use grid_world::Session;
 use sha2::{Digest as _, Sha256};
 use std::mem;
@@ -184,8 +185,10 @@ impl Part {
         }
     }
 
-    /// What the whole entry is at the front of the bytes, where this is fresh: it is read where it stands, and only its digest is kept.
-    /// The next one is chained to that, and nothing of it came yet. `joined` is empty, or the bytes with the 32 before them.
+    /// Reads the whole entry at the front of the bytes, where this is fresh, or says why it can't
+    /// be used. It is read where it stands, and only its digest is kept. The next one is chained
+    /// to that, and nothing of it came yet. `joined` is empty, or the bytes with the 32 before
+    /// them.
     #[inline(always)]
     pub(crate) fn take_whole(
         &mut self,
@@ -194,10 +197,11 @@ impl Part {
         bytes: &[u8],
         joined: &[u8],
         out: &mut Entry,
-    ) -> Met
+    ) -> Result<(), LogWhy>
         requires fresh { self.old.fresh ≡ true }
         requires joined { 32 ≤ length joined.now → drop 32 joined.now ≡ bytes.now }
         requires whole { F.is_torn bytes.now ≡ false }
+        ensures why { IfErr result IsFeedWhy }
         ensures found { (chain : List ℕ) → HoldsPart self.old chain [] → F.found_as result out.new (E.told_len bytes.now + 35) (F.digest_at bytes.now) ≡ F.entry_at session.now owner chain bytes.now }
         ensures part { (chain : List ℕ) → HoldsPart self.old chain [] → HoldsPart self.new (F.digest_at bytes.now) [] }
         ensures digest { self.new.digest_len ≡ self.old.digest_len }
@@ -206,19 +210,26 @@ impl Part {
         let hash = self.hash_front(bytes, joined, end);
         self.digest = digest_at(bytes, end);
         if !same_digest(&self.digest, &hash) {
-            return Met::BadChain;
+            return Err(LogWhy::BadChain);
         }
         if read_owned(session, owner, &bytes[..end], out) {
-            Met::Whole
+            Ok(())
         } else {
-            Met::BadEntry
+            Err(LogWhy::BadEntry)
         }
     }
 
-    /// What the entry is that came whole. The next one is chained to its digest, and nothing of that came yet.
-    pub(crate) fn close(&mut self, session: &Session, owner: PlayerId, out: &mut Entry) -> Met
+    /// Reads the entry that came whole, or says why it can't be used. The next one is chained to
+    /// its digest, and nothing of that came yet.
+    pub(crate) fn close(
+        &mut self,
+        session: &Session,
+        owner: PlayerId,
+        out: &mut Entry,
+    ) -> Result<(), LogWhy>
         requires whole { self.old.digest_len ≡ 32 }
         requires begun { self.old.fresh ≡ false }
+        ensures why { IfErr result IsFeedWhy }
         ensures found { (chain held : List ℕ) → HoldsPart self.old chain held → F.found_as result out.new (self.old.text_len + 32) self.old.digest ≡ F.entry_at session.now owner chain held }
         ensures part { (chain held : List ℕ) → HoldsPart self.old chain held → HoldsPart self.new (F.digest_at held) [] }
         ensures digest { self.new.digest_len ≡ 0 }
@@ -229,15 +240,15 @@ impl Part {
         self.digest_len = 0;
         self.fresh = true;
         if !same_digest(&self.digest, &hash) {
-            return Met::BadChain;
+            return Err(LogWhy::BadChain);
         }
         if text_len > 64 {
-            return Met::BadEntry;
+            return Err(LogWhy::BadEntry);
         }
         if read_owned(session, owner, &self.kept[..text_len], out) {
-            Met::Whole
+            Ok(())
         } else {
-            Met::BadEntry
+            Err(LogWhy::BadEntry)
         }
     }
 }

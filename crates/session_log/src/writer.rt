@@ -74,15 +74,23 @@ impl LogWriter {
         }
     }
 
+    /// A writer of the player's log, behind the entry with this digest, where it has begun. Else
+    /// it is given the session's id.
+    pub(crate) fn behind(owner: PlayerId, begun: bool, chain: &[u8; 32]) -> LogWriter
+        ensures { result ≡ record { owner = owner; begun = begun; chain = chain.now } }
+    {
+        LogWriter {
+            owner,
+            begun,
+            chain: *chain,
+        }
+    }
+
     /// A second writer behind the same entries. Nothing is hashed for it.
     pub fn copy(&self) -> LogWriter
         ensures { result ≡ self.now }
     {
-        LogWriter {
-            owner: self.owner,
-            begun: self.begun,
-            chain: self.chain,
-        }
+        LogWriter::behind(self.owner, self.begun, &self.chain)
     }
 
     /// Writes the next entry of the log to the front of `out`, in front of the first one the owner's byte, and says how

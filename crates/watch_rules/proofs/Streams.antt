@@ -1,17 +1,15 @@
 -- Streams: what one piece more makes of a log, and that nothing follows the byte that closed a
 -- player.
 use Rattle.std.proofs.Common.{◌≡◌, ℕ, ◌+◌, true, List, [], ◌∷◌, ◌++◌, length, refl, sym, ap, ◌∙◌, append_assoc, append-nil, length-append}
-use Rattle.std.specs.Prelude.{Option, Some, None, drop, flat_map, is_some}
+use Rattle.std.specs.Prelude.{Option, Some, None, Err, drop, flat_map, is_some}
 use Rattle.std.proofs.lemmas.Bool.{false≢true}
 use Rattle.std.proofs.lemmas.List.{flat_map_more}
 use Rattle.definitions.specs.declared.logs.Entry.{Entry}
 use Rattle.definitions.specs.World.{Game}
-use Rattle.session_log.specs.declared.feed.Fault.{Fault}
-use Rattle.session_log.specs.declared.feed.Fault.TheVariants.{BadChain, BadEntry}
-use Rattle.session_log.specs.declared.feed.LogFedWhat.{LogFedWhat}
-use Rattle.session_log.specs.Feeding.{LogFeeding, LogGiven, fed_by_owner, fed_step, fed_unless, feed_at_start, given_by, given_of, given_on, given_over, what_of}
+use Rattle.session_log.specs.declared.faults.LogFault.{LogFault}
+use Rattle.session_log.specs.Feeding.{LogFeeding, LogGiven, fed_by_owner, fed_step, fed_unless, feed_at_start, given_by, given_of, given_on, given_over}
 use Rattle.session_log.specs.Laws.{owner_in}
-use Rattle.session_log.specs.Reading.{next_step, read_log}
+use Rattle.session_log.specs.Reading.{Answer, next_step, read_log}
 use Rattle.session_log.proofs.Pieces.{log_pieces_same}
 use Rattle.watch_rules.specs.Streams.{Stream, bytes_of, count_of, entries_of, feeding_of, gone_on, no_stream, owner_of}
 use Rattle.watch_rules.specs.Laws.{LaterBytesGiveNothing}
@@ -50,27 +48,23 @@ none_of game = refl
 
 -- ---- the byte that closed a player
 
-given_none : (x : Fault) (w : LogFedWhat) (f : LogFeeding) (left : LogGiven) → w ≡ what_of x → ((given_on w f left).entries ≡ []) × ((given_on w f left).feeding ≡ f)
-given_none x w f left e = (ap (λ (u : LogFedWhat). (given_on u f left).entries) e ∙ (fault x).0, ap (λ (u : LogFedWhat). (given_on u f left).feeding) e ∙ (fault x).1)
-  where
-    fault : (y : Fault) → ((given_on (what_of y) f left).entries ≡ []) × ((given_on (what_of y) f left).feeding ≡ f)
-    fault (BadChain at) = (refl, refl)
-    fault (BadEntry at) = (refl, refl)
+given_none : (x : LogFault) (w : Answer) (f : LogFeeding) (left : LogGiven) → w ≡ Err x → ((given_on w f left).entries ≡ []) × ((given_on w f left).feeding ≡ f)
+given_none x w f left e = (ap (λ (u : Answer). (given_on u f left).entries) e, ap (λ (u : Answer). (given_on u f left).feeding) e)
 
-fault_stays : (game : Game) (f : LogFeeding) (bytes : List ℕ) (x : Fault) → f.fault ≡ Some x → ((fed_step game f bytes).fed.what ≡ what_of x) × ((fed_step game f bytes).feeding ≡ f)
+fault_stays : (game : Game) (f : LogFeeding) (bytes : List ℕ) (x : LogFault) → f.fault ≡ Some x → ((fed_step game f bytes).fed.what ≡ Err x) × ((fed_step game f bytes).feeding ≡ f)
 unfolding fed_step
 fault_stays game f bytes x e =
-    (ap (λ (o : Option Fault). (fed_unless o f (fed_by_owner game f.owner f bytes)).fed.what) e, ap (λ (o : Option Fault). (fed_unless o f (fed_by_owner game f.owner f bytes)).feeding) e)
+    (ap (λ (o : Option LogFault). (fed_unless o f (fed_by_owner game f.owner f bytes)).fed.what) e, ap (λ (o : Option LogFault). (fed_unless o f (fed_by_owner game f.owner f bytes)).feeding) e)
 
 -- a reader that met a fault gives no entry more, and stays as it is
-faulty_gives : (game : Game) (f : LogFeeding) (bytes : List ℕ) (x : Fault) → f.fault ≡ Some x → ((given_of game f bytes).entries ≡ []) × ((given_of game f bytes).feeding ≡ f)
+faulty_gives : (game : Game) (f : LogFeeding) (bytes : List ℕ) (x : LogFault) → f.fault ≡ Some x → ((given_of game f bytes).entries ≡ []) × ((given_of game f bytes).feeding ≡ f)
 faulty_gives game f bytes x e =
     let s = fault_stays game f bytes x e in
     let left : LogGiven = given_by game (length bytes) (fed_step game f bytes).feeding (drop (fed_step game f bytes).fed.used bytes) in
     let g = given_none x (fed_step game f bytes).fed.what (fed_step game f bytes).feeding left s.0 in
     (g.0, g.1 ∙ s.1)
 
-some_fault : (o : Option Fault) → is_some o ≡ true → (x : Fault) × (o ≡ Some x)
+some_fault : (o : Option LogFault) → is_some o ≡ true → (x : LogFault) × (o ≡ Some x)
 some_fault None e = absurd (false≢true e)
 some_fault (Some x) e = (x, refl)
 

@@ -7,7 +7,7 @@ lines-init g c = plays_none _ _ _ _
 
 pub lines-preserved : goal.lines-preserved
 lines-preserved g c =
-    plays_on _ _ _ _ _ _ (driven_from c.args.driver.now) (driven_from c.lines.driver) (driven_from c.answer_line.new.driver) _ _ _ c.lines.invariant c.in-On.ensures.text
+    plays_on _ _ _ _ _ _ (driven_from c.args.driver.now) (driven_from c.lines.driver) (driven_from c.answer_line.new.driver) _ _ _ c.lines.invariant c.in-Ok.ensures.text
 
-pub returns-in-Over : goal.returns-in-Over
-returns-in-Over g c = plays_ends _ _ _ _ _ _ (driven_from c.args.driver.now) (driven_from c.lines.driver) _ _ c.in-Over.status c.lines.invariant c.in-Over.ensures.text
+pub returns-in-Err : goal.returns-in-Err
+returns-in-Err g c = plays_ends _ _ _ _ _ _ (driven_from c.args.driver.now) (driven_from c.lines.driver) _ _ c.in-Err.status c.lines.invariant c.in-Err.ensures.text

@@ -1,17 +1,18 @@
 use Rattle.std.proofs.Common.{◌≡◌, ◌+◌, ◌<◌, [], ◌∙◌, ap, arith, drop, length}
 use Rattle.std.proofs.lemmas.Grind.{common_steps}
-use Rattle.line_io.proofs.Writing.{underway_cut, underway_end, underway_more}
+use Rattle.line_io.proofs.Writing.{puts_cut, underway_cut, underway_end, underway_more}
 use Rattle.make_command.specs.Make.{player_lines}
 use Rattle.make_command.proofs.Printed.{lines_next}
 use Rattle.make_command.proofs.making.put_players.Goals as goal
 
-pub returns-in-Failed : goal.returns-in-Failed
-returns-in-Failed g c =
+pub returns-in_err-put : goal.returns-in_err-put
+returns-in_err-put g c =
     let i = c.lines.line-index in
     let lines = c.args.lines.now in
     let lt : i < length lines = grind (arith, common_steps) in
-    underway_cut _ _ _ _ _ c.as_slice.result.now (player_lines (c.lines.player + 1) (drop (i + 1) lines)) c.lines.invariant.rest
-    (lines_next c.lines.player lines i c.as_slice.result.now lt (c.as_slice.ensures.value ∙ c.world_line.ensures)) c.in-Failed.ensures
+    puts_cut _ _ _ c.from_residual.result c.from_residual.ensures.0
+    (underway_cut _ _ _ _ _ c.as_slice.result.now (player_lines (c.lines.player + 1) (drop (i + 1) lines)) c.lines.invariant.rest
+    (lines_next c.lines.player lines i c.as_slice.result.now lt (c.as_slice.ensures.value ∙ c.world_line.ensures)) c.in_err-put.ensures)
 
 pub lines-preserved : goal.lines-preserved
 lines-preserved g c =
@@ -22,7 +23,7 @@ lines-preserved g c =
     record {
       player = omega (arith, at);
       rest = underway_more _ _ _ _ _ c.as_slice.result.now (player_lines (c.lines.player + 1) (drop (i + 1) lines)) c.lines.invariant.rest
-          (lines_next c.lines.player lines i c.as_slice.result.now lt (c.as_slice.ensures.value ∙ c.world_line.ensures)) c.in-All.ensures;
+          (lines_next c.lines.player lines i c.as_slice.result.now lt (c.as_slice.ensures.value ∙ c.world_line.ensures)) c.in_ok-put.ensures;
     }
 
 pub returns : goal.returns

@@ -1,13 +1,12 @@
 use Rattle.std.proofs.Common.{◌≡◌, ◌∙◌, ◌++◌, ◌∷◌, [], List, ap, arith, length, length-append, subst, sym}
 use Rattle.definitions.specs.declared.logs.Entry.{Entry}
 use Rattle.session_log.specs.Reading.{LogReading}
-use Rattle.old_log.specs.Old.{IsOld}
-use Rattle.std.specs.Prelude.{Option, ℕ}
-use Rattle.old_log.proofs.Asking.{IsReading, ReadsOn, are_bytes, read_all, reading_start, reads_on}
+use Rattle.std.specs.Prelude.{Option, None, Ok, Err}
+use Rattle.old_log.proofs.Asking.{IsReading, ReadsOn, are_bytes, fault_comes, none_comes, read_all, reading_start, reads_on}
 use Rattle.old_log.proofs.reading.read_old.Goals as goal
 
-pub loop-entry-init : goal.loop-entry-init
-loop-entry-init c =
+pub entries-init : goal.entries-init
+entries-init c =
     let Is : List Entry → Type 0 = λ es. IsReading c.args.session.now c.args.bytes.now es c.new-reader.result in
     let at : c.new-reader.result.at ≡ 0 = ap (λ (r : LogReading). r.at) c.new-reader.ensures in
     record {
@@ -16,26 +15,32 @@ loop-entry-init c =
     }
 
 -- the entry that was read
-on : (c : goal.In_ok-push) → ReadsOn c.args.session.now c.args.bytes.now c.loop-entry.entries.items c.in-Entry.entry c.next.new.self
-on c = reads_on c.args.session.now c.args.bytes.now c.loop-entry.entries.items c.in-Entry.entry c.loop-entry.reader c.next.new.self (are_bytes c.args.bytes.now c.type_inv.bytes) c.loop-entry.invariant.reading
-    (sym c.in-Entry.is ∙ c.next.ensures.answer) c.next.ensures.reader
+on : (c : goal.In_ok-push-in-Ok-Some) → ReadsOn c.args.session.now c.args.bytes.now c.entries.entries.items c.in-Ok-Some.entry c.read.new.self
+on c = reads_on c.args.session.now c.args.bytes.now c.entries.entries.items c.in-Ok-Some.entry c.entries.reader c.read.new.self (are_bytes c.args.bytes.now c.type_inv.bytes) c.entries.invariant.reading
+    (sym (c.in-Ok-Some.is ∙ ap (λ (o : Option Entry). Ok o) c.in-Ok-Some.field-0-is) ∙ c.read.ensures.answer) c.read.ensures.reader
 
-pub loop-entry-smaller : goal.loop-entry-smaller
-loop-entry-smaller c =
+pub entries-smaller : goal.entries-smaller
+entries-smaller c =
     let more = (on c).more in
-    let count : length c.push.new.self.items ≡ length (c.loop-entry.entries.items ++ c.in-Entry.entry ∷ []) = ap (λ (es : List Entry). length es) c.in_ok-push.ensures.items in
-    let one = length-append c.loop-entry.entries.items (c.in-Entry.entry ∷ []) in
+    let count : length c.push.new.self.items ≡ length (c.entries.entries.items ++ c.in-Ok-Some.entry ∷ []) = ap (λ (es : List Entry). length es) c.in_ok-push-in-Ok-Some.ensures.items in
+    let one = length-append c.entries.entries.items (c.in-Ok-Some.entry ∷ []) in
     omega arith
 
-pub loop-entry-preserved : goal.loop-entry-preserved
-loop-entry-preserved c =
-    let Is : List Entry → Type 0 = λ es. IsReading c.args.session.now c.args.bytes.now es c.next.new.self in
-    record { within = c.next.ensures.kept; reading = subst Is (sym c.in_ok-push.ensures.items) (on c).reading }
+pub entries-preserved : goal.entries-preserved
+entries-preserved c =
+    let Is : List Entry → Type 0 = λ es. IsReading c.args.session.now c.args.bytes.now es c.read.new.self in
+    record { within = c.read.ensures.kept; reading = subst Is (sym c.in_ok-push-in-Ok-Some.ensures.items) (on c).reading }
 
-pub returns : goal.returns
-returns c =
-    let all = read_all c.args.session.now c.args.bytes.now c.loop-entry.entries.items c.next.result c.loop-entry.reader c.next.new.self c.next-last.result c.next-last.new.self
-    (are_bytes c.args.bytes.now c.type_inv.bytes) c.loop-entry.invariant.reading c.in_default.not-Entry c.next.ensures.answer c.next.ensures.reader c.next-last.ensures.answer c.next-last.ensures.reader in
-    let By_owner : Option ℕ → Type 0 = λ o. IsOld c.args.session.now c.args.bytes.now o c.loop-entry.entries.items c.fault_place.result in
-    let By_place : Option ℕ → Type 0 = λ o. IsOld c.args.session.now c.args.bytes.now c.next-last.new.self.owner c.loop-entry.entries.items o in
-    subst By_owner (sym c.owner.ensures) (subst By_place (sym c.fault_place.ensures) all)
+pub returns-in-Ok-None : goal.returns-in-Ok-None
+returns-in-Ok-None c =
+    let e = c.old_of-log.ensures in
+    read_all c.args.session.now c.args.me c.args.bytes.now c.entries.entries.items (Ok None) c.entries.reader c.read.new.self c.old_of-log.result
+    (are_bytes c.args.bytes.now c.type_inv.bytes) c.entries.invariant.reading none_comes (sym (c.in-Ok-None.is ∙ ap (λ (o : Option Entry). Ok o) c.in-Ok-None.field-0-is) ∙ c.read.ensures.answer) c.read.ensures.reader
+    e.entries e.others e.dropped e.kept e.writer
+
+pub returns-in-Err : goal.returns-in-Err
+returns-in-Err c =
+    let e = c.old_of-log-in-Err.ensures in
+    read_all c.args.session.now c.args.me c.args.bytes.now c.entries.entries.items (Err c.in-Err.fault) c.entries.reader c.read.new.self c.old_of-log-in-Err.result
+    (are_bytes c.args.bytes.now c.type_inv.bytes) c.entries.invariant.reading (fault_comes c.in-Err.fault) (sym c.in-Err.is ∙ c.read.ensures.answer) c.read.ensures.reader
+    e.entries e.others e.dropped e.kept e.writer

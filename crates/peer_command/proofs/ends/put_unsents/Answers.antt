@@ -1,18 +1,19 @@
 use Rattle.std.proofs.Common.{arith, ap, ◌+◌, ◌-◌, ◌<◌, ◌≡◌, ◌∙◌}
 use Rattle.std.proofs.lemmas.Grind.{common_steps}
 use Rattle.definitions.specs.World.{players_of}
-use Rattle.line_io.proofs.Writing.{underway_cut, underway_end, underway_more}
+use Rattle.line_io.proofs.Writing.{puts_cut, underway_cut, underway_end, underway_more}
 use Rattle.peer_command.specs.Ends.{unsent_to, unsents_text}
 use Rattle.peer_command.proofs.Unsents.{unsents_more, unsents_none}
 use Rattle.peer_command.proofs.ends.put_unsents.Goals as goal
 
-pub returns-in-Failed : goal.returns-in-Failed
-returns-in-Failed g c =
+pub returns-in_err-put_unsent_to : goal.returns-in_err-put_unsent_to
+returns-in_err-put_unsent_to g c =
     let l = c.args.played.now in
     let q = c.players.player in
     let n = players_of l.peer.game in
     let below : q < n = grind (arith, common_steps) in
-    underway_cut _ _ _ _ _ (unsent_to l q) (unsents_text l (q + 1) (n - (q + 1))) c.players.invariant (unsents_more l q n below) c.in-Failed.ensures
+    puts_cut _ _ _ c.from_residual.result c.from_residual.ensures.0
+    (underway_cut _ _ _ _ _ (unsent_to l q) (unsents_text l (q + 1) (n - (q + 1))) c.players.invariant (unsents_more l q n below) c.in_err-put_unsent_to.ensures)
 
 pub players-preserved : goal.players-preserved
 players-preserved g c =
@@ -20,7 +21,7 @@ players-preserved g c =
     let q = c.players.player in
     let n = players_of l.peer.game in
     let below : q < n = grind (arith, common_steps) in
-    underway_more _ _ _ _ _ (unsent_to l q) (unsents_text l (q + 1) (n - (q + 1))) c.players.invariant (unsents_more l q n below) c.in-All.ensures
+    underway_more _ _ _ _ _ (unsent_to l q) (unsents_text l (q + 1) (n - (q + 1))) c.players.invariant (unsents_more l q n below) c.in_ok-put_unsent_to.ensures
 
 pub returns : goal.returns
 returns g c =

@@ -1,19 +1,23 @@
 use Rattle.std.proofs.Common.{◌≡◌, true, nat_lt, refl, arith}
 use Rattle.std.proofs.lemmas.Grind.{common_steps}
+use Rattle.std.proofs.lemmas.Result.{err_from_is_err_and}
 use Rattle.definitions.specs.World.{players_of}
 use Rattle.peer_command.specs.Words.{peering_said}
 use Rattle.peer_command.proofs.Seated.{a_seat, no_log, no_moves}
 use Rattle.peer_command.proofs.seats.open_behind_roster.Goals as goal
 
-pub returns-in-Err : goal.returns-in-Err
-returns-in-Err g c = no_moves (peering_said c.args.words) _ _ _ _ c.in-Err.status c.in-Err.ensures
+pub returns-in_err-pilot : goal.returns-in_err-pilot
+returns-in_err-pilot g c =
+    let p = err_from_is_err_and c.from_residual.result c.from_residual.ensures.1 in
+    rw (p.1, p.2) (no_moves (peering_said c.args.words) _ _ _ _ c.in_err-pilot.field-0.0 c.in_err-pilot.ensures)
 
-pub returns-in-Ok-begin : goal.returns-in-Ok-begin
-returns-in-Ok-begin g c =
+pub returns-in_err-begun : goal.returns-in_err-begun
+returns-in_err-begun g c =
+    let p = err_from_is_err_and c.from_residual-in_err-begun.result c.from_residual-in_err-begun.ensures.1 in
     let in_it : nat_lt c.args.words.player (players_of c.args.session.now) ≡ true = grind (arith, common_steps) in
-    a_seat (peering_said c.args.words) _ _ _ _ _ c.in-Ok.pilot in_it c.in-Ok.ensures _ c.in-Ok-begin.begun refl c.requires.links c.in-Ok-begin.ensures
+    rw (p.1, p.2) (no_log (peering_said c.args.words) _ _ _ _ _ c.in_ok-pilot.pilot in_it c.in_ok-pilot.ensures c.in_err-begun.field-0.0 c.in_err-begun.ensures)
 
-pub returns-in-Err-begin : goal.returns-in-Err-begin
-returns-in-Err-begin g c =
+pub returns : goal.returns
+returns g c =
     let in_it : nat_lt c.args.words.player (players_of c.args.session.now) ≡ true = grind (arith, common_steps) in
-    no_log (peering_said c.args.words) _ _ _ _ _ c.in-Ok.pilot in_it c.in-Ok.ensures c.in-Err-begin.status c.in-Err-begin.ensures
+    a_seat (peering_said c.args.words) _ _ _ _ _ c.in_ok-pilot.pilot in_it c.in_ok-pilot.ensures _ c.in_ok-begun.begun refl c.requires.links c.in_ok-begun.ensures

@@ -1,16 +1,15 @@
 use Rattle.std.proofs.Common.{◌+◌}
 use Rattle.line_io.specs.Inputs.{End}
+use Rattle.run_frame.specs.Frame.{bare_answer}
 use Rattle.run_frame.proofs.Frames.{onward_ends}
-use Rattle.run_frame.specs.declared.statuses.Status.TheVariants.{BadLine}
-use Rattle.run_frame.specs.declared.statuses.TextName.TheVariants.{Script}
-use Rattle.schedule_command.proofs.Readings.{bare_ends}
+use Rattle.schedule_command.proofs.Readings.{line_calm, line_ends}
 use Rattle.schedule_command.proofs.playing.answer_last.Goals as goal
 
-pub returns-in-On-clause-text : goal.returns-in-On-clause-text
-returns-in-On-clause-text g c = onward_ends _ _ _ _ _ c.end.result (c.in-On.ensures.text End) (c.end.ensures.text (c.args.lines + 1))
+pub returns-in-Ok-clause-text : goal.returns-in-Ok-clause-text
+returns-in-Ok-clause-text g c = onward_ends _ _ _ _ _ c.end.result (c.in-Ok.ensures.text End) (c.end.ensures.text (c.args.lines + 1))
 
-pub returns-in-Bad-clause-text : goal.returns-in-Bad-clause-text
-returns-in-Bad-clause-text g c = let e = c.in-Bad.ensures.text End in rw c.bad_line.ensures (bare_ends _ _ _ (BadLine Script _) e.0 e.1)
+pub returns-in-Err-clause-text : goal.returns-in-Err-clause-text
+returns-in-Err-clause-text g c = line_ends _ _ _ (bare_answer c.in-Err.status) _ c.in-Err.status (c.in-Err.ensures.text End)
 
-pub returns-in-Failed-clause-text : goal.returns-in-Failed-clause-text
-returns-in-Failed-clause-text g c = c.in-Failed.ensures.text End
+pub returns-in-Err-clause-source : goal.returns-in-Err-clause-source
+returns-in-Err-clause-source g c = line_calm _ _ _ (bare_answer c.in-Err.status) _ c.in-Err.status (c.in-Err.ensures.text End)

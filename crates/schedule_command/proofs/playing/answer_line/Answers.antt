@@ -1,10 +1,10 @@
-use Rattle.std.proofs.Common.{ap, refl}
+use Rattle.std.proofs.Common.{◌+◌, ap, refl}
 use Rattle.line_io.specs.Inputs.{End, Line}
 use Rattle.line_io.proofs.Inputs.{end_read, fault_read, last_read}
 use Rattle.run_frame.specs.declared.statuses.Status.TheVariants.{BadLine, InputFault}
 use Rattle.run_frame.specs.declared.statuses.TextName.TheVariants.{Script}
 use Rattle.schedule_command.specs.Schedule.{schedule_from}
-use Rattle.schedule_command.proofs.Readings.{bare_ends, come_plays, line_bad, line_failed, line_on, too_long}
+use Rattle.schedule_command.proofs.Readings.{bare_ends, come_plays, line_over, line_turns, too_long}
 use Rattle.schedule_command.proofs.playing.answer_line.Goals as goal
 
 pub returns-in-Failed-clause-text : goal.returns-in-Failed-clause-text
@@ -31,21 +31,14 @@ returns-in-Last-clause-text g c =
     come_plays _ _ due _ (due (Line _ End)) (record { drew = c.in-Last.ensures.drew; over = e.3; rest_is = λ behind m. ap due (last_read _ _ _ e.0 e.1 e.2 (m e.3)) }) _ _ c.answer_last.result
     c.answer_last.ensures.source (rw (← c.line.ensures.line) c.answer_last.ensures.text)
 
-pub returns-in-On-clause-text : goal.returns-in-On-clause-text
-returns-in-On-clause-text g c =
+pub returns-in-Line-clause-text : goal.returns-in-Line-clause-text
+returns-in-Line-clause-text g c =
     let e = c.in-Line.ensures.gave in
-    line_on _ _ _ _ _ c.in-Line.ensures.drew e.0 e.1 _ _ (schedule_from c.args.table.now c.args.lines) _ (λ input. rw (← c.line-in-Line.ensures.line) (c.in-On.ensures.text input))
+    line_turns _ _ _ _ _ c.in-Line.ensures.drew e.0 e.1 _ _ (schedule_from c.args.table.now c.args.lines) (schedule_from c.answer.new.table (c.args.lines + 1)) (c.args.lines + 1) c.answer.result
+    (λ input. rw (← c.line-in-Line.ensures.line) (c.answer.ensures.text input))
 
-pub returns-in-Bad-clause-text : goal.returns-in-Bad-clause-text
-returns-in-Bad-clause-text g c =
-    let e = c.in-Line.ensures.gave in
-    rw c.bad_line-in-Bad.ensures
-    (line_bad _ _ _ _ _ c.in-Line.ensures.drew e.0 e.1 _ _ (schedule_from c.args.table.now c.args.lines) _ (c.in-Bad.ensures.text End).0 (λ input. rw (← c.line-in-Line.ensures.line) (c.in-Bad.ensures.text input).1))
-
-pub returns-in-Failed-answer-clause-text : goal.returns-in-Failed-answer-clause-text
-returns-in-Failed-answer-clause-text g c =
-    let e = c.in-Line.ensures.gave in
-    line_failed _ _ _ _ _ c.in-Line.ensures.drew e.0 e.1 _ _ (schedule_from c.args.table.now c.args.lines) (λ input. rw (← c.line-in-Line.ensures.line) (c.in-Failed-answer.ensures.text input))
+pub returns-in-Line-clause-over : goal.returns-in-Line-clause-over
+returns-in-Line-clause-over g c = line_over _ _ _ _ _ _ c.answer.result (c.answer.ensures.text End)
 
 pub returns-in-End-clause-over : goal.returns-in-End-clause-over
 returns-in-End-clause-over g c = λ e. c.in-End.ensures.gave.1

@@ -1,3 +1,4 @@
+use Rattle.std.proofs.lemmas.Result.{err_from_is_err_and}
 use Rattle.ready_loop.proofs.Choosing.{choosing_first, choosing_smaller, choosing_on, choosing_stops, choosing_ends}
 use Rattle.ready_loop.proofs.ready.Loop.choose_all.Goals as goal
 
@@ -5,13 +6,16 @@ pub loop-self-init : goal.loop-self-init
 loop-self-init g c = choosing_first _ _ c.args.self.now c.requires.playing
 
 pub loop-self-smaller : goal.loop-self-smaller
-loop-self-smaller g c = choosing_smaller _ _ c.choose-played.result c.is_on.result _ _ c.loop-self.self c.choose-played.new.self c.choose-played.ensures c.is_on.ensures c.if-not-is_on.false c.facts.ensures.chosen_few
+loop-self-smaller g c = choosing_smaller _ _ _ _ _ c.loop-self.self c.choose.new.self c.in_ok-choose.ensures c.facts.ensures.chosen_few
 
 pub loop-self-preserved : goal.loop-self-preserved
-loop-self-preserved g c = choosing_on _ _ _ c.choose-played.result c.is_on.result _ _ _ c.args.self.now c.loop-self.self c.choose-played.new.self c.loop-self.invariant c.choose-played.ensures c.is_on.ensures c.if-not-is_on.false
+loop-self-preserved g c = choosing_on _ _ _ _ _ _ _ c.args.self.now c.loop-self.self c.choose.new.self c.loop-self.invariant c.in_ok-choose.ensures
 
-pub returns-then-not-is_on : goal.returns-then-not-is_on
-returns-then-not-is_on g c = choosing_stops _ _ _ c.choose-played.result c.is_on.result _ _ _ c.args.self.now c.loop-self.self c.choose-played.new.self c.loop-self.invariant c.choose-played.ensures c.is_on.ensures c.if-not-is_on.true
+pub returns-in_err-choose : goal.returns-in_err-choose
+returns-in_err-choose g c =
+    let p = err_from_is_err_and c.from_residual.result c.from_residual.ensures.1 in
+    rw (p.1, p.2)
+    (choosing_stops c.in_err-choose.field-0.0 _ _ _ _ _ _ c.args.self.now c.loop-self.self c.choose.new.self c.loop-self.invariant c.in_err-choose.ensures)
 
 pub returns : goal.returns
 returns g c = choosing_ends _ _ c.may_choose.result _ _ c.args.self.now c.loop-self.self c.loop-self.invariant c.may_choose.ensures c.loop-self-test.false
