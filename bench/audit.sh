@@ -12,7 +12,7 @@ if [ ! -x "$program" ]; then
     echo 'bench/audit.sh: ./build builds the program first' >&2
     exit 1
 fi
-build hashes 'file_shelf station sha2'
+build hashes 'file_shelf machine_files station sha2'
 
 # these audits in turn: of each the kind, how many logs, and how many entries each has where the kind doesn't say it
 measure() {

@@ -1,1 +1,3 @@
-pub mod Answers
+pub mod FileAsks
+pub mod Noted
+pub mod Reading

@@ -1,16 +1,20 @@
-//! The program `lethwyrn`. It makes the real objects of the outside, hands them with its words to `peer_cli::run`, whose
-//! contract says what is then written, and ends with the status. It reads files, the standard input, its words and random bytes of the
-//! machine, and writes to the standard output; its `peer` also opens sockets at the addresses of its roster and creates the one file of
-//! its log.
+//! The program `lethwyrn`. It makes the real objects of the outside, hands them with its words to
+//! `peer_cli::exit_status`, whose contract says what is then written and with which status it ends,
+//! and ends with that. It reads files, the standard input, its words and random bytes of the machine,
+//! and writes to the standard output; its `peer` also opens sockets at the addresses of its roster
+//! and creates the one file of its log.
 #![tactic(auto)]
 
 use file_shelf::FileShelf;
-use peer_cli::run;
+use machine_files::MachineFiles;
+use mio_host::MioHost;
+use peer_cli::exit_status;
 use rand_chacha::ChaCha20Rng;
 use rand_core::SeedableRng;
 use run_frame::{Status, refuse};
 use station::{StdSink, StdSource, words_of};
 use station_mio::MioStation;
+use std::alloc::AllocError;
 use std::io::{self, ErrorKind};
 use std::process::ExitCode;
 use std::random::RandomSource;
@@ -27,17 +31,24 @@ fn chance_of(rt: &HostRuntime) -> Option<ChaCha20Rng> {
     }
 }
 
-/// Does what the words ask for.
-fn obey<W: io::Write>(rt: &HostRuntime, words: &[Vec<u8>], out: &mut StdSink<W>) -> u8 {
-    let Ok(mut station) = MioStation::new(rt, rt.alloc()) else {
-        return refuse(Status::NoMemory, out).code();
-    };
+/// Tells that memory is wanting, by the line and the number of that status.
+fn tell_no_memory<W: io::Write>(out: &mut StdSink<W>) -> u8 {
+    refuse(Status::NoMemory, out).code()
+}
+
+/// Does what the words ask for. Memory is wanting only before anything is done.
+fn obey<W: io::Write>(
+    rt: &HostRuntime,
+    words: &[Vec<u8>],
+    out: &mut StdSink<W>,
+) -> Result<u8, AllocError> {
+    let mut station = MioStation::new(MioHost::new(rt, rt.alloc())?, rt.alloc())?;
     let Some(mut chance) = chance_of(rt) else {
-        return REFUSED;
+        return Ok(REFUSED);
     };
     let mut input = StdSource::new(rt.reader());
-    let mut shelf = FileShelf::new(rt.alloc(), rt);
-    let status = run(
+    let mut shelf = FileShelf::new(rt.alloc(), MachineFiles::new(rt));
+    let status = exit_status(
         rt.alloc(),
         words,
         &mut input,
@@ -47,16 +58,18 @@ fn obey<W: io::Write>(rt: &HostRuntime, words: &[Vec<u8>], out: &mut StdSink<W>)
         &mut chance,
     );
     station.finish();
-    status.code()
+    Ok(status)
 }
 
 fn main(rt: HostRuntime) -> ExitCode {
     let mut out = StdSink::new(io::writer(&rt));
-    match words_of(&rt) {
-        Ok(words) => ExitCode::from(obey(&rt, words.as_slice(), &mut out)),
-        Err(error) if error.kind() == ErrorKind::OutOfMemory => {
-            ExitCode::from(refuse(Status::NoMemory, &mut out).code())
-        }
-        Err(_) => ExitCode::from(REFUSED),
-    }
+    let status = match words_of(&rt) {
+        Ok(words) => match obey(&rt, words.as_slice(), &mut out) {
+            Ok(status) => status,
+            Err(_) => tell_no_memory(&mut out),
+        },
+        Err(error) if error.kind() == ErrorKind::OutOfMemory => tell_no_memory(&mut out),
+        Err(_) => REFUSED,
+    };
+    ExitCode::from(status)
 }

@@ -2,7 +2,8 @@
 //!
 //! [`run`] carries the promises of the whole, which are those of the law of the command that the words say (`peer_runs/specs/Commands.antt`,
 //! `run_frame/specs/Runs.antt` and `Law.antt`, and a page for each command). Words that are no command are told so before clap is asked, which
-//! takes memory. The crate touches the objects that it is handed and nothing else.
+//! takes memory. [`exit_status`] is the same for `main`, and answers the number of the status. The crate touches the objects that it is handed and
+//! nothing else.
 #![tactic(auto)]
 
 mod memory;
@@ -10,4 +11,4 @@ mod program;
 mod words;
 
 pub use memory::run_in_memory;
-pub use program::run;
+pub use program::{exit_status, run};

@@ -2,6 +2,8 @@
 
 ghost use Rattle.std.specs.Prelude.{◌≡◌, [], map, option_and_then, option_map};
 ghost use Rattle.command_line.specs.Lines.{owned};
+ghost use Rattle.run_frame.specs.declared.statuses.Status.{Status as Ended};
+ghost use Rattle.run_frame.specs.Statuses.{code_of};
 ghost use Rattle.run_frame.specs.Outside.{outside};
 ghost use Rattle.run_frame.specs.Runs.{Runs, Works};
 ghost use Rattle.peer_runs.specs.Commands.{command_of, law_of};
@@ -90,4 +92,25 @@ pub fn run<I: Source, O: Sink, H: Shelf, S: Station, R: Rng>(
 {
     let status = work(alloc, words, input, out, shelf, station, chance);
     refuse(status, out)
+}
+
+/// As [`run`], for a program: it answers the exit status that tells how the run ended.
+pub fn exit_status<I: Source, O: Sink, H: Shelf, S: Station, R: Rng>(
+    alloc: Global,
+    words: &[Vec<u8>],
+    input: &mut I,
+    out: &mut O,
+    shelf: &mut H,
+    station: &mut S,
+    chance: &mut R,
+) -> u8
+    requires first { S.history station.old ≡ [] }
+
+    // The run ended so by its law, and this is the number of that status.
+    ensures { (status : Ended) × Runs (law_of (command_of (map (λ w. w.items) words.now)))
+        (outside (I.state input.old) (O.state out.old) (H.state shelf.old) (S.history station.old) (R.stream chance.old))
+        (outside (I.state input.new) (O.state out.new) (H.state shelf.new) (S.history station.new) (R.stream chance.new)) status ×
+        (result ≡ code_of status) }
+{
+    run(alloc, words, input, out, shelf, station, chance).code()
 }

@@ -6,6 +6,7 @@
 
 use drive_command::{DriveWords, read_drive_words, run_drive};
 use file_shelf::FileShelf;
+use machine_files::MachineFiles;
 use run_frame::{Status, refuse};
 use station::{StdSink, StdSource, words_of};
 use std::io;
@@ -17,7 +18,7 @@ const REFUSED: u8 = 15;
 /// Drives a peer by the standard input.
 fn drive_by<W: io::Write>(rt: &HostRuntime, words: DriveWords<'_>, out: &mut StdSink<W>) -> Status {
     let mut input = StdSource::new(rt.reader());
-    let mut shelf = FileShelf::new(rt.alloc(), rt);
+    let mut shelf = FileShelf::new(rt.alloc(), MachineFiles::new(rt));
     run_drive(rt.alloc(), words, &mut input, out, &mut shelf)
 }
 

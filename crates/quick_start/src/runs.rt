@@ -1,6 +1,8 @@
 //! Runs whose text goes to memory.
 
 use file_shelf::FileShelf;
+use machine_files::MachineFiles;
+use mio_host::MioHost;
 use peer_runs::run;
 use rand_chacha::ChaCha20Rng;
 use rand_core::SeedableRng;
@@ -44,9 +46,9 @@ pub(crate) fn run_over<I: Source, O: Sink>(
     out: &mut O,
 ) -> io::Result<u8> {
     let alloc = rt.alloc();
-    let mut shelf = FileShelf::new(alloc, rt);
+    let mut shelf = FileShelf::new(alloc, MachineFiles::new(rt));
     let mut chance = chance_of(rt)?;
-    let mut station = MioStation::new(rt, alloc)?;
+    let mut station = MioStation::new(MioHost::new(rt, alloc)?, alloc)?;
     let status = run(
         alloc,
         words,

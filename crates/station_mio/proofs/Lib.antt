@@ -1,2 +1,13 @@
 pub mod Listed
 pub mod Unused
+pub mod Places
+pub mod Moved
+pub mod Going
+pub mod Seeing
+pub mod Dialled
+pub mod Opening
+pub mod Coming
+pub mod Appended
+pub mod Growing
+pub mod Quiet
+pub mod Told

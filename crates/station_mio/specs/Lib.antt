@@ -1,1 +1,12 @@
 pub mod Numbers
+pub mod Rows
+pub mod Waiting
+pub mod Asking
+pub mod Dialling
+pub mod Listing
+pub mod Accepting
+pub mod Nets
+pub mod Files
+pub mod Ending
+pub mod Stations
+pub mod Telling

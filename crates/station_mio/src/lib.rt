@@ -1,14 +1,23 @@
-//! The machine's own sockets and a log file as a station.
+//! The sockets and the log file of any host as a station.
 //!
-//! This is the trusted edge. Each call is noted as it is answered, no socket number is used twice, and what is said to be taken or
-//! given stood in the buffer; that the bytes are those of the wire and of the disk, the machine alone can say, so these lines are to
-//! be read. `log_file` creates one file and appends to it, `sockets` listens at one address, dials, reads and writes, and `station`
-//! puts both together and notes. `streams` has the calls on one stream. A poll waits at most a tenth of a second, and an address is dialled at most ten times a second for
-//! each player, so a station whose neighbours are silent, or not there, burns no processor. [`sockets`] stands open for callers who
-//! want the machine's answers on any socket number, open or not, and no notes of them.
+//! What each call asks the host, and what becomes of its answer, is proved, for any host:
+//! `specs/Nets.antt` has the calls of sockets and `specs/Stations.antt` those of the log. So what is
+//! read, written and closed is the socket of the number that was asked for; a poll waits at most a
+//! tenth of a second, and lists what the host said is ready; and what is said to be kept or synced
+//! the host has appended and synced. An address is dialled at most ten times a second for each
+//! player, so a station whose neighbours are silent, or not there, burns no processor. [`sockets`]
+//! stands open for callers who want the host's answers on any socket number, open or not, and no
+//! notes of them. `mio_host` has the machine's own host. It takes memory for its tables alone, when
+//! it is made.
 #![tactic(auto)]
 
+mod accepting;
+mod backlog;
+mod dialling;
+mod ending;
+mod listing;
 mod log_file;
+mod moving;
 mod pace;
 mod rows;
 pub mod sockets;

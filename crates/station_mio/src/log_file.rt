@@ -1,18 +1,19 @@
-//! The log of a station as a file of the machine.
+//! The log of a station as a file of its machine.
 
-ghost use Rattle.std.specs.Prelude.{OnOk};
-ghost use Rattle.std.specs.Io.KnownBytes.{Appends};
+ghost use Rattle.std.specs.Prelude.{◌≡◌, IfSome, is_some, option_map, true, false};
+ghost use Rattle.station_mio.specs.Files.{CreatesLog, AppendsSome, AppendsAll, SyncsLog};
 
-use std::fs::OpenFile;
-use std::io::{self, ErrorKind, Write};
-use std::rt::Files;
-use std::{fs, str};
+use machine_host::Host;
+
+/// Who may read and write a new log: its owner alone, since it has the moves and nonces of turns
+/// that aren't shown yet.
+pub const LOG_MODE: u32 = 0o600;
 
 /// A file that is appended to, and the folder that it was created in, until that was synced once.
 #[derive(Drop)]
-pub(crate) struct LogFile<F> {
-    file: F,
-    folder: Option<F>,
+pub(crate) struct LogFile<H: Host> {
+    file: H::File,
+    pub(crate) folder: Option<H::Folder>,
 }
 
 /// The path of the folder that a file of this path is created in.
@@ -24,37 +25,70 @@ fn folder_of(path: &[u8]) -> &[u8] {
     }
 }
 
-/// The text of a path, which is UTF-8.
-fn text_of(path: &[u8]) -> io::Result<&str> {
-    str::from_utf8(path).map_err(|_| io::Error::from(ErrorKind::InvalidInput))
-}
-
-/// Creates the file at this path. A file that is there is an error, and is left as it is.
-pub(crate) fn create<R: Files>(files: &R, path: &[u8]) -> io::Result<LogFile<R::File>> {
-    let folder = fs::open(files, text_of(folder_of(path))?)?;
-    let file = fs::OpenOptions::new()
-        .write(true)
-        .create_new(true)
-        .open(files, text_of(path)?)?;
-    Ok(LogFile {
-        file,
-        folder: Some(folder),
-    })
-}
-
-/// Appends all these bytes. Behind an error some of them may stand in the file.
-pub(crate) fn append<F: Write>(log: &mut LogFile<F>, bytes: &[u8]) -> io::Result<()>
-    ensures { OnOk result (Appends (F.contents log.old.file) (F.contents log.new.file) bytes.now) }
+/// Creates the file at this path. A file that is there is a fault, and is left as it is.
+pub(crate) fn create<H: Host>(host: &mut H, path: &[u8]) -> Option<LogFile<H>>
+    ensures asked { CreatesLog path.now (is_some result) (H.history host.old) (H.history host.new) }
+    ensures folder { IfSome result (λ log. is_some log.folder ≡ true) }
 {
-    log.file.write_all(bytes)
+    let Ok(folder) = host.open_folder(folder_of(path)) else {
+        return None;
+    };
+    match host.create(path, LOG_MODE) {
+        Err(_) => None,
+        Ok(file) => Some(LogFile {
+            file,
+            folder: Some(folder),
+        }),
+    }
 }
 
-/// What was appended stays after a crash of the machine; so does, from the first time on, that there is such a file.
-pub(crate) fn sync<F: OpenFile + Drop>(log: &mut LogFile<F>) -> io::Result<()> {
-    log.file.sync_all()?;
-    if let Some(folder) = &log.folder {
-        folder.sync_all()?;
-        log.folder = None;
+/// Appends the first of these bytes, and gives the others; None comes where the machine failed, or
+/// took none.
+fn append_some<'a, H: Host>(host: &mut H, file: &mut H::File, bytes: &'a [u8]) -> Option<&'a [u8]>
+    ensures { AppendsSome bytes.now (option_map (λ rest. rest.now) result) (H.history host.old) (H.history host.new) }
+{
+    match host.append(file, bytes) {
+        Err(_) => None,
+        Ok(count) => {
+            if count == 0 {
+                return None;
+            }
+            Some(&bytes[count..])
+        }
     }
-    Ok(())
+}
+
+/// Appends all these bytes, as many at a time as the machine takes. Where it fails some of them
+/// may stand in the file.
+pub(crate) fn append<H: Host>(host: &mut H, log: &mut LogFile<H>, bytes: &[u8]) -> bool
+    ensures asked { AppendsAll bytes.now result (H.history host.old) (H.history host.new) }
+    ensures same { is_some log.new.folder ≡ is_some log.old.folder }
+{
+    let mut rest = bytes;
+    while !rest.is_empty() {
+        match append_some(host, &mut log.file, rest) {
+            None => return false,
+            Some(left) => rest = left,
+        }
+    }
+    true
+}
+
+/// What was appended stays after a crash of the machine; so does, from the first time on, that
+/// there is such a file.
+pub(crate) fn sync<H: Host>(host: &mut H, log: &mut LogFile<H>) -> bool
+    ensures asked { SyncsLog (is_some log.old.folder) result (H.history host.old) (H.history host.new) }
+    ensures folder { result ≡ true → is_some log.new.folder ≡ false }
+{
+    if host.sync_file(&mut log.file).is_err() {
+        return false;
+    }
+    let Some(folder) = &mut log.folder else {
+        return true;
+    };
+    if host.sync_folder(folder).is_err() {
+        return false;
+    }
+    log.folder = None;
+    true
 }

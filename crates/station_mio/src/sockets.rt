@@ -1,360 +1,348 @@
 //! The sockets of a station: one that listens, and those that were accepted or dialled.
 
-ghost use Rattle.std.specs.Prelude.{◌≡◌, ◌<◌, ◌==◌, ◌+◌, ◌-◌, ◌^◌, ◌++◌, ◌∷◌, [], ℕ, length, IfOk, IfSome, IfNone, IsTrue};
-ghost use Rattle.std.specs.List.{position};
+ghost use Rattle.std.specs.Prelude.{◌≡◌, ◌<◌, ◌++◌, ◌∷◌, [], IfOk, IfSome, length, is_ok, is_some, get_or, max, slice_set, false, true};
 ghost use Rattle.socket_station.specs.Withins.{TakesWithin, GivesWithin};
+ghost use Rattle.station_mio.specs.Nets.{ReadsOn, WritesOn, Listens, Dials, DialsAt, DialsNow, WaitsFor, GoesOnIn, AcceptsOne, AcceptsWaiting, AcceptsAll, Lists, Polls, added, has_room, shut};
+ghost use Rattle.station_mio.specs.Rows.{stand_of};
+ghost use Rattle.station_mio.specs.Asking.{ListensAt, Selects};
+ghost use Rattle.station_mio.specs.Waiting.{Ticks, after_by, patience_with};
+ghost use Rattle.station_mio.specs.Listing.{seen_of, report_all, listed_all_lost};
+ghost use Rattle.station_mio.specs.Ending.{EndsAll, Grows, Finishes};
+ghost use Rattle.station_mio.specs.Files.{CreatesLog, AppendsAll, SyncsLog};
 ghost use Rattle.station_mio.specs.Numbers.{OpensBetween, DialsBetween};
+ghost use Rattle.machine_host.specs.Asks.{Waited, list_of};
+ghost use Rattle.station_mio.specs.declared.pace.TheConstants.{PAUSE};
 
-use crate::pace::{LINGER, PATIENCE, PAUSE, Turns, behind, now};
-use crate::rows::{Row, Wire, place_of, remove};
-use crate::streams::{enroll, read_stream, socket_addr, write_stream};
+use crate::accepting::{Outcome, accept};
+use crate::backlog::Backlog;
+use crate::dialling::{go_on_all, patience_of};
+use crate::ending::{drain_all, end_all};
+use crate::listing::{has_room, list_all_lost, report_all};
+use crate::log_file::{self, LogFile};
+use crate::moving;
+use crate::pace::{LINGER, PATIENCE, Pace, after, now};
+use crate::rows::{MOST_SOCKETS, Row, Rows};
+use crate::streams::connect;
+use arrayvec::ArrayVec;
 use definitions::PlayerId;
-use mio::event::Event;
-use mio::net::{TcpListener, TcpStream};
-use mio::{Events, Interest, Poll, Token};
+use machine_host::{Host, HostFault, MOST_EVENTS};
 use socket_station::ready_list::MOST_READY;
 use socket_station::{Addr, Dial, Did, Ready, ReadyList, SocketId, SocketRead, SocketWrite};
 use std::alloc::{AllocError, Global};
-use std::io::{self, ErrorKind};
-use std::mem;
-use std::net::{Net, Shutdown};
-use std::time::{Clock, Duration};
+use std::marker::Model;
 
-/// How many sockets may be open at once: a loop has at most 256 that were accepted, one dialled for each player, and those of one list.
-const MOST_SOCKETS: usize = 512;
+/// How often the others are waited for at the end, so that nobody holds it up for ever.
+const MOST_TURNS: u32 = 1_000;
 
-/// How many sockets the machine reports to a poll, so that there is room in its list for new ones too.
-const MOST_EVENTS: usize = 48;
-
-/// How often the end is looked for, and how much is read to find it, so that no neighbour holds it up for ever.
-const MOST_ROUNDS: u32 = 1_000;
-
-/// What the listening socket is registered as: no socket number is as great.
-const LISTENER: Token = Token(usize::MAX);
-
-/// Whether connections wait to be accepted.
-#[derive(Clone, Copy, PartialEq, Eq)]
-enum Backlog {
-    /// None did when it was last looked for.
-    Empty,
-    /// Some may, and the next poll accepts them without a wait.
-    Waiting,
-    /// Some may, but one couldn't be accepted: the next poll tries again.
-    Refused,
-}
-
-/// Sockets of the machine, and their readiness: one that listens, and at most 512 that were accepted or dialled, each under a number,
-/// from 0 on, that no other one has had.
+/// Sockets of a machine, and their readiness: one that listens, and at most 512 that were accepted
+/// or dialled, each under a number, from 0 on, that no other one has had. It is seen as what the
+/// machine was asked, and how each socket stands.
 #[derive(Drop)]
-pub struct Sockets<R> {
-    pub(crate) machine: R,
-    poll: Option<Poll>,
-    events: Events,
-    listener: Option<TcpListener>,
+pub struct Sockets<H: Host> {
+    host: H,
+    selector: Option<H::Selector>,
+    listener: Option<H::Listener>,
     backlog: Backlog,
-    turns: Turns,
-    rows: Vec<Row>,
-
-    /// The least number that no socket has had.
-    pub(crate) next: SocketId,
+    pace: Pace,
+    rows: Rows<H::Stream>,
+    next: SocketId,
 }
 
-/// The object that readiness is asked of. The first call makes it.
-fn selector<'a, R: Net>(machine: &R, poll: &'a mut Option<Poll>) -> io::Result<&'a mut Poll> {
-    if poll.is_none() {
-        *poll = Some(Poll::new(machine)?);
-    }
-    match poll {
-        Some(poll) => Ok(poll),
-        None => Err(io::Error::from(ErrorKind::Other)),
-    }
+impl<H: Host> Model for Sockets<H> {
+    ghost use Rattle.std.specs.Prelude.{is_some};
+    ghost use Rattle.station_mio.specs.Nets.{Net};
+
+    ghost Value = { Net };
+
+    ghost view = { λ s. record { asks = H.history s.host; selects = is_some s.selector; listens = is_some s.listener; backlog = s.backlog; due = s.pace.due; stands = s.rows; next = s.next } };
 }
 
-/// Whether the list has room for one more.
-fn has_room(ready: &ReadyList) -> bool
-    ensures { IsTrue result → length ready.now < 64 }
+/// Listens at the address, and has it reported that connections wait.
+fn listen_at<H: Host>(
+    host: &mut H,
+    selector: &mut H::Selector,
+    addr: Addr,
+) -> Result<H::Listener, HostFault>
+    ensures { ListensAt addr (is_ok result) (H.history host.old) (H.history host.new) }
 {
-    ready.as_slice().len() < MOST_READY
+    let mut listener = host.listen(addr)?;
+    host.watch_listener(selector, &mut listener)?;
+    Ok(listener)
 }
 
-/// Adds a socket that may be ready, where there is room.
-fn list(ready: &mut ReadyList, number: SocketId)
-    ensures { (first last : ℕ) → OpensBetween first last ready.old → OpensBetween first last ready.new }
-{
-    if has_room(ready) {
-        ready.push(Ready::Socket(number));
-    }
-}
-
-/// Adds the sockets that are over.
-fn list_lost(rows: &[Row], ready: &mut ReadyList)
-    ensures { (first last : ℕ) → OpensBetween first last ready.old → OpensBetween first last ready.new }
-{
-    for row in rows {
-        if let Wire::Lost = row.wire {
-            list(ready, row.number);
-        }
-    }
-}
-
-/// How long a poll may wait for this socket's sake.
-fn patience_for(wire: &Wire, now: Duration) -> Duration {
-    match wire {
-        Wire::Due(_, due) => due.saturating_sub(now),
-        Wire::Dialled(_, due) => due.saturating_sub(now),
-        Wire::Up(_) => Duration::from_millis(PAUSE),
-        Wire::Lost => Duration::ZERO,
-    }
-}
-
-/// How long a poll may wait for the sake of all of them.
-fn patience_for_all(rows: &[Row], now: Duration) -> Duration {
-    let mut patience = Duration::from_millis(PAUSE);
-    for row in rows {
-        patience = patience.min(patience_for(&row.wire, now));
-    }
-    patience
-}
-
-/// Marks a socket that is ready as one that stands.
-fn mark_up(row: &mut Row) {
-    row.wire = match mem::replace(&mut row.wire, Wire::Lost) {
-        Wire::Dialled(stream, _) => Wire::Up(stream),
-        wire => wire,
-    };
-}
-
-/// Takes in what the machine reports: connections that wait, or a socket, which is listed.
-fn report(event: &Event, rows: &mut [Row], backlog: &mut Backlog, ready: &mut ReadyList)
-    ensures { (first last : ℕ) → OpensBetween first last ready.old → OpensBetween first last ready.new }
-{
-    let token = event.token();
-    if token == LISTENER {
-        *backlog = Backlog::Waiting;
-        return;
-    }
-    let Ok(number) = SocketId::try_from(token.0) else {
-        return;
-    };
-    if let Some(place) = place_of(rows, number) {
-        mark_up(&mut rows[place]);
-        list(ready, number);
-    }
-}
-
-/// Takes in all that the machine reports.
-fn report_all(events: &Events, rows: &mut [Row], backlog: &mut Backlog, ready: &mut ReadyList)
-    ensures { (first last : ℕ) → OpensBetween first last ready.old → OpensBetween first last ready.new }
-{
-    for event in events {
-        report(event, rows, backlog, ready);
-    }
-}
-
-/// Says to the other sides that nothing more is sent.
-fn end_all(rows: &[Row]) {
-    for row in rows {
-        if let Wire::Up(stream) = &row.wire {
-            // one that is broken already is found so by its next read
-            let _ = stream.shutdown(Shutdown::Write);
-        }
-    }
-}
-
-/// Reads what came, which nobody wants any more, and says whether more may come.
-fn drain(wire: &mut Wire) -> bool {
-    let Wire::Up(stream) = wire else {
-        return false;
-    };
-    let mut buf = [0; 4096];
-    for _ in 0..MOST_ROUNDS {
-        match read_stream(stream, &mut buf) {
-            SocketRead::Took(_) => {}
-            SocketRead::NotYet => return true,
-            SocketRead::Ended | SocketRead::Failed => return false,
-        }
-    }
-    false
-}
-
-/// Reads what came on all sockets, and closes those on which nothing more comes.
-fn drain_all(rows: &mut Vec<Row>) {
-    for place in (0..rows.len()).rev() {
-        if let Some(row) = rows.get_mut(place)
-            && !drain(&mut row.wire)
-        {
-            rows.swap_remove(place);
-        }
-    }
-}
-
-impl<R: Net + Clock + Drop> Sockets<R> {
-    /// Takes all the memory, and an error comes where that is wanting. The machine is asked for nothing yet.
-    pub fn new(alloc: Global, machine: R) -> Result<Sockets<R>, AllocError>
-        ensures { IfOk result (λ l. l.next ≡ 0) }
+impl<H: Host + Drop> Sockets<H> {
+    /// Takes all the memory, and an error comes where that is wanting. The machine is asked for
+    /// nothing yet.
+    pub fn new(alloc: Global, host: H) -> Result<Sockets<H>, AllocError>
+        ensures { IfOk result (λ s. (s.asks ≡ H.history host) × (s.stands ≡ []) × (s.next ≡ 0)) }
     {
         Ok(Sockets {
-            machine,
-            poll: None,
-            events: Events::with_capacity(alloc, MOST_EVENTS)?,
+            host,
+            selector: None,
             listener: None,
             backlog: Backlog::Empty,
-            turns: Turns::new(),
-            rows: Vec::with_capacity(alloc, MOST_SOCKETS)?,
+            pace: Pace::new(),
+            rows: Rows::new(alloc)?,
             next: 0,
         })
     }
 
-    /// Accepts connections at this address from now on. The machine's error comes where it refuses that.
-    pub fn listen(&mut self, addr: Addr) -> io::Result<()>
-        ensures { self.new.next ≡ self.old.next }
+    /// Makes the object that readiness is asked of, unless it stands.
+    fn select(&mut self)
+        ensures asked { Selects self.old.selects self.new.selects self.old.asks self.new.asks }
+        ensures same { self.new ≡ record self.old { asks = self.new.asks; selects = self.new.selects } }
     {
-        let poll = selector(&self.machine, &mut self.poll)?;
-        let mut listener = TcpListener::bind(&self.machine, socket_addr(addr))?;
-        poll.registry()
-            .register(&mut listener, LISTENER, Interest::READABLE)?;
-        self.listener = Some(listener);
-        Ok(())
-    }
-
-    /// Begins to connect.
-    fn connect(&mut self, number: SocketId, addr: Addr, now: Duration) -> io::Result<Wire>
-        ensures { self.new.next ≡ self.old.next }
-    {
-        let poll = selector(&self.machine, &mut self.poll)?;
-        let stream = TcpStream::connect(&self.machine, socket_addr(addr))?;
-        let stream = enroll(poll, stream, number)?;
-        Ok(Wire::Dialled(stream, behind(now, PATIENCE)))
-    }
-
-    /// Begins to connect, where that is due.
-    fn begin(&mut self, number: SocketId, player: PlayerId, addr: Addr) -> io::Result<Wire>
-        ensures { self.new.next ≡ self.old.next }
-    {
-        let now = now(&self.machine);
-        let due = self.turns.take(player, now);
-        if due > now {
-            return Ok(Wire::Due(addr, due));
+        if self.selector.is_none() {
+            self.selector = match self.host.select() {
+                Ok(made) => Some(made),
+                Err(_) => None,
+            };
         }
-        self.connect(number, addr, now)
+    }
+
+    /// Whether that stands.
+    fn selects(&self) -> bool
+        ensures { result ≡ self.now.selects }
+    {
+        self.selector.is_some()
+    }
+
+    /// Listens at the address, where readiness can be asked of.
+    fn listen_now(&mut self, addr: Addr) -> Result<(), HostFault>
+        requires selects { self.old.selects ≡ true }
+        ensures asked { ListensAt addr (is_ok result) self.old.asks self.new.asks }
+        ensures same { self.new ≡ record self.old { asks = self.new.asks; listens = self.new.listens } }
+        ensures listens { is_ok result ≡ true → self.new.listens ≡ true }
+    {
+        let Some(selector) = &mut self.selector else {
+            return Err(HostFault::Other);
+        };
+        match listen_at(&mut self.host, selector, addr) {
+            Err(fault) => Err(fault),
+            Ok(listener) => {
+                self.listener = Some(listener);
+                Ok(())
+            }
+        }
+    }
+
+    /// Accepts connections at this address from now on. The machine's fault comes where it refuses
+    /// that.
+    pub fn listen(&mut self, addr: Addr) -> Result<(), HostFault>
+        ensures { Listens addr result self.old self.new }
+    {
+        self.select();
+        if !self.selects() {
+            return Err(HostFault::Other);
+        }
+        self.listen_now(addr)
+    }
+
+    /// Takes what came on a socket. One that ends or fails is closed, and after that, as on a
+    /// number that no socket has, it fails.
+    pub fn read(&mut self, socket: SocketId, buf: &mut [u8]) -> SocketRead
+        requires { 0 < length buf.old }
+        ensures within { TakesWithin result buf.new }
+        ensures reads { ReadsOn socket result buf.new self.old self.new }
+        ensures next { self.new.next ≡ self.old.next }
+    {
+        moving::read(&mut self.host, &mut self.rows, socket, buf)
+    }
+
+    /// Gives the first of these bytes on a socket. One that fails is closed, and after that, as on
+    /// a number that no socket has, it fails.
+    pub fn write(&mut self, socket: SocketId, bytes: &[u8]) -> SocketWrite
+        ensures within { GivesWithin result bytes.now }
+        ensures writes { WritesOn socket result bytes.now self.old self.new }
+        ensures next { self.new.next ≡ self.old.next }
+    {
+        moving::write(&mut self.host, &mut self.rows, socket, bytes)
+    }
+
+    /// Closes a socket, if there is one of this number.
+    pub fn shut(&mut self, socket: SocketId)
+        ensures shuts { self.new ≡ shut socket self.old }
+        ensures next { self.new.next ≡ self.old.next }
+    {
+        moving::shut(&mut self.host, &mut self.rows, socket);
     }
 
     /// Whether there is room for one more socket, and a number.
     fn has_room(&self) -> bool
-        ensures { IsTrue result → self.now.next < 2 ^ 32 - 1 }
+        ensures { result ≡ has_room self.now }
     {
         self.rows.len() < MOST_SOCKETS && self.next < SocketId::MAX
     }
 
-    /// Adds a socket with the next number.
-    fn add(&mut self, wire: Wire) -> Option<SocketId>
-        requires { self.old.next < 2 ^ 32 - 1 }
-        ensures some { IfSome result (λ s. (s ≡ self.old.next) × (self.new.next ≡ s + 1)) }
-        ensures none { IfNone result (self.new.next ≡ self.old.next) }
-        ensures row { IfSome result (λ s. self.new.rows.items ≡ self.old.rows.items ++ (record { number = s; wire = wire }) ∷ []) }
+    /// Adds a socket with the next number, and says which that is.
+    fn add(&mut self, row: Row<H::Stream>) -> SocketId
+        requires { has_room self.old ≡ true }
+        ensures number { result ≡ self.old.next }
+        ensures added { self.new ≡ added (stand_of H.Stream.number row) self.old }
     {
         let number = self.next;
-        let row = Row { number, wire };
-        if self.rows.push(row).is_err() {
-            return None;
-        }
+        self.rows.push(row);
         self.next = number + 1;
-        Some(number)
+        number
     }
 
-    /// Opens a socket to the address: at once, or, where that player was dialled within the last tenth of a second, when that is over.
+    /// Dials an address now.
+    fn dial_at(&mut self, addr: Addr, now: u64) -> Dial
+        requires room { has_room self.old ≡ true }
+        requires selects { self.old.selects ≡ true }
+        ensures dials { DialsAt now addr result self.old self.new }
+        ensures numbers { DialsBetween self.old.next self.new.next result }
+    {
+        let Some(selector) = &mut self.selector else {
+            return Dial::Failed;
+        };
+        match connect(&mut self.host, selector, self.next, addr) {
+            None => Dial::Failed,
+            Some(stream) => {
+                let row = Row::Dialled(stream, after(now, PATIENCE));
+                Dial::Socket(self.add(row))
+            }
+        }
+    }
+
+    /// Dials an address now, where readiness can be asked of.
+    fn dial_now(&mut self, addr: Addr, now: u64) -> Dial
+        requires room { has_room self.old ≡ true }
+        ensures dials { DialsNow now addr result self.old self.new }
+        ensures numbers { DialsBetween self.old.next self.new.next result }
+    {
+        self.select();
+        if !self.selects() {
+            return Dial::Failed;
+        }
+        self.dial_at(addr, now)
+    }
+
+    /// The machine's time.
+    fn time(&mut self) -> u64
+        ensures ticks { Ticks self.old.asks self.new.asks result }
+        ensures same { self.new ≡ record self.old { asks = self.new.asks } }
+    {
+        now(&mut self.host)
+    }
+
+    /// When a dial of the player is due that is asked for at this time.
+    fn due(&mut self, player: PlayerId, now: u64) -> u64
+        ensures due { result ≡ max (get_or self.old.due player 0) now }
+        ensures same { self.new ≡ record self.old { due = slice_set self.old.due player (after_by result PAUSE) } }
+    {
+        self.pace.take(player, now)
+    }
+
+    /// Opens a socket to the address: at once, or, where that player was dialled within the last
+    /// tenth of a second, when that is over.
     pub fn dial(&mut self, player: PlayerId, addr: Addr) -> Dial
-        ensures { DialsBetween self.old.next self.new.next result }
+        ensures dials { Dials (has_room self.old) player addr result self.old self.new }
+        ensures numbers { DialsBetween self.old.next self.new.next result }
     {
         if !self.has_room() {
             return Dial::Failed;
         }
-        match self.begin(self.next, player, addr) {
-            Err(_) => Dial::Failed,
-            Ok(wire) => match self.add(wire) {
-                None => Dial::Failed,
-                Some(number) => Dial::Socket(number),
-            },
+        let now = self.time();
+        let due = self.due(player, now);
+        if now < due {
+            let row = Row::Due(self.next, addr, due);
+            return Dial::Socket(self.add(row));
+        }
+        self.dial_now(addr, now)
+    }
+
+    /// How long the next poll may wait, in milliseconds.
+    fn patience(&self, now: u64) -> u64
+        ensures { result ≡ patience_with self.now.backlog now self.now.stands }
+    {
+        match self.backlog {
+            Backlog::Waiting => 0,
+            Backlog::Empty => patience_of(&self.rows, now),
+            Backlog::Refused => patience_of(&self.rows, now),
         }
     }
 
-    /// Goes on with a socket that is due: it is dialled, or given up where the address left the dial without an answer.
-    fn go_on(&mut self, place: usize, now: Duration)
-        ensures { self.new.next ≡ self.old.next }
+    /// Waits so many milliseconds at most.
+    fn wait_at_most(
+        &mut self,
+        millis: u64,
+        tokens: &mut ArrayVec<u64, MOST_EVENTS>,
+    ) -> Result<(), HostFault>
+        requires selects { self.old.selects ≡ true }
+        ensures { self.new ≡ record self.old { asks = self.old.asks ++ Waited millis (list_of result tokens.new.items) ∷ [] } }
     {
-        let Some(row) = self.rows.get_mut(place) else {
-            return;
+        let Some(selector) = &mut self.selector else {
+            return Err(HostFault::Other);
         };
-        let number = row.number;
-        let wire = match mem::replace(&mut row.wire, Wire::Lost) {
-            Wire::Due(addr, due) if due <= now => {
-                self.connect(number, addr, now).unwrap_or(Wire::Lost)
-            }
-            Wire::Dialled(_, due) if due <= now => Wire::Lost,
-            wire => wire,
-        };
-        if let Some(row) = self.rows.get_mut(place) {
-            row.wire = wire;
+        self.host.wait(selector, millis, tokens)
+    }
+
+    /// Waits until something is ready, or the time is over, and gives the tokens of what is.
+    fn wait(&mut self, tokens: &mut ArrayVec<u64, MOST_EVENTS>) -> Result<(), HostFault>
+        ensures waits { WaitsFor result tokens.new.items self.old self.new }
+        ensures next { self.new.next ≡ self.old.next }
+        ensures selects { IfOk result (λ u. self.new.selects ≡ true) }
+    {
+        self.select();
+        if !self.selects() {
+            return Err(HostFault::Other);
         }
+        let now = self.time();
+        let patience = self.patience(now);
+        self.wait_at_most(patience, tokens)
+    }
+
+    /// Takes in the tokens of what is ready.
+    fn see(&mut self, tokens: &[u64], ready: &mut ReadyList)
+        ensures seen { seen_of self.new.stands self.new.backlog ready.new ≡ report_all (seen_of self.old.stands self.old.backlog ready.old) tokens.now }
+        ensures same { self.new ≡ record self.old { stands = self.new.stands; backlog = self.new.backlog } }
+    {
+        report_all(&mut self.rows, &mut self.backlog, ready, tokens);
     }
 
     /// Goes on with all sockets that are due.
-    fn go_on_all(&mut self)
-        ensures { self.new.next ≡ self.old.next }
+    fn go_on(&mut self)
+        requires selects { self.old.selects ≡ true }
+        ensures { GoesOnIn self.old self.new }
     {
-        let now = now(&self.machine);
-        for place in 0..self.rows.len() {
-            self.go_on(place, now);
-        }
+        let now = self.time();
+        let Some(selector) = &mut self.selector else {
+            return;
+        };
+        go_on_all(&mut self.host, selector, &mut self.rows, now);
     }
 
-    /// How long the next poll may wait.
-    fn patience(&self) -> Duration {
-        if self.backlog == Backlog::Waiting {
-            return Duration::ZERO;
-        }
-        patience_for_all(&self.rows, now(&self.machine))
-    }
-
-    /// Waits until something is ready, or the time is over.
-    fn wait(&mut self) -> io::Result<()>
-        ensures { self.new.next ≡ self.old.next }
+    /// Lists the sockets that are lost.
+    fn list_lost(&self, ready: &mut ReadyList)
+        ensures { ready.new ≡ listed_all_lost ready.old self.now.stands }
     {
-        let patience = self.patience();
-        let poll = selector(&self.machine, &mut self.poll)?;
-        poll.poll(&mut self.events, Some(patience))
-    }
-
-    /// The next connection that waits.
-    fn accept(&mut self) -> io::Result<TcpStream>
-        ensures { self.new.next ≡ self.old.next }
-    {
-        let poll = selector(&self.machine, &mut self.poll)?;
-        match &self.listener {
-            None => Err(io::Error::from(ErrorKind::WouldBlock)),
-            Some(listener) => {
-                let (stream, _) = listener.accept()?;
-                enroll(poll, stream, self.next)
-            }
-        }
+        list_all_lost(&self.rows, ready);
     }
 
     /// A new socket for the next connection that waits.
     fn accept_one(&mut self) -> Option<SocketId>
-        ensures some { IfSome result (λ s. (s ≡ self.old.next) × (self.new.next ≡ s + 1)) }
-        ensures none { IfNone result (self.new.next ≡ self.old.next) }
+        requires selects { self.old.selects ≡ true }
+        ensures { AcceptsOne result self.old self.new }
     {
         if !self.has_room() {
             self.backlog = Backlog::Refused;
             return None;
         }
-        match self.accept() {
-            Ok(stream) => self.add(Wire::Up(stream)),
-            Err(error) if error.kind() == ErrorKind::WouldBlock => {
+        let Some(selector) = &mut self.selector else {
+            return None;
+        };
+        let Some(listener) = &mut self.listener else {
+            self.backlog = Backlog::Empty;
+            return None;
+        };
+        match accept(&mut self.host, selector, listener, self.next) {
+            Outcome::Came(stream) => Some(self.add(Row::Up(stream))),
+            Outcome::Nobody => {
                 self.backlog = Backlog::Empty;
                 None
             }
-            Err(_) => {
+            Outcome::Refused => {
                 self.backlog = Backlog::Refused;
                 None
             }
@@ -362,12 +350,10 @@ impl<R: Net + Clock + Drop> Sockets<R> {
     }
 
     /// Lists new sockets for the connections that wait, as many as there is room for.
-    fn accept_all(&mut self, ready: &mut ReadyList)
-        ensures { (first : ℕ) → OpensBetween first self.old.next ready.old → OpensBetween first self.new.next ready.new }
+    fn accept_waiting(&mut self, ready: &mut ReadyList)
+        requires selects { self.old.selects ≡ true }
+        ensures { AcceptsWaiting ready.old ready.new self.old self.new }
     {
-        if self.backlog == Backlog::Empty {
-            return;
-        }
         for _ in 0..MOST_READY {
             if !has_room(ready) {
                 self.backlog = Backlog::Waiting;
@@ -380,87 +366,121 @@ impl<R: Net + Clock + Drop> Sockets<R> {
         }
     }
 
+    /// Lists new sockets for the connections that wait, unless none did when it was last looked.
+    fn accept_all(&mut self, ready: &mut ReadyList)
+        requires selects { self.old.selects ≡ true }
+        ensures { AcceptsAll self.old.backlog ready.old ready.new self.old self.new }
+    {
+        match self.backlog {
+            Backlog::Empty => {}
+            Backlog::Waiting => self.accept_waiting(ready),
+            Backlog::Refused => self.accept_waiting(ready),
+        }
+    }
+
+    /// Lists what is ready, goes on with what is due, and lists what is lost and what is new.
+    fn list(&mut self, tokens: &[u64], ready: &mut ReadyList)
+        requires selects { self.old.selects ≡ true }
+        requires none { ready.old ≡ [] }
+        ensures { Lists tokens.now ready.new self.old self.new }
+    {
+        self.see(tokens, ready);
+        self.go_on();
+        self.list_lost(ready);
+        self.accept_all(ready);
+    }
+
     /// Waits at most a tenth of a second, and lists new sockets and those that may be ready.
     pub fn poll(&mut self, ready: &mut ReadyList) -> Did
-        ensures { OpensBetween self.old.next self.new.next ready.new }
+        ensures polls { Polls result ready.new self.old self.new }
+        ensures opens { OpensBetween self.old.next self.new.next ready.new }
     {
         ready.clear();
-        if self.wait().is_err() {
-            return Did::Failed;
+        let mut tokens = ArrayVec::new();
+        match self.wait(&mut tokens) {
+            Err(_) => Did::Failed,
+            Ok(()) => {
+                self.list(tokens.as_slice(), ready);
+                Did::Done
+            }
         }
-        report_all(&self.events, &mut self.rows, &mut self.backlog, ready);
-        self.go_on_all();
-        list_lost(&self.rows, ready);
-        self.accept_all(ready);
-        Did::Done
     }
 
-    /// Takes what came on a socket. One that ends or fails is closed, and behind that, as on a number that no socket has, it fails.
-    pub fn read(&mut self, socket: SocketId, buf: &mut [u8]) -> SocketRead
-        ensures within { TakesWithin result buf.new }
-        ensures next { self.new.next ≡ self.old.next }
+    /// Creates the log at this path. A file that is there is a fault, and is left as it is.
+    pub(crate) fn create_log(&mut self, path: &[u8]) -> Option<LogFile<H>>
+        ensures asked { CreatesLog path.now (is_some result) self.old.asks self.new.asks }
+        ensures same { self.new ≡ record self.old { asks = self.new.asks } }
+        ensures folder { IfSome result (λ log. is_some log.folder ≡ true) }
     {
-        let read = match place_of(&self.rows, socket) {
-            None => SocketRead::Failed,
-            Some(place) => match &mut self.rows[place].wire {
-                Wire::Due(_, _) => SocketRead::NotYet,
-                Wire::Dialled(stream, _) => read_stream(stream, buf),
-                Wire::Up(stream) => read_stream(stream, buf),
-                Wire::Lost => SocketRead::Failed,
-            },
-        };
-        match read {
-            SocketRead::Took(_) | SocketRead::NotYet => {}
-            SocketRead::Ended | SocketRead::Failed => self.shut(socket),
-        }
-        read
+        log_file::create(&mut self.host, path)
     }
 
-    /// Gives the first of these bytes on a socket. One that fails is closed, and behind that, as on a number that no socket has, it
-    /// fails.
-    pub fn write(&mut self, socket: SocketId, bytes: &[u8]) -> SocketWrite
-        ensures within { GivesWithin result bytes.now }
-        ensures next { self.new.next ≡ self.old.next }
+    /// Appends all these bytes to the log.
+    pub(crate) fn append(&mut self, log: &mut LogFile<H>, bytes: &[u8]) -> bool
+        ensures asked { AppendsAll bytes.now result self.old.asks self.new.asks }
+        ensures same { self.new ≡ record self.old { asks = self.new.asks } }
+        ensures folder { is_some log.new.folder ≡ is_some log.old.folder }
     {
-        let write = match place_of(&self.rows, socket) {
-            None => SocketWrite::Failed,
-            Some(place) => match &mut self.rows[place].wire {
-                Wire::Due(_, _) => SocketWrite::NotYet,
-                Wire::Dialled(stream, _) => write_stream(stream, bytes),
-                Wire::Up(stream) => write_stream(stream, bytes),
-                Wire::Lost => SocketWrite::Failed,
-            },
-        };
-        if let SocketWrite::Failed = write {
-            self.shut(socket);
-        }
-        write
+        log_file::append(&mut self.host, log, bytes)
     }
 
-    /// Sends no more, and waits until the others have ended too, so that what was given is read by them. That takes a second at most.
-    pub fn finish(&mut self)
-        ensures { self.new.next ≡ self.old.next }
+    /// What was appended to the log stays after a crash of the machine.
+    pub(crate) fn sync(&mut self, log: &mut LogFile<H>) -> bool
+        ensures asked { SyncsLog (is_some log.old.folder) result self.old.asks self.new.asks }
+        ensures same { self.new ≡ record self.old { asks = self.new.asks } }
+        ensures folder { result ≡ true → is_some log.new.folder ≡ false }
+    {
+        log_file::sync(&mut self.host, log)
+    }
+
+    /// Listens no more, and says to the others that no more is sent.
+    fn end_writes(&mut self)
+        ensures asked { EndsAll self.old.stands self.old.asks self.new.asks }
+        ensures next { self.new.next ≡ self.old.next }
     {
         self.listener = None;
         self.backlog = Backlog::Empty;
-        end_all(&self.rows);
-        let start = now(&self.machine);
-        for _ in 0..MOST_ROUNDS {
-            drain_all(&mut self.rows);
-            if self.rows.is_empty() || now(&self.machine) >= behind(start, LINGER) {
-                return;
-            }
-            if self.wait().is_err() {
+        end_all(&mut self.host, &mut self.rows);
+    }
+
+    /// Reads what came on all sockets, and closes those on which nothing more comes.
+    fn drain(&mut self)
+        ensures asked { Grows self.old.asks self.new.asks }
+        ensures next { self.new.next ≡ self.old.next }
+    {
+        drain_all(&mut self.host, &mut self.rows);
+    }
+
+    /// One turn of the end: what came is read, and where something may still come it waits for
+    /// more. It says whether it is to go on.
+    fn linger(&mut self, until: u64) -> bool
+        ensures asked { Grows self.old.asks self.new.asks }
+        ensures next { self.new.next ≡ self.old.next }
+    {
+        self.drain();
+        if self.rows.len() == 0 {
+            return false;
+        }
+        let now = self.time();
+        if until <= now {
+            return false;
+        }
+        let mut tokens = ArrayVec::new();
+        self.wait(&mut tokens).is_ok()
+    }
+
+    /// Sends no more, and waits until the others have ended too, so that what was given is read by
+    /// them. That takes a second at most.
+    pub fn finish(&mut self)
+        ensures finishes { Finishes self.old.stands self.old.asks self.new.asks }
+        ensures next { self.new.next ≡ self.old.next }
+    {
+        self.end_writes();
+        let until = after(self.time(), LINGER);
+        for _ in 0..MOST_TURNS {
+            if !self.linger(until) {
                 return;
             }
         }
-    }
-
-    /// Closes a socket, if there is one of this number.
-    pub fn shut(&mut self, socket: SocketId)
-        ensures next { self.new.next ≡ self.old.next }
-        ensures one { IfSome (position (λ row. row.number == socket) self.old.rows.items) (λ i. length self.new.rows.items + 1 ≡ length self.old.rows.items) }
-    {
-        remove(&mut self.rows, socket);
     }
 }

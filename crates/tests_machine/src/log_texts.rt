@@ -1,8 +1,10 @@
 //! Logs in files of the machine: no contract says what stands on a disk.
 
+use mio_host::MioHost;
 use socket_station::{Did, Station};
 use station_mio::MioStation;
 use std::env::temp_dir;
+use std::os::unix::fs::PermissionsExt;
 use std::test::Fail;
 use std::{fs, process};
 
@@ -53,8 +55,9 @@ fn has_five(rt: &HostRuntime, path: &str) -> Result<bool, Fail> {
     Ok(fs::read(rt, path)?.as_slice() == b"abcde".as_slice())
 }
 
-fn station_of(rt: &HostRuntime) -> Result<MioStation<&HostRuntime>, Fail> {
-    Ok(MioStation::new(rt, rt.alloc())?)
+fn station_of(rt: &HostRuntime) -> Result<MioStation<MioHost<&HostRuntime>>, Fail> {
+    let host = MioHost::new(rt, rt.alloc())?;
+    Ok(MioStation::new(host, rt.alloc())?)
 }
 
 /// Whether no log is begun in a file that is there.
@@ -93,10 +96,16 @@ fn stays(rt: &HostRuntime, path: &str) -> Result<bool, Fail> {
     has_five(rt, path)
 }
 
-/// Whether that path's log is kept, and stays as it is.
+/// Whether nobody but its owner may read or write the file.
+fn is_private(rt: &HostRuntime, path: &str) -> Result<bool, Fail> {
+    let mode = fs::metadata(rt, path)?.permissions().mode();
+    Ok(mode & 0o777 == 0o600)
+}
+
+/// Whether that path's log is kept for its owner alone, and stays as it is.
 fn keeps_a_log(rt: &HostRuntime, path: &str) -> Result<bool, Fail> {
     let mut station = station_of(rt)?;
-    if !keeps_in_order(&mut station, path) {
+    if !keeps_in_order(&mut station, path) || !is_private(rt, path)? {
         return Ok(false);
     }
     stays(rt, path)

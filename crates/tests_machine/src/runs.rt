@@ -2,6 +2,8 @@
 //! words, which clap doesn't split here.
 
 use file_shelf::FileShelf;
+use machine_files::MachineFiles;
+use mio_host::MioHost;
 use peer_runs::run;
 use rand_chacha::ChaCha20Rng;
 use rand_core::SeedableRng;
@@ -32,8 +34,8 @@ pub(crate) fn run_words(rt: &HostRuntime, line: &str, number: u64) -> Result<Ran
     let words = words_of(alloc, line)?;
     let mut input = MemorySource::new(Vec::new(alloc), Vec::new(alloc));
     let mut out = MemorySink::new(alloc, 65_536, Vec::new(alloc))?;
-    let mut shelf = FileShelf::new(alloc, rt);
-    let mut station = MioStation::new(rt, alloc)?;
+    let mut shelf = FileShelf::new(alloc, MachineFiles::new(rt));
+    let mut station = MioStation::new(MioHost::new(rt, alloc)?, alloc)?;
     let mut chance = ChaCha20Rng::seed_from_u64(number);
     let status = run(
         alloc,
