@@ -5,7 +5,7 @@ use Rattle.definitions.specs.World.{Game, players_of}
 use Rattle.definitions.specs.Logs.{got_of, move_shown}
 use Rattle.definitions.specs.Findings.{got_known}
 use Rattle.grid_world.specs.Sessions.{IsSession}
-use Rattle.frame_index.specs.declared.streams.Stream.{Stream}
+use Rattle.grid_world.specs.declared.streams.Stream.{Stream}
 use Rattle.frame_index.specs.declared.seen.Seen.{Seen}
 use Rattle.frame_index.specs.Heads.{Stands, front_of}
 use Rattle.frame_index.specs.Keeps.{Keeps}
@@ -24,5 +24,5 @@ module _ (game : Game) (q t : ℕ) (h : List Entry) (before after : Stream) (is 
   resolved logs log kept keeps there lt =
       let more = C.resolves game q h (front_of game (t + 1)) after is player past in
       let within : t < length (got_known game q h).moves = omega (arith, lt, more) in
-      let r = turn_kept game q t logs log h kept keeps there before.track (within, C.before game q h (front_of game t) before is player up within) in
+      let r = turn_kept game q t logs log h kept keeps there before.track (within, C.before game q h (front_of game t) before is player up t refl within) in
       (r.0, r.1, r.4)

@@ -22,8 +22,8 @@ use crate::common::OwnMoves;
 use crate::reading::{Reading, read_on, start};
 use crate::turns::resolved_in;
 use definitions::{Move, PlayerId, Turn, TurnFrame};
-use frame_index::{MOST_LOGS, Seen, Stream};
-use grid_world::Session;
+use frame_index::{MOST_LOGS, Seen};
+use grid_world::{Session, Stream};
 use move_rules::Walker;
 use std::alloc::{AllocError, Global};
 

@@ -36,8 +36,9 @@ pub record TellsVerdict (game : Game) (x : Exhibit) (text : List ℕ) : Type 0 w
   -- it says yes exactly where the frames show what the exhibit says, without any log
   pub shows : SaysYes text → IsShownBy game x
   pub told : IsShownBy game x → SaysYes text
-  -- two commitments, a bad opening or a collision then convict the player, of this turn and kind, in the audit of all logs in which the
-  -- frames stand, whoever wrote these
+  -- where it says yes of two commitments, a bad opening or a collision, the player is convicted, of
+  -- this turn and kind, by each audit among whose logs all these frames stand, whoever wrote them
   pub convicts : SaysYes text → (x.kind ≡ Illegal → ⊥) → (logs : List (List Entry)) → EachIs (StandsIn logs x.player) x.frames → Convicts game logs x.player x.turn x.kind
-  -- and an illegal move convicts it in each audit with a log that got all of the frames
+  -- where it says yes of an illegal move, the player is convicted, of this turn or of one before it,
+  -- by each audit with a log that got all the frames and the commitments that the turn before needs
   pub convicts_of_moves : SaysYes text → x.kind ≡ Illegal → (logs : List (List Entry)) (h : List Entry) → Has logs h → GotAll game x h → ConvictsBy game logs x.player x.turn

@@ -23,18 +23,20 @@ use Rattle.definition_laws.specs.Members.{Has}
 use Rattle.definition_laws.proofs.Alike.{digest_eq_same}
 use Rattle.definition_laws.proofs.Listing.{slice_get_last}
 use Rattle.definition_laws.proofs.Members.{Has_flat_map, Has_slice_get, flat_map_Has, slice_get_Has}
+use Rattle.definition_laws.proofs.Knowing.{known_to_orderly}
 use Rattle.definition_laws.proofs.Nexts.{some_at}
+use Rattle.definition_laws.proofs.Order.{IsOrderly}
 use Rattle.grid_world.specs.Sessions.{IsSession}
-use Rattle.frame_index.specs.declared.streams.Stream.{Stream}
+use Rattle.grid_world.specs.declared.streams.Stream.{Stream}
 use Rattle.frame_index.specs.Openings.{opening_at}
-use Rattle.frame_index.specs.Streams.{places_of}
-use Rattle.frame_index.proofs.StreamsShown.{held_there, read_from, still_commit, still_due, stream_none, there_commit, there_due}
+use Rattle.grid_world.specs.Streams.{next_of}
+use Rattle.frame_index.specs.Streams.{IsReadFrom}
+use Rattle.frame_index.proofs.StreamsShown.{held_there, read_from, still_commit, still_due, stream_from, stream_none, there_commit, there_due}
 use Rattle.frame_index.specs.declared.common.Common.{Common}
-use Rattle.frame_index.specs.declared.heads.Front.{Front}
 use Rattle.frame_index.specs.declared.kept.KeptFrame.{KeptFrame}
 use Rattle.frame_index.specs.declared.seen.Seen.{Seen}
 use Rattle.frame_index.specs.Frames.{IndexState, IsIndex, kept_of}
-use Rattle.frame_index.specs.Heads.{Stands}
+use Rattle.frame_index.specs.Heads.{Ends, Stands}
 use Rattle.frame_index.specs.Kept.{seen_of, seen_with}
 use Rattle.frame_index.specs.Plain.{AreCommon, AreLeft, AreOfFirst, CommitIsRead, HasCome, IsCommon, IsCommonAt, IsPlain, LeadsTo, NoneGoesOn, RevealIsRead, commit_spots, is_among, is_in, move_in, move_of, reveal_spots}
 use Rattle.frame_index.proofs.Come.{ended_count, resolves}
@@ -233,51 +235,83 @@ module _ (game : Game) (q t : ℕ) (logs : List (List Entry)) (index : IndexStat
               opening : (u : ℕ) → u ≡ t → digest_eq (digest_of game (Reveal p u mv n)) d ≡ true → is_legal game q track mv ≡ true → opening_at game q track d t (Reveal p u mv n) ≡ Some mv
               opening u turn eq legal = let x = eq-eqb u t turn in rw (x, eq, legal) refl
 
+-- what a log has come to, by how many commitments and reveals are before the place
+abbrev ComeBy : Game → ℕ → List TurnFrame → (commits resolved most : ℕ) → Track → Bool → Type 0
+ComeBy game q fs a b most track true = IsReadFrom game q fs (record { commits = a; resolved = b; track = track })
+ComeBy game q fs a b most track false = (s : Stream) × IsReadFrom game q fs s × Ends game q fs s × (s.resolved ≤ most)
+
+-- a place has so many commitments and reveals before it, and no other numbers
+no_less : (game : Game) (a b c d : ℕ) → IsOrderly game a b → IsOrderly game c d → c + d ≡ a + b → a ≤ c
+no_less game a b c d ab cd same = go cd.least
+  where
+    go : (d ≡ 0) ⊎ (min (d + game.ahead) (game.turns + 1) ≤ c + 1) → a ≤ c
+    go (inl none) = omega arith
+    go (inr some) =
+        let within = ab.within in
+        elim (cases_lt c a) [
+          | inl less ↦ absurd (omega arith)
+          | inr le ↦ le
+        ]
+
+numbers_once : (game : Game) (a b c d : ℕ) → IsOrderly game a b → IsOrderly game c d → c + d ≡ a + b → (c ≡ a) × (d ≡ b)
+numbers_once game a b c d ab cd same =
+    let one = no_less game a b c d ab cd same in
+    let other = no_less game c d a b cd ab (sym same) in
+    (omega arith, omega arith)
+
+by_numbers : (game : Game) (q : ℕ) (fs : List TurnFrame) (a b most : ℕ) (track : Track) (x : Bool) → IsOrderly game a b → HasCome game q fs (a + b) most track x → ComeBy game q fs a b most track x
+by_numbers game q fs a b most track true order come =
+    let s = come.0 in
+    let commits = ap (λ (r : Stream). r.commits) come.1 in
+    let resolved = ap (λ (r : Stream). r.resolved) come.1 in
+    let here = come.2 in
+    let once = numbers_once game a b _ _ order (known_to_orderly game q fs (a + b)) (omega arith) in
+    read_from game q (a + b) fs (record { commits = a; resolved = b; track = track })
+    (sym (stream_from s (record { commits = a; resolved = b; track = track }) (commits ∙ once.0) (resolved ∙ once.1) come.3) ∙ come.1)
+by_numbers game q fs a b most track false order come = come
+
+by_place : (game : Game) (q : ℕ) (fs : List TurnFrame) (a b most : ℕ) (track : Track) (x : Bool) → ComeBy game q fs a b most track x → HasCome game q fs (a + b) most track x
+by_place game q fs a b most track true read = (record { commits = a; resolved = b; track = track }, read, refl, refl)
+by_place game q fs a b most track false come = come
+
 -- one place further, in one log
 module _ (game : Game) (q : ℕ) (logs : List (List Entry)) (index : IndexState) (w : IsIndex game logs index) (i : ℕ) (h : List Entry) (there : slice_get logs i ≡ Some h) where
-  at_place : Front → Track → Stream
-  at_place f track = record { commits = f.commits; resolved = f.resolved; track = track }
+  come_commit : (a b : ℕ) (most : ℕ) (track : Track) → IsPlain (kept_of index q a) → most ≤ b → a < min (b + game.ahead) game.turns → (x y : Bool) →
+      is_in (commit_spots (kept_of index q a)) i ≡ y → ComeBy game q (got_of q h) a b most track x →
+      ComeBy game q (got_of q h) (a + 1) b b track (x && y)
+  come_commit a b most track plain le next true true e read =
+      let d = committed game q a logs index w i h there plain e in
+      there_commit game q (got_of q h) (record { commits = a; resolved = b; track = track }) d.0 read next (sym d.1)
+  come_commit a b most track plain le next true false e read =
+      let s : Stream = record { commits = a; resolved = b; track = track } in
+      (s, read, still_commit game q (got_of q h) s read next (sym (uncommitted game q a logs index w i h there plain e)), omega arith)
+  come_commit a b most track plain le next false c e come = (come.0, come.1, come.2, (let l = come.3 in omega (arith, l, le)))
 
-  come_commit : (f : Front) (most : ℕ) (track : Track) → IsPlain (kept_of index q f.commits) → most ≤ f.resolved → f.commits < min (f.resolved + game.ahead) game.turns → (b c : Bool) →
-      is_in (commit_spots (kept_of index q f.commits)) i ≡ c → HasCome game q (got_of q h) f most track b →
-      HasCome game q (got_of q h) (record { commits = f.commits + 1; resolved = f.resolved }) f.resolved track (b && c)
-  come_commit f most track plain le next true true e read =
-      let d = committed game q f.commits logs index w i h there plain e in
-      there_commit game q (got_of q h) (record { commits = f.commits; resolved = f.resolved; track = track }) d.0 read next (sym d.1)
-  come_commit f most track plain le next true false e read =
-      let s : Stream = record { commits = f.commits; resolved = f.resolved; track = track } in
-      (s, read, still_commit game q (got_of q h) s read next (sym (uncommitted game q f.commits logs index w i h there plain e)), omega arith)
-  come_commit f most track plain le next false c e come = (come.0, come.1, come.2, (let l = come.3 in omega (arith, l, le)))
-
-  come_reveal : (f : Front) (most : ℕ) (track new : Track) → IsSession game → q < players_of game → IsPlain (kept_of index q f.resolved) → LeadsTo game q track (move_in (kept_of index q f.resolved)) (Some new) →
-      most ≤ f.resolved → f.resolved < f.commits → (f.commits < min (f.resolved + game.ahead) game.turns → ⊥) → (b c : Bool) → is_in (reveal_spots (kept_of index q f.resolved)) i ≡ c →
-      HasCome game q (got_of q h) f most track b → HasCome game q (got_of q h) (record { commits = f.commits; resolved = f.resolved + 1 }) f.resolved new (b && c)
-  come_reveal f most track new is player plain led le lt next true c e read = go c e
+  come_reveal : (a b : ℕ) (most : ℕ) (track new : Track) → IsSession game → q < players_of game → IsPlain (kept_of index q b) → LeadsTo game q track (move_in (kept_of index q b)) (Some new) →
+      most ≤ b → b < a → (a < min (b + game.ahead) game.turns → ⊥) → (x y : Bool) → is_in (reveal_spots (kept_of index q b)) i ≡ y →
+      ComeBy game q (got_of q h) a b most track x → ComeBy game q (got_of q h) a (b + 1) b new (x && y)
+  come_reveal a b most track new is player plain led le lt next true c e read = go c e
     where
       s : Stream
-      s = record { commits = f.commits; resolved = f.resolved; track = track }
+      s = record { commits = a; resolved = b; track = track }
 
-      known : s.commits ≡ length (known_to game q (got_of q h) (places_of s)).digests
+      known : s.commits ≡ length (known_to game q (got_of q h) (next_of s)).digests
       known = ap (λ (r : Stream). r.commits) read
 
-      held : (d : Digest) × (slice_get (known_to game q (got_of q h) (places_of s)).digests f.resolved ≡ Some d)
-      held = some_at (known_to game q (got_of q h) (places_of s)).digests f.resolved (let k = known in omega (arith, k, lt))
+      held : (d : Digest) × (slice_get (known_to game q (got_of q h) (next_of s)).digests b ≡ Some d)
+      held = some_at (known_to game q (got_of q h) (next_of s)).digests b (let k = known in omega (arith, k, lt))
 
-      first : first_commit (got_of q h) f.resolved ≡ Some held.0
-      first = held_there game q f.resolved (got_of q h) s read lt ∙ held.1
+      first : first_commit (got_of q h) b ≡ Some held.0
+      first = held_there game q b (got_of q h) s read lt ∙ held.1
 
-      go : (c : Bool) → is_in (reveal_spots (kept_of index q f.resolved)) i ≡ c → HasCome game q (got_of q h) (record { commits = f.commits; resolved = f.resolved + 1 }) f.resolved new (true && c)
-      go true e = there_due game q (got_of q h) s held.0 new is player read next (sym held.1) (revealed game q f.resolved logs index w i h there plain track new held.0 first e led)
+      go : (c : Bool) → is_in (reveal_spots (kept_of index q b)) i ≡ c → ComeBy game q (got_of q h) a (b + 1) b new (true && c)
+      go true e = there_due game q (got_of q h) s held.0 new is player read next (sym held.1) (revealed game q b logs index w i h there plain track new held.0 first e led)
       go false e =
-          (s, read, still_due game q (got_of q h) s held.0 is player read next (sym held.1) (sym (ap (option_map (next_track game track)) (unrevealed game q f.resolved logs index w i h there plain track held.0 e))), omega arith)
-  come_reveal f most track new is player plain led le lt next false c e come = (come.0, come.1, come.2, (let l = come.3 in omega (arith, l, le)))
+          (s, read, still_due game q (got_of q h) s held.0 is player read next (sym held.1) (sym (ap (option_map (next_track game track)) (unrevealed game q b logs index w i h there plain track held.0 e))), omega arith)
+  come_reveal a b most track new is player plain led le lt next false c e come = (come.0, come.1, come.2, (let l = come.3 in omega (arith, l, le)))
 
-pub front_as : (game : Game) (q : ℕ) (logs : List (List Entry)) (first : List Bool) (a b c d most : ℕ) (x : Common) → a ≡ c → b ≡ d →
-    IsCommon game q logs first (record { commits = a; resolved = b }) most x → IsCommon game q logs first (record { commits = c; resolved = d }) most x
-front_as game q logs first a b c d most x e f is =
-    let at_commits : ℕ → Front = λ n. record { commits = n; resolved = b } in
-    let at_resolved : ℕ → Front = λ n. record { commits = c; resolved = n } in
-    subst (λ (g : Front). IsCommon game q logs first g most x) (ap at_commits e ∙ ap at_resolved f) is
+pub common_at : (game : Game) (q : ℕ) (logs : List (List Entry)) (first : List Bool) (a b most : ℕ) (x : Common) → a ≡ b → IsCommon game q logs first a most x → IsCommon game q logs first b most x
+common_at game q logs first a b most x e is = subst (λ (n : ℕ). IsCommon game q logs first n most x) e is
 
 -- one place further, in all logs
 module _ (game : Game) (q : ℕ) (logs : List (List Entry)) (index : IndexState) (w : IsIndex game logs index) (first : List Bool) where
@@ -285,27 +319,30 @@ module _ (game : Game) (q : ℕ) (logs : List (List Entry)) (index : IndexState)
   left_first spots old new left was i e = was i (and_parts (is_among old i) (is_in spots i) (sym (left i) ∙ e)).0
 
   pub common_commit : (a b most : ℕ) (old new : Common) → CommitIsRead (kept_of index q a) old new → most ≤ b → a < min (b + game.ahead) game.turns →
-      IsCommon game q logs first (record { commits = a; resolved = b }) most old → IsCommon game q logs first (record { commits = a + 1; resolved = b }) b new
-  common_commit a b most old new read le lt is = record {
+      IsOrderly game a b → IsCommon game q logs first (a + b) most old → IsCommon game q logs first (a + 1 + b) b new
+  common_commit a b most old new read le lt order is = record {
     come = λ i h there among.
-        subst (λ (x : Bool). HasCome game q (got_of q h) (record { commits = a + 1; resolved = b }) b new.track x) (sym (read.left i))
-        (subst (λ (tr : Track). HasCome game q (got_of q h) (record { commits = a + 1; resolved = b }) b tr (is_among old.chosen i && is_in (commit_spots (kept_of index q a)) i)) (sym read.track)
-        (come_commit game q logs index w i h there (record { commits = a; resolved = b }) most old.track read.plain le lt (is_among old.chosen i) (is_in (commit_spots (kept_of index q a)) i) refl (is.come i h there among)));
+        subst (λ (x : Bool). HasCome game q (got_of q h) (a + 1 + b) b new.track x) (sym (read.left i))
+        (subst (λ (tr : Track). HasCome game q (got_of q h) (a + 1 + b) b tr (is_among old.chosen i && is_in (commit_spots (kept_of index q a)) i)) (sym read.track)
+        (by_place game q (got_of q h) (a + 1) b b old.track (is_among old.chosen i && is_in (commit_spots (kept_of index q a)) i)
+        (come_commit game q logs index w i h there a b most old.track read.plain le lt (is_among old.chosen i) (is_in (commit_spots (kept_of index q a)) i) refl
+        (by_numbers game q (got_of q h) a b most old.track (is_among old.chosen i) order (is.come i h there among)))));
     of_first = left_first (commit_spots (kept_of index q a)) old.chosen new.chosen read.left is.of_first;
   }
 
   pub common_reveal : (a t most : ℕ) (old new : Common) → IsSession game → q < players_of game → RevealIsRead game q (kept_of index q t) old new → most ≤ t → t < a → (a < min (t + game.ahead) game.turns → ⊥) →
-      IsCommon game q logs first (record { commits = a; resolved = t }) most old → IsCommon game q logs first (record { commits = a; resolved = t + 1 }) t new
-  common_reveal a t most old new session player read le lt next is = record {
+      IsOrderly game a t → IsCommon game q logs first (a + t) most old → IsCommon game q logs first (a + (t + 1)) t new
+  common_reveal a t most old new session player read le lt next order is = record {
     come = λ i h there among.
-        subst (λ (x : Bool). HasCome game q (got_of q h) (record { commits = a; resolved = t + 1 }) t new.track x) (sym (read.left i))
-        (come_reveal game q logs index w i h there (record { commits = a; resolved = t }) most old.track new.track session player read.plain read.led le lt next
-        (is_among old.chosen i) (is_in (reveal_spots (kept_of index q t)) i) refl (is.come i h there among));
+        subst (λ (x : Bool). HasCome game q (got_of q h) (a + (t + 1)) t new.track x) (sym (read.left i))
+        (by_place game q (got_of q h) a (t + 1) t new.track (is_among old.chosen i && is_in (reveal_spots (kept_of index q t)) i)
+        (come_reveal game q logs index w i h there a t most old.track new.track session player read.plain read.led le lt next
+        (is_among old.chosen i) (is_in (reveal_spots (kept_of index q t)) i) refl (by_numbers game q (got_of q h) a t most old.track (is_among old.chosen i) order (is.come i h there among))));
     of_first = left_first (reveal_spots (kept_of index q t)) old.chosen new.chosen read.left is.of_first;
   }
 
   -- a wider bound
-  pub common_most : (f : Front) (m n : ℕ) (c : Common) → m ≤ n → IsCommon game q logs first f m c → IsCommon game q logs first f n c
+  pub common_most : (f : ℕ) (m n : ℕ) (c : Common) → m ≤ n → IsCommon game q logs first f m c → IsCommon game q logs first f n c
   common_most f m n c le is = record { come = λ i h there among. wide i h (is_among c.chosen i) (is.come i h there among); of_first = is.of_first }
     where
       wide : (i : ℕ) (h : List Entry) (b : Bool) → HasCome game q (got_of q h) f m c.track b → HasCome game q (got_of q h) f n c.track b
@@ -313,17 +350,16 @@ module _ (game : Game) (q : ℕ) (logs : List (List Entry)) (index : IndexState)
       wide i h false come = (come.0, come.1, come.2, (let l = come.3 in omega (arith, l, le)))
 
   -- where no log is left, none resolves the turn
-  pub none_goes_on : (f : Front) (t : ℕ) (c : Common) → IsSession game → q < players_of game → ((i : ℕ) → is_among c.chosen i ≡ false) → IsCommon game q logs first f t c → NoneGoesOn game q logs first t
+  pub none_goes_on : (f : ℕ) (t : ℕ) (c : Common) → IsSession game → q < players_of game → ((i : ℕ) → is_among c.chosen i ≡ false) → IsCommon game q logs first f t c → NoneGoesOn game q logs first t
   none_goes_on f t c session player none is u le i h there among =
       let come : HasCome game q (got_of q h) f t c.track false = subst (HasCome game q (got_of q h) f t c.track) (none i) (is.come i h there among) in
       let s = come.0 in
-      let stands : Stands game q (got_of q h) (record { commits = s.commits; resolved = s.resolved }) s = record { read = come.1; least = omega arith; at = inr come.2 } in
-      slice_get_past (got_known game q h).moves u (let n = ended_count game q h (record { commits = s.commits; resolved = s.resolved }) s session player stands come.2 in let m = come.3 in omega (arith, n, m, le))
+      slice_get_past (got_known game q h).moves u (let n = ended_count game q h (next_of s) s session player come.1 come.2 in let m = come.3 in omega (arith, n, m, le))
 
   -- the logs that are left resolve the turn by the move that is kept
   pub common_here : (a t most i : ℕ) (old new : Common) (m : Move) → IsSession game → q < players_of game → RevealIsRead game q (kept_of index q t) old new → is_among new.chosen i ≡ true → move_in (kept_of index q t) ≡ Some m →
-      IsCommon game q logs first (record { commits = a; resolved = t + 1 }) most new → IsCommonAt game q logs first t (Some m)
-  common_here a t most i old new m session player read among shows is = record {
+      IsOrderly game a (t + 1) → IsCommon game q logs first (a + (t + 1)) most new → IsCommonAt game q logs first t (Some m)
+  common_here a t most i old new m session player read among shows order is = record {
     each = λ j g there chosen. by j g there (move_of game q g t) refl;
     some = λ n e. one n e;
   }
@@ -339,21 +375,21 @@ module _ (game : Game) (q : ℕ) (logs : List (List Entry)) (index : IndexState)
           let k = reveals_among (kept_of index q t) x.0 x.1 in
           let r = got_there game q t logs index w k.0 x.0 k.1 k.3 in
           let there : slice_get logs i ≡ Some r.0 = ap (slice_get logs) (sym x.2) ∙ r.1 in
-          let come : HasCome game q (got_of q r.0) (record { commits = a; resolved = t + 1 }) most new.track true =
-          subst (HasCome game q (got_of q r.0) (record { commits = a; resolved = t + 1 }) most new.track) among (is.come i r.0 there (is.of_first i among)) in
+          let come : HasCome game q (got_of q r.0) (a + (t + 1)) most new.track true =
+          subst (HasCome game q (got_of q r.0) (a + (t + 1)) most new.track) among (is.come i r.0 there (is.of_first i among)) in
           let s : Stream = record { commits = a; resolved = t + 1; track = new.track } in
-          let stands : Stands game q (got_of q r.0) (record { commits = a; resolved = t + 1 }) s = record { read = come; least = omega arith; at = inl (refl, refl) } in
-          let long = resolves game q r.0 (record { commits = a; resolved = t + 1 }) s session player stands in
+          let stands : Stands game q (got_of q r.0) (a + (t + 1)) s = by_numbers game q (got_of q r.0) a (t + 1) most new.track true order come in
+          let long = resolves game q r.0 (a + (t + 1)) s session player stands in
           let mv = some_at (got_known game q r.0).moves t (omega (arith, long)) in
           (i, r.0, there, is.of_first i among, mv.1 ∙ sym (resolved_move game q t logs index w read.plain i r.0 mv.0 there mv.1) ∙ shows ∙ e)
 
 -- of no place
 pub common_none : (game : Game) (q : ℕ) (logs : List (List Entry)) (first : List Bool) (track : Track) → track ≡ start_track game q →
-    IsCommon game q logs first (record { commits = 0; resolved = 0 }) 0 (record { track = track; chosen = first })
+    IsCommon game q logs first 0 0 (record { track = track; chosen = first })
 common_none game q logs first track e = record { come = λ i h there among. by i h (is_among first i) among; of_first = λ i h. h }
   where
-    by : (i : ℕ) (h : List Entry) (b : Bool) → b ≡ true → HasCome game q (got_of q h) (record { commits = 0; resolved = 0 }) 0 track b
-    by i h true e' = read_from game q 0 (got_of q h) (record { commits = 0; resolved = 0; track = track }) (stream_none game q (got_of q h) track e)
+    by : (i : ℕ) (h : List Entry) (b : Bool) → b ≡ true → HasCome game q (got_of q h) 0 0 track b
+    by i h true e' = (record { commits = 0; resolved = 0; track = track }, stream_none game q (got_of q h) track e, refl, refl)
     by i h false e' = absurd (false≢true e')
 
 -- the turns before one

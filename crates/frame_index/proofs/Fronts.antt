@@ -1,52 +1,71 @@
 -- Fronts: the places that are read of a turn, in their order.
-use Rattle.std.proofs.Common.{Bool, List, ap, arith, refl, subst, sym, ℕ, ◌+◌, ◌<◌, ◌≤◌, ◌∙◌, ◌≡◌}
-use Rattle.std.specs.Prelude.{if◌then◌else◌, min}
-use Rattle.std.proofs.lemmas.Bool.{lt-ltb, le-ltb}
-use Rattle.definitions.specs.declared.logs.Entry.{Entry}
+use Rattle.std.proofs.Common.{ap, arith, inl, inr, refl, sym, ℕ, ◌+◌, ◌<◌, ◌≤◌, ◌∙◌, ◌≡◌, Option, Some, None}
+use Rattle.std.specs.Prelude.{min}
+use Rattle.std.proofs.lemmas.Bool.{cases_lt}
+use Rattle.definitions.specs.declared.frames.What.TheVariants.{Commit}
+use Rattle.definitions.specs.declared.places.Slot.{Slot}
 use Rattle.definitions.specs.World.{Game}
-use Rattle.frame_index.specs.declared.streams.Stream.{Stream}
-use Rattle.frame_index.specs.declared.heads.Front.{Front}
-use Rattle.frame_index.specs.Heads.{Stand, after_by, front_after, front_of, turn_next}
+use Rattle.definitions.specs.Places.{reveal_place, slot_at}
+use Rattle.definitions.proofs.Slots.{slot_of_commit, slot_of_reveal}
+use Rattle.definitions.proofs.Streams.{commit_place-below, reveal_place-below, slot_at-past}
+use Rattle.definition_laws.proofs.Order.{IsOrderly}
+use Rattle.grid_world.specs.Sessions.{IsSession}
+use Rattle.grid_world.proofs.Reveals.{at_commit}
+use Rattle.frame_index.specs.Heads.{front_of, past_commitment, past_slot, past_what, turn_at, turn_in}
 
-abbrev front_at : ℕ → ℕ → Front
-front_at a b = record { commits = a; resolved = b }
+-- what is read at a place, by the slot that stands there
+module _ (game : Game) (place : ℕ) (o : Option Slot) (at : o ≡ slot_at game place) where
+  pub past_none : o ≡ None → place ≡ past_commitment game place
+  past_none none = ap (λ (x : Option Slot). past_slot x place) (sym none ∙ at)
 
-front_from : (a b c d : ℕ) → a ≡ c → b ≡ d → front_at a b ≡ front_at c d
-front_from a b c d x y =
-    let at_commits : ℕ → Front = λ n. record { commits = n; resolved = b } in
-    let at_resolved : ℕ → Front = λ n. record { commits = c; resolved = n } in
-    ap at_commits x ∙ ap at_resolved y
+  pub past_some : (slot : Slot) → o ≡ Some slot → past_what slot.what place ≡ past_commitment game place
+  past_some slot some = ap (λ (x : Option Slot). past_slot x place) (sym some ∙ at)
 
--- after a commitment comes the place with one more
-after_commit : (game : Game) (a b : ℕ) → a < min (b + game.ahead) game.turns → front_after game (record { commits = a; resolved = b }) ≡ record { commits = a + 1; resolved = b }
-after_commit game a b lt = ap (λ (x : Bool). after_by x (record { commits = a; resolved = b })) (lt-ltb _ _ lt)
+  pub turn_is : (slot : Slot) → o ≡ Some slot → turn_at game place ≡ slot.turn
+  turn_is slot some = ap turn_in (sym at ∙ some)
 
-after_reveal : (game : Game) (a b : ℕ) → min (b + game.ahead) game.turns ≤ a → front_after game (record { commits = a; resolved = b }) ≡ record { commits = a; resolved = b + 1 }
-after_reveal game a b le = ap (λ (x : Bool). after_by x (record { commits = a; resolved = b })) (le-ltb _ _ le)
+-- before the first reveal there are commitments alone
+pub past_first : (game : Game) (place : ℕ) → IsSession game → place < min game.ahead game.turns → past_commitment game place ≡ place + 1
+past_first game place is lt = ap (λ (x : Option Slot). past_slot x place) (slot_of_commit game place place is.ahead.0 (omega arith) (omega arith))
 
-module _ (game : Game) (q : ℕ) (logs : List (List Entry)) (ss : List Stream) where
-  at_place : (f g : Front) → f ≡ g → Stand game q logs f ss → Stand game q logs g ss
-  at_place f g e stand = subst (λ (x : Front). Stand game q logs x ss) e stand
+module _ (game : Game) (t : ℕ) (is : IsSession game) (lt : t < game.turns) where
+  pub reveal_front : (place : ℕ) → place ≡ reveal_place game t → place ≡ front_of game t
+  reveal_front place at = let below = reveal_place-below game t lt in omega arith
 
-  pub past_first : (i : ℕ) → i < min game.ahead game.turns → Stand game q logs (front_after game (record { commits = i; resolved = 0 })) ss → Stand game q logs (record { commits = i + 1; resolved = 0 }) ss
-  past_first i lt stand = at_place _ _ (after_commit game i 0 (omega arith)) stand
+  pub turn_of_front : turn_at game (front_of game t) ≡ t
+  turn_of_front = ap turn_in (slot_of_reveal game t (front_of game t) is.ahead.0 lt (omega arith))
 
-  pub past_firsts : (i : ℕ) → i ≡ min game.ahead game.turns → Stand game q logs (record { commits = i; resolved = 0 }) ss → Stand game q logs (front_of game 0) ss
-  past_firsts i e stand = at_place _ _ (front_from _ _ _ _ (let all : i ≡ min (0 + game.ahead) game.turns = omega arith in all) refl) stand
+  -- after a turn's reveal comes a commitment, if one is left, and then the next turn's reveal
+  pub past_front : past_commitment game (front_of game t + 1) ≡ front_of game (t + 1)
+  past_front = elim (cases_lt (t + game.ahead) game.turns) [
+    | inl left ↦
+        let next : front_of game t + 1 + 1 ≡ front_of game (t + 1) = omega arith in
+        ap (λ (x : Option Slot). past_slot x (front_of game t + 1)) (slot_of_commit game (t + game.ahead) (front_of game t + 1) is.ahead.0 left (omega arith)) ∙ next
+    | inr all ↦
+        let next : front_of game t + 1 ≡ front_of game (t + 1) = omega arith in
+        elim (cases_lt (t + 1) game.turns) [
+          | inl later ↦ ap (λ (x : Option Slot). past_slot x (front_of game t + 1)) (slot_of_reveal game (t + 1) (front_of game t + 1) is.ahead.0 later (omega arith)) ∙ next
+          | inr end ↦ ap (λ (x : Option Slot). past_slot x (front_of game t + 1)) (slot_at-past game (front_of game t + 1) is.ahead.0 (omega arith)) ∙ next
+        ]
+  ]
 
-  module _ (t c : ℕ) (is : c ≡ min (t + game.ahead) game.turns) where
-    pub at_reveal : Stand game q logs (front_of game t) ss → Stand game q logs (record { commits = c; resolved = t }) ss
-    at_reveal stand = at_place _ _ (front_from _ _ _ _ (sym is) refl) stand
+  -- that commitment is of the first turn which is not committed
+  pub next_turn : (slot : Slot) (o : Option Slot) → o ≡ slot_at game (front_of game t + 1) → o ≡ Some slot → slot.what ≡ Commit →
+      (slot.turn ≡ min (t + game.ahead) game.turns) × (t + game.ahead < game.turns)
+  next_turn slot o at some what =
+      let ahead = is.ahead.0 in
+      let w = at_commit game (front_of game t + 1) o slot at some what in
+      let within = w.0 in
+      let there = w.1 in
+      let below = commit_place-below game slot.turn w.0 in
+      (omega arith, omega arith)
 
-    pub reveal_turn : turn_next game (record { commits = c; resolved = t }) ≡ t
-    reveal_turn = ap (λ (b : Bool). if b then c else t) (le-ltb _ _ (omega arith))
+-- the numbers of commitments and of reveals before these places
+pub first_orderly : (game : Game) (t : ℕ) → t ≤ min game.ahead game.turns → IsOrderly game t 0
+first_orderly game t le = record { within = omega arith; turns = omega arith; least = inl refl }
 
-    pub past_reveal : Stand game q logs (front_after game (record { commits = c; resolved = t })) ss → Stand game q logs (record { commits = c; resolved = t + 1 }) ss
-    past_reveal stand = at_place _ _ (after_reveal game c t (omega arith)) stand
+pub front_orderly : (game : Game) (t : ℕ) → t < game.turns → IsOrderly game (min (t + game.ahead) game.turns) t
+front_orderly game t lt = record { within = omega arith; turns = omega arith; least = inr (omega arith) }
 
-    pub past_commit : c < game.turns → Stand game q logs (front_after game (record { commits = c; resolved = t + 1 })) ss → Stand game q logs (front_of game (t + 1)) ss
-    past_commit lt stand =
-        at_place _ _ (after_commit game c (t + 1) (omega arith) ∙ front_from _ _ _ _ (let more : c + 1 ≡ min (t + 1 + game.ahead) game.turns = omega arith in more) refl) stand
-
-    pub past_last : game.turns ≤ c → Stand game q logs (record { commits = c; resolved = t + 1 }) ss → Stand game q logs (front_of game (t + 1)) ss
-    past_last le stand = at_place _ _ (front_from _ _ _ _ (let all : c ≡ min (t + 1 + game.ahead) game.turns = omega arith in all) refl) stand
+pub past_orderly : (game : Game) (t : ℕ) → t < game.turns → IsOrderly game (min (t + game.ahead) game.turns) (t + 1)
+past_orderly game t lt = record { within = omega arith; turns = omega arith; least = inr (omega arith) }

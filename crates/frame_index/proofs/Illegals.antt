@@ -23,17 +23,19 @@ use Rattle.definition_laws.proofs.LegalMoves.{illegal_after_track}
 use Rattle.definition_laws.proofs.Listing.{slice_get_front, take_front}
 use Rattle.grid_world.specs.Sessions.{IsSession}
 use Rattle.move_rules.specs.Verdicts.{verdict}
-use Rattle.frame_index.specs.declared.streams.Stream.{Stream}
+use Rattle.grid_world.specs.declared.streams.Stream.{Stream}
 use Rattle.frame_index.proofs.Opened.{refused_illegal}
 use Rattle.frame_index.proofs.StreamsShown.{held_there}
 use Rattle.frame_index.specs.declared.seen.Seen.{Seen}
-use Rattle.frame_index.specs.Heads.{Ends, IsAt, Stands, front_of}
+use Rattle.frame_index.specs.Heads.{Ends, Stands, front_of}
+use Rattle.frame_index.specs.Streams.{IsReadFrom}
 use Rattle.frame_index.specs.InLog.{NoneBelow, ShowsIn, is_bad, takes}
 use Rattle.frame_index.specs.Judged.{is_wrong, judged_by}
 use Rattle.frame_index.specs.Keeps.{Keeps, IsLeast, finding_by}
 use Rattle.frame_index.specs.Pairs.{in_order}
 use Rattle.frame_index.proofs.Come as C
-use Rattle.frame_index.proofs.Come.{length_more}
+use Rattle.frame_index.proofs.Come.{IsAt, length_more}
+use Rattle.frame_index.proofs.Headed.{stands_read}
 use Rattle.frame_index.proofs.InLog.{first_in_log}
 use Rattle.frame_index.proofs.Judging.{least_alike}
 use Rattle.frame_index.proofs.OfTurn.{commit_turn}
@@ -72,8 +74,14 @@ module _ (game : Game) (q t : ℕ) (h : List Entry) (s : Stream) (is : IsSession
   track : s.track ≡ track_after game q front.moves
   track = C.track game q h (front_of game t) s is player stands
 
+  read : IsReadFrom game q (got_of q h) s
+  read = stands_read game q (front_of game t) (got_of q h) s stands
+
+  at : (s.resolved ≤ t) × (IsAt game t s ⊎ Ends game q (got_of q h) s)
+  at = C.at_turn game q h (front_of game t) s is player stands t refl
+
   commits : s.commits ≡ length front.digests
-  commits = ap (λ (r : Stream). r.commits) stands.read
+  commits = ap (λ (r : Stream). r.commits) read
 
   -- where the stream has come to the turn, a frame is illegal where it opens the digest held and is not legal from the track
   here : (d : Digest) → s.resolved ≡ t → t < s.commits → first_commit (got_of q h) t ≡ Some d → (f : TurnFrame) →
@@ -89,14 +97,14 @@ module _ (game : Game) (q t : ℕ) (h : List Entry) (s : Stream) (is : IsSession
 
       digest : slice_get all.digests t ≡ Some d
       digest = ap (λ (xs : List Digest). slice_get xs t) begins.digests_are
-          ∙ slice_get_front front.digests begins.digests_after t d (sym (held_there game q t (got_of q h) s stands.read lt) ∙ first)
+          ∙ slice_get_front front.digests begins.digests_after t d (sym (held_there game q t (got_of q h) s read lt) ∙ first)
 
       reached : nat_le t (length all.moves) ≡ true
       reached = le-leb _ _ (let l = long in let m = ap length begins.moves_are in let n = length_more front.moves begins.moves_after in omega arith)
 
   -- else none is
   not_here : (s.resolved ≡ t → t < s.commits → ⊥) → (f : TurnFrame) → is_illegal_at game q t all f ≡ false
-  not_here never f = go stands.at
+  not_here never f = go at.1
     where
       none : (b : Bool) (o : Option Digest) (x : Bool) → (b ≡ false) ⊎ (o ≡ None) → (b && opens game f o && x) ≡ false
       none b o x (inl e) = ap (λ (y : Bool). y && opens game f o && x) e
@@ -110,7 +118,7 @@ module _ (game : Game) (q t : ℕ) (h : List Entry) (s : Stream) (is : IsSession
         where
           past : t ≤ s.resolved → length front.digests ≤ t
           past ge =
-              let least = stands.least in
+              let least = at.0 in
               let same : s.resolved ≡ t = omega arith in
               let c = commits in
               elim (cases_lt t s.commits) [
@@ -118,8 +126,8 @@ module _ (game : Game) (q t : ℕ) (h : List Entry) (s : Stream) (is : IsSession
                 | inr le ↦ omega arith
               ]
 
-      go : IsAt (front_of game t) s ⊎ Ends game q (got_of q h) s → is_illegal_at game q t all f ≡ false
-      go (inl at) = let c = at.0 in let one = is.ahead.0 in absurd (never at.1 (omega arith))
+      go : IsAt game t s ⊎ Ends game q (got_of q h) s → is_illegal_at game q t all f ≡ false
+      go (inl here) = let c = here.0 in let one = is.ahead.0 in absurd (never here.1 (omega arith))
       go (inr ends) = none _ _ _ (why (ended ends))
 
   module _ (logs : List (List Entry)) (log : ℕ) (kept : List Seen) (keeps : Keeps game q t logs kept) (there : slice_get logs log ≡ Some h) where

@@ -33,7 +33,7 @@ use Rattle.definition_laws.proofs.Nexts.{some_at}
 use Rattle.definition_laws.proofs.Sighted.{seen_is_sighting}
 use Rattle.definition_laws.proofs.Tracks.{track_from_append}
 use Rattle.grid_world.specs.Sessions.{IsSession}
-use Rattle.frame_index.specs.declared.streams.Stream.{Stream}
+use Rattle.grid_world.specs.declared.streams.Stream.{Stream}
 use Rattle.frame_index.proofs.StreamsShown.{stream_facts, stream_none}
 use Rattle.move_rules.specs.Verdicts.{judged as verdict_by, verdict}
 use Rattle.frame_index.specs.declared.seen.Seen.{Seen}

@@ -18,9 +18,10 @@ use Rattle.definition_laws.proofs.Knowing.{known_to_orderly, known_to_stuck, nex
 use Rattle.definition_laws.proofs.Tracks.{AreKnownLegal, known_to_legal, moves_open, track_from_append}
 use Rattle.grid_world.specs.Sessions.{IsSession}
 use Rattle.grid_world.proofs.Facts.{seat_open}
-use Rattle.frame_index.specs.declared.streams.Stream.{Stream}
+use Rattle.grid_world.specs.declared.streams.Stream.{Stream}
 use Rattle.frame_index.specs.Openings.{opening_at}
-use Rattle.frame_index.specs.Streams.{stream_of, places_of, IsCommitNext, IsReadFrom, IsStream}
+use Rattle.grid_world.specs.Streams.{next_of}
+use Rattle.frame_index.specs.Streams.{stream_of, IsCommitNext, IsReadFrom, IsStream}
 use Rattle.frame_index.proofs.Opened.{first_opening_at}
 
 -- where a player stands after the moves that are known of it is open
@@ -48,7 +49,7 @@ stream_facts game q n fs is lt =
     before (inl e) = omega arith
     before (inr e) = let one = is.ahead.0 in let turns = (known_to_orderly game q fs n).turns in omega arith
 
-stream_from : (s r : Stream) → s.commits ≡ r.commits → s.resolved ≡ r.resolved → s.track ≡ r.track → s ≡ r
+pub stream_from : (s r : Stream) → s.commits ≡ r.commits → s.resolved ≡ r.resolved → s.track ≡ r.track → s ≡ r
 stream_from s r a b c =
     let at_commits : ℕ → Stream = λ x. record { commits = x; resolved = s.resolved; track = s.track } in
     let at_resolved : ℕ → Stream = λ x. record { commits = r.commits; resolved = x; track = s.track } in
@@ -57,11 +58,11 @@ stream_from s r a b c =
 
 -- what holds of a stream that the frames show
 pub shown_facts : (game : Game) (q : ℕ) (fs : List TurnFrame) (s : Stream) → IsSession game → q < players_of game → IsReadFrom game q fs s → IsStream game s
-shown_facts game q fs s is lt shown = subst (λ (r : Stream). IsStream game r) (sym shown) (stream_facts game q (places_of s) fs is lt)
+shown_facts game q fs s is lt shown = subst (λ (r : Stream). IsStream game r) (sym shown) (stream_facts game q (next_of s) fs is lt)
 
 -- what the frames show of the places of this stream
 abbrev known_by : Game → ℕ → List TurnFrame → Stream → Known
-known_by game q fs s = known_to game q fs (places_of s)
+known_by game q fs s = known_to game q fs (next_of s)
 
 shown_commits : (game : Game) (q : ℕ) (fs : List TurnFrame) (s : Stream) → IsReadFrom game q fs s → s.commits ≡ length (known_by game q fs s).digests
 shown_commits game q fs s shown = ap (λ (r : Stream). r.commits) shown
@@ -72,11 +73,11 @@ shown_resolved game q fs s shown = ap (λ (r : Stream). r.resolved) shown
 shown_track : (game : Game) (q : ℕ) (fs : List TurnFrame) (s : Stream) → IsReadFrom game q fs s → s.track ≡ track_after game q (known_by game q fs s).moves
 shown_track game q fs s shown = ap (λ (r : Stream). r.track) shown
 
-shown_next : (game : Game) (q : ℕ) (fs : List TurnFrame) (s r : Stream) (l : Known) → next_known game q fs (known_by game q fs s) ≡ l → places_of r ≡ places_of s + 1 →
+shown_next : (game : Game) (q : ℕ) (fs : List TurnFrame) (s r : Stream) (l : Known) → next_known game q fs (known_by game q fs s) ≡ l → next_of r ≡ next_of s + 1 →
     r ≡ stream_of game q l → IsReadFrom game q fs r
 unfolding known_to
 shown_next game q fs s r l next place is =
-    let later : suc (places_of s) ≡ places_of r = omega arith in
+    let later : suc (next_of s) ≡ next_of r = omega arith in
     is ∙ ap (stream_of game q) (sym next) ∙ ap (λ n. stream_of game q (known_to game q fs n)) later
 
 -- the digest held of a turn is that of its first commitment
@@ -88,7 +89,7 @@ held_first game q n t fs lt = go (slice_get (known_to game q fs n).digests t) re
     go (Some d) e = (known_to_sound game q fs n).first t d e ∙ sym e
 
 pub held_there : (game : Game) (q t : ℕ) (fs : List TurnFrame) (s : Stream) → IsReadFrom game q fs s → t < s.commits → first_commit fs t ≡ slice_get (known_by game q fs s).digests t
-held_there game q t fs s shown lt = let commits = shown_commits game q fs s shown in held_first game q (places_of s) t fs (omega arith)
+held_there game q t fs s shown lt = let commits = shown_commits game q fs s shown in held_first game q (next_of s) t fs (omega arith)
 
 pub held_past : (game : Game) (q t : ℕ) (fs : List TurnFrame) (s : Stream) → IsReadFrom game q fs s → s.commits ≤ t → None ≡ slice_get (known_by game q fs s).digests t
 held_past game q t fs s shown le = let commits = shown_commits game q fs s shown in sym (slice_get_past (known_by game q fs s).digests t (omega arith))
@@ -195,15 +196,15 @@ known_to_there game q fs (suc n) = go (places_or_stuck game q fs n) (next_place_
 -- a stream of what is known of some places is read from the frames
 pub read_from : (game : Game) (q n : ℕ) (fs : List TurnFrame) (s : Stream) → s ≡ stream_of game q (known_to game q fs n) → IsReadFrom game q fs s
 read_from game q n fs s e =
-    e ∙ ap (stream_of game q) (known_to_there game q fs n) ∙ ap (λ (r : Stream). stream_of game q (known_to game q fs (places_of r))) (sym e)
+    e ∙ ap (stream_of game q) (known_to_there game q fs n) ∙ ap (λ (r : Stream). stream_of game q (known_to game q fs (next_of r))) (sym e)
 
 -- what the frames show of the places of a stream is what it stands for
-pub read_known : (game : Game) (q n : ℕ) (fs : List TurnFrame) (s : Stream) → s ≡ stream_of game q (known_to game q fs n) → known_to game q fs (places_of s) ≡ known_to game q fs n
-read_known game q n fs s e = ap (λ (x : Stream). known_to game q fs (places_of x)) e ∙ sym (known_to_there game q fs n)
+pub read_known : (game : Game) (q n : ℕ) (fs : List TurnFrame) (s : Stream) → s ≡ stream_of game q (known_to game q fs n) → known_to game q fs (next_of s) ≡ known_to game q fs n
+read_known game q n fs s e = ap (λ (x : Stream). known_to game q fs (next_of x)) e ∙ sym (known_to_there game q fs n)
 
 -- with one place more than are known
 pub read_next : (game : Game) (q n : ℕ) (fs : List TurnFrame) (s r : Stream) → s ≡ stream_of game q (known_to game q fs n) →
-    r ≡ stream_of game q (next_known game q fs (known_to game q fs (places_of s))) → r ≡ stream_of game q (known_to game q fs (n + 1))
+    r ≡ stream_of game q (next_known game q fs (known_to game q fs (next_of s))) → r ≡ stream_of game q (known_to game q fs (n + 1))
 unfolding known_to
 read_next game q n fs s r e f =
     let same = read_known game q n fs s e in
@@ -211,13 +212,13 @@ read_next game q n fs s r e f =
     f ∙ ap (λ (k : Known). stream_of game q (next_known game q fs k)) same ∙ ap (λ m. stream_of game q (known_to game q fs m)) later
 
 -- the stream with one place more is what the definition says of it
-pub read_step : (game : Game) (q : ℕ) (fs : List TurnFrame) (s r : Stream) → IsReadFrom game q fs r → places_of r ≡ places_of s + 1 →
-    r ≡ stream_of game q (next_known game q fs (known_to game q fs (places_of s)))
+pub read_step : (game : Game) (q : ℕ) (fs : List TurnFrame) (s r : Stream) → IsReadFrom game q fs r → next_of r ≡ next_of s + 1 →
+    r ≡ stream_of game q (next_known game q fs (known_to game q fs (next_of s)))
 unfolding known_to
-read_step game q fs s r is place = let later : places_of r ≡ suc (places_of s) = omega arith in is ∙ ap (λ n. stream_of game q (known_to game q fs n)) later
+read_step game q fs s r is place = let later : next_of r ≡ suc (next_of s) = omega arith in is ∙ ap (λ n. stream_of game q (known_to game q fs n)) later
 
 -- a stream is not longer than all turns
-pub shown_short : (game : Game) (q : ℕ) (fs : List TurnFrame) (s : Stream) → IsSession game → q < players_of game → IsReadFrom game q fs s → places_of s ≤ 2 * game.turns
+pub shown_short : (game : Game) (q : ℕ) (fs : List TurnFrame) (s : Stream) → IsSession game → q < players_of game → IsReadFrom game q fs s → next_of s ≤ 2 * game.turns
 shown_short game q fs s is lt shown =
     let facts = shown_facts game q fs s is lt shown in
     let before = facts.before in
@@ -230,8 +231,8 @@ pub shown_whole : (game : Game) (me q : ℕ) (h : List Entry) (s : Stream) → I
 unfolding known
 shown_whole game me q h s is lt shown still =
     let short = shown_short game q (frames_of me q h) s is lt shown in
-    let all : 2 * game.turns - places_of s + places_of s ≡ 2 * game.turns = omega arith in
-    shown ∙ ap (stream_of game q) (sym (known_to_stuck game q (frames_of me q h) (places_of s) (2 * game.turns - places_of s) still))
+    let all : 2 * game.turns - next_of s + next_of s ≡ 2 * game.turns = omega arith in
+    shown ∙ ap (stream_of game q) (sym (known_to_stuck game q (frames_of me q h) (next_of s) (2 * game.turns - next_of s) still))
     ∙ ap (λ n. stream_of game q (known_to game q (frames_of me q h) n)) all
 
 pub falls : (n a b : ℕ) → b ≡ a + 1 → b ≤ n → n - b < n - a

@@ -13,15 +13,15 @@ use Rattle.definitions.specs.Logs.{got_of, move_shown}
 use Rattle.definitions.specs.Moves.{is_legal, next_track, track_after}
 use Rattle.definitions.specs.World.{Game, is_open}
 use Rattle.definition_laws.specs.Members.{Has}
-use Rattle.frame_index.specs.declared.streams.Stream.{Stream}
+use Rattle.grid_world.specs.declared.streams.Stream.{Stream}
 use Rattle.frame_index.specs.Streams.{IsReadFrom}
-use Rattle.frame_index.specs.declared.heads.Front.{Front}
+use Rattle.grid_world.specs.Streams.{next_of}
 use Rattle.frame_index.specs.declared.kept.KeptFrame.{KeptFrame}
 use Rattle.frame_index.specs.declared.common.Common.{Common}
 use Rattle.frame_index.specs.declared.common.TurnRead.{TurnRead}
 use Rattle.frame_index.specs.declared.common.TurnRead.TheVariants.{Over, Shown, Unlike}
 use Rattle.frame_index.specs.Frames.{IndexState, IsIndex, kept_of}
-use Rattle.frame_index.specs.Heads.{Ends, front_of}
+use Rattle.frame_index.specs.Heads.{Ends, Stands, front_of}
 
 -- all have one digest, and there is one of each kind at most
 abbrev pub IsPlain : List KeptFrame → Type 0
@@ -70,13 +70,13 @@ abbrev pub AreLeft : List Bool → List Spot → List Bool → Type 0
 AreLeft old spots new = (i : ℕ) → is_among new i ≡ (is_among old i && is_in spots i)
 
 -- a log that still shows all places has come to this one with the track; another one has ended, with so many turns resolved at most
-abbrev pub HasCome : Game → ℕ → List TurnFrame → Front → ℕ → Track → Bool → Type 0
-HasCome game q fs f most track true = IsReadFrom game q fs (record { commits = f.commits; resolved = f.resolved; track = track })
-HasCome game q fs f most track false = (s : Stream) × IsReadFrom game q fs s × Ends game q fs s × (s.resolved ≤ most)
+abbrev pub HasCome : Game → ℕ → List TurnFrame → (place most : ℕ) → Track → Bool → Type 0
+HasCome game q fs place most track true = (s : Stream) × Stands game q fs place s × (next_of s ≡ place) × (s.track ≡ track)
+HasCome game q fs place most track false = (s : Stream) × IsReadFrom game q fs s × Ends game q fs s × (s.resolved ≤ most)
 
 -- so it is of each log that was chosen at first
-abbrev pub HaveCome : Game → ℕ → List (List Entry) → List Bool → Front → ℕ → Track → List Bool → Type 0
-HaveCome game q logs first f most track chosen = (i : ℕ) (h : List Entry) → slice_get logs i ≡ Some h → is_among first i ≡ true → HasCome game q (got_of q h) f most track (is_among chosen i)
+abbrev pub HaveCome : Game → ℕ → List (List Entry) → List Bool → (place most : ℕ) → Track → List Bool → Type 0
+HaveCome game q logs first place most track chosen = (i : ℕ) (h : List Entry) → slice_get logs i ≡ Some h → is_among first i ≡ true → HasCome game q (got_of q h) place most track (is_among chosen i)
 
 -- those that are chosen were so at first
 abbrev pub AreOfFirst : List Bool → List Bool → Type 0
@@ -96,8 +96,8 @@ abbrev pub AreCommon : Game → ℕ → List (List Entry) → List Bool → List
 AreCommon game q logs chosen moves = (t : ℕ) → t < game.turns → IsCommonAt game q logs chosen t (slice_get moves t)
 
 -- of the logs that were chosen at first, which have come so far, and which have not
-pub record IsCommon (game : Game) (q : ℕ) (logs : List (List Entry)) (first : List Bool) (f : Front) (most : ℕ) (c : Common) : Type 0 where
-  pub come : HaveCome game q logs first f most c.track c.chosen
+pub record IsCommon (game : Game) (q : ℕ) (logs : List (List Entry)) (first : List Bool) (place most : ℕ) (c : Common) : Type 0 where
+  pub come : HaveCome game q logs first place most c.track c.chosen
   pub of_first : AreOfFirst first c.chosen
 
 -- the turn's commitment was read of these frames

@@ -1,6 +1,6 @@
 //! The moves of a player of whom all logs show the same, turn by turn for all logs at once.
 
-ghost use Rattle.std.specs.Prelude.{◌≡◌, ◌<◌, ◌≤◌, ◌+◌, ℕ, Bool, List, false, true, length, IfNone, IfOk, IfSome, IsTrue, min};
+ghost use Rattle.std.specs.Prelude.{◌≡◌, ◌<◌, ◌≤◌, ◌+◌, ℕ, Bool, List, false, true, length, IfNone, IfOk, IfSome, IsTrue};
 ghost use Rattle.definitions.specs.declared.logs.Entry.{Entry};
 ghost use Rattle.definitions.specs.World.{is_open, players_of};
 ghost use Rattle.frame_index.specs.Frames as F;
@@ -12,7 +12,7 @@ use crate::kept::KeptFrame;
 use crate::limits::MOST_LOGS;
 use crate::plain::{is_plain, move_in, track_behind};
 use crate::short_spot::ShortSpot;
-use definitions::{Move, PlayerId, Track, Turn};
+use definitions::{Move, PlayerId, Track, Turn, What};
 use grid_world::Session;
 use move_rules::{Walker, start_track};
 use std::alloc::AllocError;
@@ -134,6 +134,8 @@ fn read_reveal(
 }
 
 /// Reads the commitments that come before the first reveal, and says whether their turns are plain.
+///
+/// Each stands at the place of its turn's number, since no reveal comes before it.
 fn read_first_commits(
     index: &FrameIndex,
     session: &Session,
@@ -141,11 +143,11 @@ fn read_first_commits(
     common: &mut Common,
 ) -> bool
     ensures track { common.new.track ≡ common.old.track }
-    ensures read { IsTrue result → (logs : List (List Entry)) (first : List Bool) → F.IsIndex session.now logs index.now → P.IsCommon session.now player logs first (record { commits = 0; resolved = 0 }) 0 common.old → P.IsCommon session.now player logs first (front_of session.now 0) 0 common.new }
+    ensures read { IsTrue result → (logs : List (List Entry)) (first : List Bool) → F.IsIndex session.now logs index.now → P.IsCommon session.now player logs first 0 0 common.old → P.IsCommon session.now player logs first (front_of session.now 0) 0 common.new }
 {
     session.facts();
-    for commits in 0..session.ahead().min(session.turns()) {
-        if !read_commit(index, player, commits, common) {
+    for turn in 0..session.reveal_place(0) {
+        if !read_commit(index, player, turn, common) {
             return false;
         }
     }
@@ -162,14 +164,16 @@ fn read_next_commit(
 ) -> bool
     requires { turn < session.now.turns }
     ensures track { common.new.track ≡ common.old.track }
-    ensures read { IsTrue result → (logs : List (List Entry)) (first : List Bool) → F.IsIndex session.now logs index.now → P.IsCommon session.now player logs first (record { commits = min (turn + session.now.ahead) session.now.turns; resolved = turn + 1 }) (turn + 1) common.old → P.IsCommon session.now player logs first (front_of session.now (turn + 1)) (turn + 1) common.new }
+    ensures read { IsTrue result → (logs : List (List Entry)) (first : List Bool) → F.IsIndex session.now logs index.now → P.IsCommon session.now player logs first (front_of session.now turn + 1) (turn + 1) common.old → P.IsCommon session.now player logs first (front_of session.now (turn + 1)) (turn + 1) common.new }
 {
     session.facts();
-    let commits = (turn + session.ahead()).min(session.turns());
-    if commits < session.turns() {
-        read_commit(index, player, commits, common)
-    } else {
-        true
+    let place = session.reveal_place(turn) + 1;
+    match session.slot_at(place) {
+        None => true,
+        Some(next) => match next.what {
+            What::Commit => read_commit(index, player, next.turn, common),
+            What::Reveal => true,
+        },
     }
 }
 

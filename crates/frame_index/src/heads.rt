@@ -1,6 +1,6 @@
 //! What each log shows of a player's stream, place by place.
 
-ghost use Rattle.std.specs.Prelude.{◌≡◌, ◌<◌, ◌≤◌, ◌+◌, List, Some, slice_get, IsTrue, IfSome, OnOk};
+ghost use Rattle.std.specs.Prelude.{◌≡◌, ◌<◌, ◌≤◌, ◌+◌, ◌*◌, List, Some, slice_get, IsTrue, IfSome, OnOk};
 ghost use Rattle.definitions.specs.declared.logs.Entry.{Entry};
 ghost use Rattle.definitions.specs.Logs.{got_of};
 ghost use Rattle.definitions.specs.World.{players_of, is_open};
@@ -15,41 +15,14 @@ use crate::in_log::first_commit_in;
 use crate::judged::first_opening;
 use crate::limits::MOST_LOGS;
 use crate::seen::Seen;
-use crate::streams::{Stream, start_stream};
-use definitions::{PlayerId, Turn};
-use grid_world::Session;
+use crate::streams::start_stream;
+use definitions::{Place, PlayerId, Turn, What};
+use grid_world::{Session, Stream};
 use move_rules::Walker;
 use std::alloc::AllocError;
 
 /// By the log's number: a player's stream as far as the log shows it, up to a place that all logs have come to.
 pub type Heads = [Stream; MOST_LOGS as usize];
-
-/// A place of a stream: how many commitments and how many reveals come before it.
-#[derive(Clone, Copy)]
-pub(crate) struct Front {
-    pub commits: u32,
-    pub resolved: u32,
-}
-
-/// Whether the place is that of a commitment.
-fn is_commitment_next(session: &Session, front: Front) -> bool
-    requires { front.resolved ≤ MOST_TURNS }
-    ensures { result ≡ H.is_commitment_next session.now front }
-{
-    front.commits < (front.resolved + session.ahead()).min(session.turns())
-}
-
-/// The turn of the place.
-fn turn_next(session: &Session, front: Front) -> Turn
-    requires { front.resolved ≤ MOST_TURNS }
-    ensures { result ≡ H.turn_next session.now front }
-{
-    if is_commitment_next(session, front) {
-        front.commits
-    } else {
-        front.resolved
-    }
-}
 
 /// The stream with the next commitment; none where the log didn't get it.
 fn next_commitment(
@@ -111,23 +84,27 @@ fn step(
     player: PlayerId,
     seen: &[Seen],
     log: u32,
-    front: Front,
+    place: Place,
     stream: &Stream,
 ) -> Stream
     requires player { player < players_of session.now }
     requires track { IsTrue (is_open session.now.grid stream.now.track.at) }
-    requires turn { front.resolved < session.now.turns }
-    ensures stands { (logs : List (List Entry)) (h : List Entry) → Keeps session.now player (H.turn_next session.now front) logs seen.now → slice_get logs log ≡ Some h → H.Stands session.now player (got_of player h) front stream.now → H.Stands session.now player (got_of player h) (H.front_after session.now front) result }
+    requires place { place < 2 * session.now.turns }
+    ensures stands { (logs : List (List Entry)) (h : List Entry) → Keeps session.now player (H.turn_at session.now place) logs seen.now → slice_get logs log ≡ Some h → H.Stands session.now player (got_of player h) place stream.now → H.Stands session.now player (got_of player h) (place + 1) result }
     ensures track { IsTrue (is_open session.now.grid result.track.at) }
 {
     session.facts();
-    if stream.commits != front.commits || stream.resolved != front.resolved {
+    if !stream.is_at(place) {
         return *stream;
     }
-    if is_commitment_next(session, front) {
-        next_commitment(session, player, seen, log, stream).unwrap_or(*stream)
-    } else {
-        next_reveal(session, walker, player, seen, log, stream).unwrap_or(*stream)
+    match stream.slot(session) {
+        None => *stream,
+        Some(next) => match next.what {
+            What::Commit => next_commitment(session, player, seen, log, stream).unwrap_or(*stream),
+            What::Reveal => {
+                next_reveal(session, walker, player, seen, log, stream).unwrap_or(*stream)
+            }
+        },
     }
 }
 
@@ -137,18 +114,18 @@ fn step_all(
     walker: &mut Walker,
     player: PlayerId,
     seen: &[Seen],
-    front: Front,
+    place: Place,
     heads: &mut Heads,
 )
     requires player { player < players_of session.now }
-    requires turn { front.resolved < session.now.turns }
+    requires place { place < 2 * session.now.turns }
     requires tracks { H.AreOpen session.now heads.old }
     ensures tracks { H.AreOpen session.now heads.new }
-    ensures stand { (logs : List (List Entry)) → Keeps session.now player (H.turn_next session.now front) logs seen.now → H.Stand session.now player logs front heads.old → H.Stand session.now player logs (H.front_after session.now front) heads.new }
+    ensures stand { (logs : List (List Entry)) → Keeps session.now player (H.turn_at session.now place) logs seen.now → H.Stand session.now player logs place heads.old → H.Stand session.now player logs (place + 1) heads.new }
 {
     for log in 0..MOST_LOGS {
         let stream = heads[log as usize];
-        heads[log as usize] = step(session, walker, player, seen, log, front, &stream);
+        heads[log as usize] = step(session, walker, player, seen, log, place, &stream);
     }
 }
 
@@ -156,32 +133,39 @@ fn step_all(
 pub fn start_heads(session: &Session, player: PlayerId) -> Heads
     requires { player < players_of session.now }
     ensures tracks { H.AreOpen session.now result }
-    ensures stand { (logs : List (List Entry)) → H.Stand session.now player logs (record { commits = 0; resolved = 0 }) result }
+    ensures stand { (logs : List (List Entry)) → H.Stand session.now player logs 0 result }
 {
     session.facts();
     [start_stream(session, player); MOST_LOGS as usize]
 }
 
-/// Reads the place in all logs.
-fn read_place(
+/// Reads the place in all logs where it is that of a commitment, and leaves it where it isn't.
+fn read_commitment(
     index: &FrameIndex,
     session: &Session,
     walker: &mut Walker,
     player: PlayerId,
-    front: Front,
+    place: Place,
     seen: &mut Vec<Seen>,
     heads: &mut Heads,
 ) -> Result<(), AllocError>
     requires player { player < players_of session.now }
-    requires turn { front.resolved < session.now.turns }
     requires tracks { H.AreOpen session.now heads.old }
     ensures tracks { H.AreOpen session.now heads.new }
-    ensures stand { OnOk result ((logs : List (List Entry)) → F.IsIndex session.now logs index.now → H.Stand session.now player logs front heads.old → H.Stand session.now player logs (H.front_after session.now front) heads.new) }
+    ensures stand { OnOk result ((logs : List (List Entry)) → F.IsIndex session.now logs index.now → H.Stand session.now player logs place heads.old → H.Stand session.now player logs (H.past_commitment session.now place) heads.new) }
 {
     session.facts();
-    index.gather(player, turn_next(session, front), seen)?;
-    step_all(session, walker, player, seen, front, heads);
-    Ok(())
+    let Some(slot) = session.slot_at(place) else {
+        return Ok(());
+    };
+    match slot.what {
+        What::Reveal => Ok(()),
+        What::Commit => {
+            index.gather(player, slot.turn, seen)?;
+            step_all(session, walker, player, seen, place, heads);
+            Ok(())
+        }
+    }
 }
 
 /// Reads the commitments that come before the first reveal. `seen` is room for what is kept of a turn, and an error comes where
@@ -197,15 +181,11 @@ pub fn read_first(
     requires player { player < players_of session.now }
     requires tracks { H.AreOpen session.now heads.old }
     ensures tracks { H.AreOpen session.now heads.new }
-    ensures stand { OnOk result ((logs : List (List Entry)) → F.IsIndex session.now logs index.now → H.Stand session.now player logs (record { commits = 0; resolved = 0 }) heads.old → H.Stand session.now player logs (H.front_of session.now 0) heads.new) }
+    ensures stand { OnOk result ((logs : List (List Entry)) → F.IsIndex session.now logs index.now → H.Stand session.now player logs 0 heads.old → H.Stand session.now player logs (H.front_of session.now 0) heads.new) }
 {
     session.facts();
-    for commits in 0..session.ahead().min(session.turns()) {
-        let front = Front {
-            commits,
-            resolved: 0,
-        };
-        read_place(index, session, walker, player, front, seen, heads)?;
+    for place in 0..session.reveal_place(0) {
+        read_commitment(index, session, walker, player, place, seen, heads)?;
     }
     Ok(())
 }
@@ -228,18 +208,7 @@ pub fn read_turn(
     ensures stand { OnOk result ((logs : List (List Entry)) → F.IsIndex session.now logs index.now → Keeps session.now player turn logs seen.old.items → H.Stand session.now player logs (H.front_of session.now turn) heads.old → H.Stand session.now player logs (H.front_of session.now (turn + 1)) heads.new) }
 {
     session.facts();
-    let commits = (turn + session.ahead()).min(session.turns());
-    let front = Front {
-        commits,
-        resolved: turn,
-    };
-    step_all(session, walker, player, seen, front, heads);
-    if commits < session.turns() {
-        let front = Front {
-            commits,
-            resolved: turn + 1,
-        };
-        read_place(index, session, walker, player, front, seen, heads)?;
-    }
-    Ok(())
+    let place = session.reveal_place(turn);
+    step_all(session, walker, player, seen, place, heads);
+    read_commitment(index, session, walker, player, place + 1, seen, heads)
 }

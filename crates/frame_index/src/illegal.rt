@@ -18,9 +18,8 @@ use crate::judged::least_wrong;
 use crate::least::in_order;
 use crate::limits::MOST_LOGS;
 use crate::seen::Seen;
-use crate::streams::Stream;
 use definitions::{PlayerId, Spot, Turn};
-use grid_world::Session;
+use grid_world::{Session, Stream};
 use move_rules::Walker;
 
 /// The spots of the log's first commitment of the turn and of its first reveal that opens it and isn't legal, if it has both.

@@ -44,4 +44,3 @@ pub use heads::{Heads, read_first, read_turn, start_heads};
 pub use limits::MOST_LOGS;
 pub use listing::findings;
 pub use seen::Seen;
-pub use streams::Stream;

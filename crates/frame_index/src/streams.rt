@@ -6,19 +6,9 @@ ghost use Rattle.definitions.specs.declared.frames.TurnFrame.{TurnFrame};
 ghost use Rattle.definitions.specs.Held.{known_to};
 ghost use Rattle.frame_index.specs.Streams.{stream_of};
 
-use definitions::{PlayerId, Track};
-use grid_world::Session;
+use definitions::PlayerId;
+use grid_world::{Session, Stream};
 use move_rules::start_track;
-
-/// What a log shows of a player's stream: how many commitments are held, how many turns are resolved, and the track after
-/// these. The commitments are those of the first turns; they go at most as many turns past those resolved as players commit
-/// ahead.
-#[derive(Clone, Copy, Debug, PartialEq, Eq)]
-pub struct Stream {
-    pub commits: u32,
-    pub resolved: u32,
-    pub track: Track,
-}
 
 /// The stream of which no place is there.
 pub fn start_stream(session: &Session, q: PlayerId) -> Stream

@@ -6,6 +6,7 @@ pub mod Found
 pub mod Printed
 pub mod Later
 pub mod Reveals
+pub mod NextSlots
 pub mod Rows
 pub mod Steps
 pub mod Loops

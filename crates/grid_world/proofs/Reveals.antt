@@ -67,10 +67,10 @@ abbrev slot_with : What → ℕ → Slot
 slot_with w t = record { what = w; turn = t }
 
 -- the turn of a commitment's slot, and that of a reveal's
-at_commit : (game : Game) (place : ℕ) (o : Option Slot) (s : Slot) → o ≡ slot_at game place → o ≡ Some s → s.what ≡ Commit → (s.turn < game.turns) × (commit_place game s.turn ≡ place)
+pub at_commit : (game : Game) (place : ℕ) (o : Option Slot) (s : Slot) → o ≡ slot_at game place → o ≡ Some s → s.what ≡ Commit → (s.turn < game.turns) × (commit_place game s.turn ≡ place)
 at_commit game place o s at e what = slot_at_commit_is game place s.turn (sym at ∙ e ∙ ap (λ (w : What). Some (slot_with w s.turn)) what)
 
-at_reveal : (game : Game) (place : ℕ) (o : Option Slot) (s : Slot) → o ≡ slot_at game place → o ≡ Some s → s.what ≡ Reveal → (s.turn < game.turns) × (reveal_place game s.turn ≡ place)
+pub at_reveal : (game : Game) (place : ℕ) (o : Option Slot) (s : Slot) → o ≡ slot_at game place → o ≡ Some s → s.what ≡ Reveal → (s.turn < game.turns) × (reveal_place game s.turn ≡ place)
 at_reveal game place o s at e what = slot_at_reveal_is game place s.turn (sym at ∙ e ∙ ap (λ (w : What). Some (slot_with w s.turn)) what)
 
 pub commit_turn_below : (game : Game) (place : ℕ) (o : Option Slot) (s : Slot) → o ≡ slot_at game place → o ≡ Some s → s.what ≡ Commit → s.turn ≤ place

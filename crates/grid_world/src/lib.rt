@@ -6,8 +6,9 @@
 //! and gives a [`Session`], which contracts see as a `Game` of the crate `definitions`. It promises that a text reads as
 //! exactly one session, that every text of a session is read unless memory runs out, and that a text which is none is
 //! refused with its first faulty line and that line's first broken rule. [`upgraded`] makes a session of version 1 one of
-//! version 2. A session also tells the places of a player's frames in its stream, and which frame stands at a place. The
-//! crate takes memory from the allocator that it is given, and touches nothing else.
+//! version 2. A session also tells the places of a player's frames in its stream, and which frame stands at a place.
+//! A [`Stream`] says how much of a player's stream is known, and which frame stands next in it.
+//! The crate takes memory from the allocator that it is given, and touches nothing else.
 #![tactic(auto)]
 
 mod fault;
@@ -19,6 +20,7 @@ mod printing;
 mod reading;
 mod rules;
 mod session;
+mod streams;
 mod upgrade;
 
 pub use definitions::{Cell, FramePlace, Place, PlayerId, SessionRule, Slot, Turn};
@@ -28,4 +30,5 @@ pub use printing::print_session;
 pub use reading::read_session;
 pub use rules::Rules;
 pub use session::Session;
+pub use streams::Stream;
 pub use upgrade::upgraded;

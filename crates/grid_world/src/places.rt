@@ -10,7 +10,7 @@ use definitions::limits::WINDOW;
 use definitions::{FramePlace, Place, PlayerId, Slot, Turn, TurnFrame, What};
 
 /// The slot of a turn's commitment.
-fn commitment_of(turn: Turn) -> Option<Slot>
+pub(crate) fn commitment_of(turn: Turn) -> Option<Slot>
     ensures { result ≡ Some (record { what = What.Commit; turn = turn }) }
 {
     Some(Slot {
@@ -20,7 +20,7 @@ fn commitment_of(turn: Turn) -> Option<Slot>
 }
 
 /// The slot of a turn's reveal.
-fn reveal_of(turn: Turn) -> Option<Slot>
+pub(crate) fn reveal_of(turn: Turn) -> Option<Slot>
     ensures { result ≡ Some (record { what = What.Reveal; turn = turn }) }
 {
     Some(Slot {

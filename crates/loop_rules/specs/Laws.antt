@@ -168,8 +168,8 @@ ReceiptsStandBehind = (s : Setting) (items : List Item) (q : ℕ) (f : TurnFrame
 abbrev pub IsReceivedIn : Setting → List Item → (q t : ℕ) → Digest → Type 0
 IsReceivedIn s items q t d = Has s.over (Got q (F.Commit q t d)) ⊎ IsBrought s items (F.Commit q t d)
 
--- An own reveal that may be given stands in the log kept, behind these entries, and for each other player whose sphere met the own one by them
--- the commitment held is one that was received before.
+-- An own reveal that may be given stands in the log kept, after these entries. By them, of each other
+-- player whose sphere met the own one a commitment to that turn is held, which was received before.
 pub record IsFair (s : Setting) (items : List Item) (t : ℕ) (m : Move) (n : Nonce) : Type 0 where
   pub before : List Entry
   pub rest : List Entry

@@ -66,8 +66,9 @@ MovesLegally b player moves log = may_choose b.game player log ≡ true → is_l
 abbrev pub log_kept : Peering → Seating → List Item → List Entry
 log_kept p s items = (view_of (given_by (loop_start p s).peer s.roster) items).kept
 
--- The files give something to play by, no call of the log, of listening or of polling failed, the log kept has no finding, and the own move is
--- legal where one is to be chosen. What links do, or dials, changes none of this.
+-- The files give something to play by, no call of the log, of listening or of polling failed, the
+-- log kept has no finding, and the own move is legal where one is to be chosen. Links that fail and
+-- dials that nobody answers don't matter here.
 pub record IsGoodMatch (p : Peering) (due : Result Seating Status) (items : List Item) : Type 0 where
   pub seating : Seating
   pub due_is : due ≡ Ok seating
@@ -88,7 +89,7 @@ peer_cause due status = Found due
 pub record IsLasting : Type 0 where
   -- whenever the run is stopped, and whatever a crash leaves of its log, the player goes on from that and has all that it gave
   pub crashes : CrashesAreSurvived
-  -- and until the first sync it gave nothing
+  -- and until the first sync it gave no byte of an own frame
   pub unsynced : NothingIsGivenUnsynced
 
 abbrev pub peer_law : Peering → Law

@@ -13,7 +13,7 @@ use Rattle.reveal_check.specs.declared.judging.Verdict.TheVariants as V
 use Rattle.reveal_check.specs.Judgements.{by_rules}
 use Rattle.peer_window.specs.declared.received.Received.{Received}
 use Rattle.definitions.specs.declared.findings.Finding.{Finding}
-use Rattle.peer_window.specs.declared.walk.Reach.{Reach}
+use Rattle.grid_world.specs.declared.streams.Stream.{Stream}
 use Rattle.peer_window.specs.declared.walk.Step.{Step}
 use Rattle.peer_window.specs.declared.walk.Step.TheVariants.{Halt}
 use Rattle.peer_window.specs.Clashes.{is_of, same_digest}
@@ -47,7 +47,7 @@ alone_halts game track g (Commit p t d) = refl
 alone_halts game track g (Reveal p t m n) = refl
 
 -- in the turn of the bad opening nothing leads on
-pub bad_halts : (game : Game) (ss : List (Option Received)) (bad : Option Finding) (at : Reach) (b : Bool) → AgreeBut game ss bad → b ≡ is_of bad at.resolved → b ≡ true → Halt ≡ turn_step game ss at
+pub bad_halts : (game : Game) (ss : List (Option Received)) (bad : Option Finding) (at : Stream) (b : Bool) → AgreeBut game ss bad → b ≡ is_of bad at.resolved → b ≡ true → Halt ≡ turn_step game ss at
 bad_halts game ss bad at b agree test holds = go (slot ss (2 * at.resolved)) refl (slot ss (2 * at.resolved + 1)) refl
   where
     go : (x : Option Received) → slot ss (2 * at.resolved) ≡ x → (y : Option Received) → slot ss (2 * at.resolved + 1) ≡ y → Halt ≡ slot_step game at.track x y
@@ -56,7 +56,7 @@ bad_halts game ss bad at b agree test holds = go (slot ss (2 * at.resolved)) ref
     go (Some c) e (Some g) f = sym (digests_step game at.track c g false g.frame refl (agree at.resolved c g e f ∙ ap not (sym test ∙ holds)))
 
 -- in another turn the move decides
-pub move_decides : (game : Game) (ss : List (Option Received)) (bad : Option Finding) (at : Reach) (b : Bool) (before : Option Received) (g : Received) (step : Step) → AgreeBut game ss bad → b ≡ is_of bad at.resolved → b ≡ false →
+pub move_decides : (game : Game) (ss : List (Option Received)) (bad : Option Finding) (at : Stream) (b : Bool) (before : Option Received) (g : Received) (step : Step) → AgreeBut game ss bad → b ≡ is_of bad at.resolved → b ≡ false →
     before ≡ slot ss (2 * at.resolved) → Some g ≡ slot ss (2 * at.resolved + 1) → step ≡ opened_step game at.track before g g.frame → step ≡ turn_step game ss at
 move_decides game ss bad at b before g step agree test fails before_is there step_is =
     step_is ∙ ap (λ (x : Option Received). opened_step game at.track x g g.frame) before_is ∙ go (slot ss (2 * at.resolved)) refl ∙ ap (slot_step game at.track (slot ss (2 * at.resolved))) there

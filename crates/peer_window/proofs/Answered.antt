@@ -17,7 +17,7 @@ use Rattle.peer_window.specs.declared.received.Received.{Received}
 use Rattle.definitions.specs.declared.findings.Finding.{Finding}
 use Rattle.peer_window.specs.declared.received.Offer.{Offer}
 use Rattle.peer_window.specs.declared.received.Offer.TheVariants.{Same, Far}
-use Rattle.peer_window.specs.declared.walk.Reach.{Reach}
+use Rattle.grid_world.specs.declared.streams.Stream.{Stream}
 use Rattle.peer_window.specs.Clashes.{first_clash}
 use Rattle.peer_window.specs.Slots.{AreSlots, frames_in, in_order, slot_of, slot}
 use Rattle.peer_window.specs.Windows.{IsHeld, IsWindow, Seen, answer, frames_after, is_far, is_same, new_answer, seen_of, with_frame}
@@ -39,7 +39,7 @@ pub frames_alone : (ss : List (Option Received)) (rival : Option Received) → r
 frames_alone ss rival e = ap (λ (o : Option Received). in_order ss ++ option_to_list o) e ∙ append_nil (in_order ss)
 
 -- what a window without a rival says of its slots
-pub window_held : (game : Game) (q : ℕ) (ss : List (Option Received)) (rival : Option Received) (closed : Bool) (at : Reach) → rival ≡ None → AreSlots q ss at.commits at.resolved → IsWindow game (seen_of q ss rival closed at) → IsHeld game q ss at
+pub window_held : (game : Game) (q : ℕ) (ss : List (Option Received)) (rival : Option Received) (closed : Bool) (at : Stream) → rival ≡ None → AreSlots q ss at.commits at.resolved → IsWindow game (seen_of q ss rival closed at) → IsHeld game q ss at
 window_held game q ss rival closed at e slots w = record {
   player = w.player;
   places = w.places;
@@ -48,7 +48,7 @@ window_held game q ss rival closed at e slots w = record {
   leads = w.track;
 }
 
-pub window_clean : (game : Game) (q : ℕ) (ss : List (Option Received)) (rival : Option Received) (closed : Bool) (at : Reach) → rival ≡ None → closed ≡ false → IsWindow game (seen_of q ss rival closed at) →
+pub window_clean : (game : Game) (q : ℕ) (ss : List (Option Received)) (rival : Option Received) (closed : Bool) (at : Stream) → rival ≡ None → closed ≡ false → IsWindow game (seen_of q ss rival closed at) →
     first_clash game q (in_order ss) ≡ None
 window_clean game q ss rival closed at e f w = ap (first_clash game q) (sym (frames_alone ss rival e)) ∙ w.clean f
 

@@ -22,7 +22,7 @@ use Rattle.reveal_check.specs.declared.judging.Verdict.TheVariants as V
 use Rattle.reveal_check.specs.Judgements.{by_rules}
 use Rattle.peer_window.specs.declared.received.Received.{Received}
 use Rattle.definitions.specs.declared.findings.Finding.{Finding}
-use Rattle.peer_window.specs.declared.walk.Reach.{Reach}
+use Rattle.grid_world.specs.declared.streams.Stream.{Stream}
 use Rattle.peer_window.specs.declared.walk.Step.{Step}
 use Rattle.peer_window.specs.declared.walk.Step.TheVariants.{Committed, Resolved, Halt, Illegal}
 use Rattle.peer_window.specs.Clashes.{clash_in, finding_by, first_clash, same_digest}
@@ -51,7 +51,7 @@ some_not : (x : Finding) → Some x ≡ None → ⊥
 some_not x h = cc
 
 -- in a window without a clash the next frame's slot is empty
-pub next_empty : (game : Game) (q : ℕ) (ss : List (Option Received)) (at : Reach) → IsSession game → IsHeld game q ss at → first_clash game q (in_order ss) ≡ None → slot ss (next_slot game at) ≡ None
+pub next_empty : (game : Game) (q : ℕ) (ss : List (Option Received)) (at : Stream) → IsSession game → IsHeld game q ss at → first_clash game q (in_order ss) ≡ None → slot ss (next_slot game at) ≡ None
 unfolding first_clash digest_of
 next_empty game q ss at is h clean = elim (cases_lt at.commits (min (at.resolved + game.ahead) game.turns)) [
   | inl lt ↦ ap (slot ss) (commit_next game at lt) ∙ commits lt (slot ss (2 * at.commits)) refl

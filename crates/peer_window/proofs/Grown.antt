@@ -13,9 +13,9 @@ use Rattle.definitions.specs.Held.{Known, known_to, next_known, places_in}
 use Rattle.definition_laws.proofs.Knowing.{known_from}
 use Rattle.definition_laws.proofs.Windows.{before_known, stuck_whole}
 use Rattle.peer_window.specs.declared.received.Received.{Received}
-use Rattle.peer_window.specs.declared.walk.Reach.{Reach}
+use Rattle.grid_world.specs.declared.streams.Stream.{Stream}
 use Rattle.peer_window.specs.Slots.{AreSlots, digest_in, digests_to, frames_in, in_order, move_in, moves_to, slot_of, shown, slot}
-use Rattle.peer_window.specs.Steps.{IsReach, IsWalked}
+use Rattle.peer_window.specs.Steps.{IsThere, IsWalked}
 use Rattle.peer_window.specs.Windows.{IsHeld}
 use Rattle.peer_window.proofs.Lookups.{count_places}
 use Rattle.peer_window.proofs.Ordered.{AllBefore, in_order_set}
@@ -85,9 +85,9 @@ pub frames_append : (rs : List Received) (r : Received) → frames_in (rs ++ r �
 frames_append rs r = map-append (λ x. x.frame) rs (r ∷ [])
 
 -- what was there before is there still
-pub reach_kept : (game : Game) (q p : ℕ) (ss : List (Option Received)) (r : Received) (at : Reach) → IsHeld game q ss at → p < length ss → slot ss p ≡ None → AllBefore r.entry (in_order ss) →
-    IsReach game q (set ss p (Some r)) at
-reach_kept game q p ss r at w lt none later =
+pub stream_kept : (game : Game) (q p : ℕ) (ss : List (Option Received)) (r : Received) (at : Stream) → IsHeld game q ss at → p < length ss → slot ss p ≡ None → AllBefore r.entry (in_order ss) →
+    IsThere game q (set ss p (Some r)) at
+stream_kept game q p ss r at w lt none later =
     let kept = shown_kept q at.commits at.resolved p ss r w.slots none in
     let places : places_in (known_to game q (frames_in (in_order ss)) (2 * game.turns)) ≡ at.commits + at.resolved = ap places_in w.known ∙ sym (count_places q at.commits at.resolved ss (shown ss at.commits at.resolved) refl w.slots) in
     let frames : frames_in (in_order (set ss p (Some r))) ≡ frames_in (in_order ss) ++ r.frame ∷ [] = ap frames_in (in_order_set ss p r lt none later) ∙ frames_append (in_order ss) r in
@@ -99,14 +99,14 @@ reach_kept game q p ss r at w lt none later =
     }
 
 -- what the walk came to is all that is known
-pub walked_held : (game : Game) (q p : ℕ) (ss : List (Option Received)) (r : Received) (at to : Reach) → IsHeld game q ss at → AreSlots q (set ss p (Some r)) to.commits to.resolved → IsWalked game q (set ss p (Some r)) to →
+pub walked_held : (game : Game) (q p : ℕ) (ss : List (Option Received)) (r : Received) (at to : Stream) → IsHeld game q ss at → AreSlots q (set ss p (Some r)) to.commits to.resolved → IsWalked game q (set ss p (Some r)) to →
     IsHeld game q (set ss p (Some r)) to
 walked_held game q p ss r at to h slots walked = record {
   player = h.player;
   places = length-set ss p (Some r) ∙ h.places;
   slots = slots;
   known = stuck_whole game q (frames_in (in_order (set ss p (Some r)))) (to.commits + to.resolved)
-      (ap (next_known game q (frames_in (in_order (set ss p (Some r))))) walked.reach.known ∙ walked.whole ∙ sym walked.reach.known)
-      ∙ walked.reach.known;
-  leads = walked.reach.track;
+      (ap (next_known game q (frames_in (in_order (set ss p (Some r))))) walked.stream.known ∙ walked.whole ∙ sym walked.stream.known)
+      ∙ walked.stream.known;
+  leads = walked.stream.track;
 }

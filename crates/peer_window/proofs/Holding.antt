@@ -19,7 +19,7 @@ use Rattle.grid_world.specs.Sessions.{IsSession}
 use Rattle.peer_window.specs.declared.received.Received.{Received}
 use Rattle.definitions.specs.declared.findings.Finding.{Finding}
 use Rattle.peer_window.specs.declared.received.Offer.{Offer}
-use Rattle.peer_window.specs.declared.walk.Reach.{Reach}
+use Rattle.grid_world.specs.declared.streams.Stream.{Stream}
 use Rattle.peer_window.specs.Clashes.{clash_in, finding_by, first_clash, illegal_clash, is_of, lower_clash, opening_clash, same_digest}
 use Rattle.peer_window.specs.Steps.{AgreeBut, frame_step, illegal_at, illegal_in, judged_step, reveal_step, slot_step}
 use Rattle.peer_window.specs.Slots.{AreSlots, in_order, other_slot, slot_of, slot}
@@ -31,7 +31,7 @@ use Rattle.peer_window.proofs.Pairs.{digest_sym, none_range, or_none, range_at, 
 use Rattle.peer_window.proofs.Turns.{clash_same, end_clash, end_here, end_none, pair_clash, turn_value}
 
 -- in a window without a clash the frames of a turn agree
-pub pairs_agree : (game : Game) (q t : ℕ) (ss : List (Option Received)) (at : Reach) → IsSession game → IsHeld game q ss at → first_clash game q (in_order ss) ≡ None → t < game.turns →
+pub pairs_agree : (game : Game) (q t : ℕ) (ss : List (Option Received)) (at : Stream) → IsSession game → IsHeld game q ss at → first_clash game q (in_order ss) ≡ None → t < game.turns →
     pair_clash game q t (slot ss (2 * t)) (slot ss (2 * t + 1)) ≡ None
 unfolding first_clash
 pairs_agree game q t ss at is h clean lt =
@@ -85,7 +85,7 @@ opening_turn game q (Some g) r y h = go (same_digest game g r) h
     go false e = let same : (finding_by q (turn_of r.frame) BadOpening g.entry r.entry) ≡ y = cc in ap (λ (k : Finding). k.turn) (sym same)
 
 -- other turns are as they were
-pub elsewhere : (game : Game) (q t : ℕ) (ss : List (Option Received)) (at : Reach) (r : Received) → IsSession game → IsHeld game q ss at → first_clash game q (in_order ss) ≡ None → t < game.turns → (t ≡ turn_of r.frame → ⊥) →
+pub elsewhere : (game : Game) (q t : ℕ) (ss : List (Option Received)) (at : Stream) (r : Received) → IsSession game → IsHeld game q ss at → first_clash game q (in_order ss) ≡ None → t < game.turns → (t ≡ turn_of r.frame → ⊥) →
     pair_clash game q t (slot (set ss (slot_of r.frame) (Some r)) (2 * t)) (slot (set ss (slot_of r.frame) (Some r)) (2 * t + 1)) ≡ None
 elsewhere game q t ss at r is h clean le apart =
     let near = turn_at r.frame in
@@ -104,7 +104,7 @@ clash_tells game q t c g = go (same_digest game c g)
     go false = ap not (sym (eq-eqb t t refl))
 
 -- with a frame in the empty slot of its place the frames of each turn agree, but where it makes a clash with the other of its own
-pub agree_held : (game : Game) (q at_slot : ℕ) (ss : List (Option Received)) (at : Reach) (r : Received) (bad : Option Finding) (other : Option Received) → IsSession game → IsHeld game q ss at → first_clash game q (in_order ss) ≡ None →
+pub agree_held : (game : Game) (q at_slot : ℕ) (ss : List (Option Received)) (at : Stream) (r : Received) (bad : Option Finding) (other : Option Received) → IsSession game → IsHeld game q ss at → first_clash game q (in_order ss) ≡ None →
     slot_of r.frame < length ss → AllBefore r.entry (in_order ss) → at_slot ≡ slot_of r.frame → other ≡ slot ss (other_slot r.frame) → bad ≡ opening_clash game q other r → AgreeBut game (set ss at_slot (Some r)) bad
 agree_held game q at_slot ss at r bad other is h clean lt later is_slot other_is bad_is = let P : ℕ → Type 0 = λ n. AgreeBut game (set ss n (Some r)) bad in subst P (sym is_slot) there
   where
@@ -134,7 +134,7 @@ agree_held game q at_slot ss at r bad other is h clean lt later is_slot other_is
     ]
 
 -- a reveal that is illegal is of the turn that isn't resolved
-illegal_turn : (game : Game) (q : ℕ) (ss : List (Option Received)) (at : Reach) (x : Finding) → AreSlots q ss at.commits at.resolved → illegal_at game ss at ≡ Some x → (x.turn ≡ at.resolved) × (2 * at.resolved + 1 < length ss)
+illegal_turn : (game : Game) (q : ℕ) (ss : List (Option Received)) (at : Stream) (x : Finding) → AreSlots q ss at.commits at.resolved → illegal_at game ss at ≡ Some x → (x.turn ≡ at.resolved) × (2 * at.resolved + 1 < length ss)
 illegal_turn game q ss at x w h = revealed (slot ss (2 * at.resolved + 1)) refl h
   where
     judged : (c g : Received) (v : Verdict) → illegal_in (judged_step c g v) ≡ Some x → x.turn ≡ turn_of g.frame
@@ -161,7 +161,7 @@ illegal_turn game q ss at x w h = revealed (slot ss (2 * at.resolved + 1)) refl 
         (omega arith, some_within ss (2 * at.resolved + 1) g i)
 
 -- the first clash, with a frame in the empty slot of its place
-pub held_clash : (game : Game) (q : ℕ) (ss : List (Option Received)) (at to : Reach) (r : Received) → IsSession game → IsHeld game q ss at → first_clash game q (in_order ss) ≡ None → slot_of r.frame < length ss →
+pub held_clash : (game : Game) (q : ℕ) (ss : List (Option Received)) (at to : Stream) (r : Received) → IsSession game → IsHeld game q ss at → first_clash game q (in_order ss) ≡ None → slot_of r.frame < length ss →
     AllBefore r.entry (in_order ss) → IsHeld game q (set ss (slot_of r.frame) (Some r)) to →
     lower_clash (opening_clash game q (slot ss (other_slot r.frame)) r) (illegal_at game (set ss (slot_of r.frame) (Some r)) to) ≡ first_clash game q (in_order (set ss (slot_of r.frame) (Some r)))
 unfolding first_clash
@@ -232,7 +232,7 @@ held_clash game q ss at to r is h clean lt later all = go (opening_clash game q 
             by_opening y e (λ t below n. absurd (omega arith))
 
 -- the answer to it
-pub held_answer : (game : Game) (q at_slot : ℕ) (ss : List (Option Received)) (at to : Reach) (r : Received) (opening illegal found : Option Finding) (other : Option Received) (answer : Offer) (next : Bool) → IsSession game → IsHeld game q ss at →
+pub held_answer : (game : Game) (q at_slot : ℕ) (ss : List (Option Received)) (at to : Stream) (r : Received) (opening illegal found : Option Finding) (other : Option Received) (answer : Offer) (next : Bool) → IsSession game → IsHeld game q ss at →
     first_clash game q (in_order ss) ≡ None → slot_of r.frame < length ss → AllBefore r.entry (in_order ss) → at_slot ≡ slot_of r.frame → IsHeld game q (set ss at_slot (Some r)) to →
     other ≡ slot ss (other_slot r.frame) → opening ≡ opening_clash game q other r → illegal ≡ illegal_at game (set ss at_slot (Some r)) to → found ≡ lower_clash opening illegal → answer ≡ new_answer found next →
     answer ≡ new_answer (first_clash game q (in_order (set ss at_slot (Some r)))) next

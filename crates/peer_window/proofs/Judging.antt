@@ -19,9 +19,9 @@ use Rattle.move_rules.specs.Verdicts.{judged}
 use Rattle.reveal_check.specs.declared.judging.Verdict.TheVariants as V
 use Rattle.reveal_check.specs.Judgements.{by_rules}
 use Rattle.peer_window.specs.declared.received.Received.{Received}
-use Rattle.peer_window.specs.declared.walk.Reach.{Reach}
+use Rattle.grid_world.specs.declared.streams.Stream.{Stream}
 use Rattle.peer_window.specs.Clashes.{illegal_clash}
-use Rattle.peer_window.specs.Steps.{IsReach, illegal_at, illegal_in, judged_step, slot_step, turn_step}
+use Rattle.peer_window.specs.Steps.{IsThere, illegal_at, illegal_in, judged_step, slot_step, turn_step}
 use Rattle.peer_window.specs.Slots.{AreSlots, digests_to, frames_in, in_order, moves_to, shown, slot}
 use Rattle.peer_window.proofs.Reached.{step_revealed}
 use Rattle.peer_window.proofs.Stretches.{digest_get, move_get, moves_length}
@@ -63,11 +63,11 @@ clash_if game track m c g true (Some fault) = refl
 clash_if game track m c g true None = refl
 
 -- the reveal of the first turn that isn't resolved, where its commitment is held
-pub illegal_here : (game : Game) (q t : ℕ) (ss : List (Option Received)) (at : Reach) (c g : Received) (d : Digest) (m : Move) (o : Nonce) → AreSlots q ss at.commits at.resolved → IsReach game q ss at →
+pub illegal_here : (game : Game) (q t : ℕ) (ss : List (Option Received)) (at : Stream) (c g : Received) (d : Digest) (m : Move) (o : Nonce) → AreSlots q ss at.commits at.resolved → IsThere game q ss at →
     t ≡ at.resolved → t < at.commits → slot ss (2 * t) ≡ Some c → c.frame ≡ Commit q t d → slot ss (2 * t + 1) ≡ Some g → g.frame ≡ Reveal q t m o →
     (if is_illegal_at game q t (shown ss at.commits at.resolved) g.frame then Some (illegal_clash c g) else None) ≡ illegal_at game ss at
 unfolding is_legal
-illegal_here game q t ss at c g d m o w reach n held e f i j =
+illegal_here game q t ss at c g d m o w stream n held e f i j =
     let len = moves_length q at.commits at.resolved ss at.resolved w (omega arith) in
     let step : turn_step game ss at ≡ judged_step c g (if digest_eq (digest_of game (Reveal q t m o)) d then by_rules (judged game at.track m (move_fault game q at.track m)) else V.BadOpening) =
     ap (λ (v : ℕ). slot_step game at.track (slot ss (2 * v)) (slot ss (2 * v + 1))) (sym n)
@@ -78,6 +78,6 @@ illegal_here game q t ss at c g d m o w reach n held e f i j =
     ∙ ap (λ (b : Bool). b && opens game (Reveal q t m o) (slice_get (digests_to ss at.commits) t) && not (is_legal game q (track_after game q (take t (moves_to ss at.resolved))) m)) (le-leb t (length (moves_to ss at.resolved)) (omega arith))
     ∙ ap (λ (y : Option Digest). opens game (Reveal q t m o) y && not (is_legal game q (track_after game q (take t (moves_to ss at.resolved))) m)) due
     ∙ ap (λ (ms : List Move). digest_eq (digest_of game (Reveal q t m o)) d && not (is_none (move_fault game q (track_after game q ms) m))) (take_all t (moves_to ss at.resolved) (omega arith))
-    ∙ ap (λ (y : Track). digest_eq (digest_of game (Reveal q t m o)) d && not (is_none (move_fault game q y m))) (sym reach.track) in
+    ∙ ap (λ (y : Track). digest_eq (digest_of game (Reveal q t m o)) d && not (is_none (move_fault game q y m))) (sym stream.track) in
     ap (λ (b : Bool). if b then Some (illegal_clash c g) else None) illegal
     ∙ sym (ap illegal_in step ∙ clash_if game at.track m c g (digest_eq (digest_of game (Reveal q t m o)) d) (move_fault game q at.track m))

@@ -17,7 +17,7 @@ use Rattle.peer_window.specs.declared.received.Received.{Received}
 use Rattle.definitions.specs.declared.findings.Finding.{Finding}
 use Rattle.peer_window.specs.declared.received.Offer.{Offer}
 use Rattle.peer_window.specs.declared.received.Offer.TheVariants.{Same, Far, Conflict}
-use Rattle.peer_window.specs.declared.walk.Reach.{Reach}
+use Rattle.grid_world.specs.declared.streams.Stream.{Stream}
 use Rattle.peer_window.specs.Clashes.{first_clash, rival_clash, same_digest}
 use Rattle.peer_window.specs.Slots.{in_order, other_slot, slot_of, shown, slot}
 use Rattle.peer_window.specs.Windows.{AreParts, IsHeld, IsWindow, Seen, answer, frames_after, is_far, is_same, new_answer, seen_of, with_frame}
@@ -33,14 +33,14 @@ use Rattle.peer_window.proofs.Turns.{pair_clash}
 use Rattle.definitions.specs.declared.limits.TheConstants.{WINDOW}
 
 -- a window that is open still, in its parts
-pub record IsOpen (game : Game) (w : Seen) (ss : List (Option Received)) (rival : Option Received) (closed : Bool) (at : Reach) (entry : ℕ) : Type 0 where
+pub record IsOpen (game : Game) (w : Seen) (ss : List (Option Received)) (rival : Option Received) (closed : Bool) (at : Stream) (entry : ℕ) : Type 0 where
   pub view : seen_of w.player ss rival closed at ≡ w
   pub held : IsHeld game w.player ss at
   pub clean : first_clash game w.player (in_order ss) ≡ None
   pub alone : rival ≡ None
   pub later : AllBefore entry (in_order ss)
 
-pub opened : (game : Game) (w : Seen) (q : ℕ) (ss : List (Option Received)) (rival : Option Received) (closed : Bool) (at : Reach) (entry : ℕ) → seen_of q ss rival closed at ≡ w → IsWindow game w → w.closed ≡ false →
+pub opened : (game : Game) (w : Seen) (q : ℕ) (ss : List (Option Received)) (rival : Option Received) (closed : Bool) (at : Stream) (entry : ℕ) → seen_of q ss rival closed at ≡ w → IsWindow game w → w.closed ≡ false →
     EachIs (λ r. r.entry < entry) w.frames → AreParts q ss rival closed at → IsOpen game w ss rival closed at entry
 opened game w q ss rival closed at entry view window still later parts =
     let P : Seen → Type 0 = λ x. IsWindow game x in
@@ -59,19 +59,19 @@ opened game w q ss rival closed at entry view window still later parts =
     }
 
 -- the test of a far frame, at the window
-far_of : (game : Game) (w : Seen) (ss : List (Option Received)) (rival : Option Received) (closed : Bool) (at : Reach) (r : Received) (far : Bool) → IsOpen game w ss rival closed at r.entry → far ≡ A.is_beyond game (at.commits + at.resolved) r.frame → is_far game w r.frame ≡ far
+far_of : (game : Game) (w : Seen) (ss : List (Option Received)) (rival : Option Received) (closed : Bool) (at : Stream) (r : Received) (far : Bool) → IsOpen game w ss rival closed at r.entry → far ≡ A.is_beyond game (at.commits + at.resolved) r.frame → is_far game w r.frame ≡ far
 far_of game w ss rival closed at r far o test =
     ap (λ (x : Seen). is_far game x r.frame) (sym o.view) ∙ ap (λ (n : ℕ). A.is_beyond game n r.frame) (sym (count_places w.player at.commits at.resolved ss (shown ss at.commits at.resolved) refl o.held.slots)) ∙ sym test
 
-pub offer_far : (game : Game) (w : Seen) (ss : List (Option Received)) (rival : Option Received) (closed : Bool) (at : Reach) (r : Received) (far : Bool) → IsOpen game w ss rival closed at r.entry →
+pub offer_far : (game : Game) (w : Seen) (ss : List (Option Received)) (rival : Option Received) (closed : Bool) (at : Stream) (r : Received) (far : Bool) → IsOpen game w ss rival closed at r.entry →
     far ≡ A.is_beyond game (at.commits + at.resolved) r.frame → far ≡ true → Far ≡ answer game w r
 offer_far game w ss rival closed at r far o test holds = answer_far game w r (far_of game w ss rival closed at r far o test ∙ holds)
 
-same_of : (game : Game) (w : Seen) (ss : List (Option Received)) (rival : Option Received) (closed : Bool) (at : Reach) (r : Received) (b : Bool) → IsOpen game w ss rival closed at r.entry →
+same_of : (game : Game) (w : Seen) (ss : List (Option Received)) (rival : Option Received) (closed : Bool) (at : Stream) (r : Received) (b : Bool) → IsOpen game w ss rival closed at r.entry →
     list_any (λ x. frame_eq x.frame r.frame) (in_order ss) ≡ b → is_same w r.frame ≡ b
 same_of game w ss rival closed at r b o e = ap (λ (x : Seen). is_same x r.frame) (sym o.view) ∙ ap (list_any (λ x. frame_eq x.frame r.frame)) (frames_alone ss rival o.alone) ∙ e
 
-pub offer_same : (game : Game) (w : Seen) (ss : List (Option Received)) (rival : Option Received) (closed : Bool) (at : Reach) (r h : Received) (place : ℕ) (far same : Bool) → IsSession game → IsOpen game w ss rival closed at r.entry →
+pub offer_same : (game : Game) (w : Seen) (ss : List (Option Received)) (rival : Option Received) (closed : Bool) (at : Stream) (r h : Received) (place : ℕ) (far same : Bool) → IsSession game → IsOpen game w ss rival closed at r.entry →
     place ≡ slot_of r.frame → far ≡ A.is_beyond game (at.commits + at.resolved) r.frame → far ≡ false → Some h ≡ slot ss place → same ≡ frame_eq h.frame r.frame → same ≡ true → Same ≡ answer game w r
 offer_same game w ss rival closed at r h place far same is o place_is test fails there is_same holds =
     answer_same game w r (far_of game w ss rival closed at r far o test ∙ fails) (same_of game w ss rival closed at r true o (same_there ss place h r.frame (sym there) (sym is_same ∙ holds)))
@@ -88,12 +88,12 @@ within_slots game n ss f far places test fails =
     let slots = placed_slot game f lt in
     omega arith
 
-next_test : (game : Game) (w : Seen) (ss : List (Option Received)) (rival : Option Received) (closed : Bool) (at : Reach) (r : Received) → IsOpen game w ss rival closed at r.entry →
+next_test : (game : Game) (w : Seen) (ss : List (Option Received)) (rival : Option Received) (closed : Bool) (at : Stream) (r : Received) → IsOpen game w ss rival closed at r.entry →
     (A.place_of game r.frame == at.commits + at.resolved) ≡ (A.place_of game r.frame == places_in w.known)
 next_test game w ss rival closed at r o =
     ap (λ (n : ℕ). A.place_of game r.frame == n) (count_places w.player at.commits at.resolved ss (shown ss at.commits at.resolved) refl o.held.slots ∙ ap (λ (x : Seen). places_in x.known) o.view)
 
-pub offer_new : (game : Game) (w : Seen) (ss new : List (Option Received)) (rival : Option Received) (closed : Bool) (at : Reach) (r : Received) (place q : ℕ) (far : Bool) (a : Offer) → IsSession game → IsOpen game w ss rival closed at r.entry →
+pub offer_new : (game : Game) (w : Seen) (ss new : List (Option Received)) (rival : Option Received) (closed : Bool) (at : Stream) (r : Received) (place q : ℕ) (far : Bool) (a : Offer) → IsSession game → IsOpen game w ss rival closed at r.entry →
     place ≡ slot_of r.frame → far ≡ A.is_beyond game (at.commits + at.resolved) r.frame → far ≡ false → None ≡ slot ss place → q ≡ w.player → new ≡ set ss (slot_of r.frame) (Some r) →
     a ≡ new_answer (first_clash game q (in_order new)) (A.place_of game r.frame == at.commits + at.resolved) → a ≡ answer game w r
 offer_new game w ss new rival closed at r place q far a is o place_is test fails empty player new_is a_is =
@@ -111,7 +111,7 @@ offer_new game w ss new rival closed at r place q far a is o place_is test fails
 written_back : (len : ℕ) (ss new : List (Option Received)) → len ≡ length ss → length new ≡ length ss → take len (new ++ drop (length new) ss) ≡ new
 written_back len ss new e f = ap (λ (xs : List (Option Received)). take len (new ++ xs)) (drop_all (length new) ss (omega arith)) ∙ ap (take len) (append-nil new) ∙ take_all len new (omega arith)
 
-pub offer_frames : (game : Game) (w : Seen) (ss new : List (Option Received)) (rival : Option Received) (closed : Bool) (at : Reach) (r : Received) (place count : ℕ) (far : Bool) (a : Offer) (clash : Option Finding) (next : Bool) → IsSession game → IsOpen game w ss rival closed at r.entry →
+pub offer_frames : (game : Game) (w : Seen) (ss new : List (Option Received)) (rival : Option Received) (closed : Bool) (at : Stream) (r : Received) (place count : ℕ) (far : Bool) (a : Offer) (clash : Option Finding) (next : Bool) → IsSession game → IsOpen game w ss rival closed at r.entry →
     count ≡ length ss → place ≡ slot_of r.frame → far ≡ A.is_beyond game (at.commits + at.resolved) r.frame → far ≡ false → None ≡ slot ss place → new ≡ set ss (slot_of r.frame) (Some r) → a ≡ new_answer clash next →
     in_order (take count (new ++ drop (length new) ss)) ++ option_to_list rival ≡ frames_after w r a
 offer_frames game w ss new rival closed at r place count far a clash next is o count_is place_is test fails empty new_is a_is =
@@ -123,7 +123,7 @@ offer_frames game w ss new rival closed at r place count far a clash next is o c
     ∙ ap (λ (x : Seen). with_frame x r) o.view ∙ after_new w r clash next a a_is
 
 -- the frame that is held at a place has the digest of the other one of its turn
-pub others_agree : (game : Game) (w : Seen) (ss : List (Option Received)) (rival : Option Received) (closed : Bool) (at : Reach) (r h : Received) (place : ℕ) (other : Option Received) (o : Received) → IsSession game → IsOpen game w ss rival closed at r.entry →
+pub others_agree : (game : Game) (w : Seen) (ss : List (Option Received)) (rival : Option Received) (closed : Bool) (at : Stream) (r h : Received) (place : ℕ) (other : Option Received) (o : Received) → IsSession game → IsOpen game w ss rival closed at r.entry →
     place ≡ slot_of r.frame → Some h ≡ slot ss place → other ≡ slot ss (other_slot r.frame) → other ≡ Some o → same_digest game o h ≡ true
 others_agree game w ss rival closed at r h place other o is opened place_is there other_is holds = go r.frame (ap (slot ss) (sym place_is) ∙ sym there) (sym other_is ∙ holds)
   where
@@ -139,7 +139,7 @@ others_agree game w ss rival closed at r h place other o is opened place_is ther
     go (Reveal p t m n) here beside = pair t o h beside here
 
 -- beside another frame of its place
-pub offer_rival : (game : Game) (w : Seen) (ss : List (Option Received)) (rival : Option Received) (closed : Bool) (at : Reach) (r h : Received) (place q : ℕ) (far same : Bool) (clash : Finding) (other : Option Received) → IsSession game → IsOpen game w ss rival closed at r.entry →
+pub offer_rival : (game : Game) (w : Seen) (ss : List (Option Received)) (rival : Option Received) (closed : Bool) (at : Stream) (r h : Received) (place q : ℕ) (far same : Bool) (clash : Finding) (other : Option Received) → IsSession game → IsOpen game w ss rival closed at r.entry →
     player_of r.frame ≡ w.player → place ≡ slot_of r.frame → far ≡ A.is_beyond game (at.commits + at.resolved) r.frame → far ≡ false → Some h ≡ slot ss place → same ≡ frame_eq h.frame r.frame → same ≡ false →
     other ≡ slot ss (other_slot r.frame) → q ≡ w.player → clash ≡ rival_clash game q h other r → Conflict clash ≡ answer game w r
 offer_rival game w ss rival closed at r h place q far same clash other is o player place_is test fails there is_same apart other_is mine clash_is =
@@ -153,7 +153,7 @@ offer_rival game w ss rival closed at r h place q far same clash other is o play
     (ap (λ (x : Finding). Some x) (clash_is ∙ ap (λ (n : ℕ). rival_clash game n h other r) mine ∙ ap (λ (x : Option Received). rival_clash game w.player h x r) other_is) ∙ found
     ∙ ap (λ (rs : List Received). first_clash game w.player (rs ++ r ∷ [])) (sym (frames_alone ss rival o.alone) ∙ ap (λ (x : Seen). x.frames) o.view)))
 
-pub rival_window : (game : Game) (w : Seen) (q : ℕ) (ss : List (Option Received)) (rival : Option Received) (closed : Bool) (at : Reach) (r h : Received) (place : ℕ) → IsSession game → IsOpen game w ss rival closed at r.entry → q ≡ w.player →
+pub rival_window : (game : Game) (w : Seen) (q : ℕ) (ss : List (Option Received)) (rival : Option Received) (closed : Bool) (at : Stream) (r h : Received) (place : ℕ) → IsSession game → IsOpen game w ss rival closed at r.entry → q ≡ w.player →
     place ≡ slot_of r.frame → Some h ≡ slot ss place → IsWindow game (seen_of q ss (Some r) true at)
 rival_window game w q ss rival closed at r h place is o player place_is there =
     let here : slot ss (slot_of r.frame) ≡ Some h = ap (slot ss) (sym place_is) ∙ sym there in

@@ -21,10 +21,10 @@ use Rattle.definition_laws.proofs.Tracks.{known_to_open, track_from_append}
 use Rattle.reveal_check.specs.declared.judging.Verdict.TheVariants as V
 use Rattle.reveal_check.specs.Judgements.{by_rules}
 use Rattle.peer_window.specs.declared.received.Received.{Received}
-use Rattle.peer_window.specs.declared.walk.Reach.{Reach}
+use Rattle.grid_world.specs.declared.streams.Stream.{Stream}
 use Rattle.peer_window.specs.declared.walk.Step.TheVariants.{Committed, Resolved, Halt, Illegal}
 use Rattle.peer_window.specs.Clashes.{illegal_clash}
-use Rattle.peer_window.specs.Steps.{IsReach, commit_step, frame_step, is_commit_next, judged_step, reveal_step, slot_step, step_from, turn_step, is_stop}
+use Rattle.peer_window.specs.Steps.{IsThere, commit_step, frame_step, is_commit_next, judged_step, reveal_step, slot_step, step_from, turn_step, is_stop}
 use Rattle.peer_window.specs.Slots.{AreSlots, frames_in, in_order, moves_to, shown, slot}
 use Rattle.peer_window.proofs.Ordered.{of_slot}
 use Rattle.peer_window.proofs.Stretches.{commitment_at, is_commitment, is_reveal}
@@ -37,8 +37,8 @@ pub own_player : (q c u p players : ℕ) (ss : List (Option Received)) (r : Rece
 own_player q c u p players ss r w e lt = let own = (w.own p r e).1 in omega arith
 
 -- where a stream leads is open
-pub reach_open : (game : Game) (q : ℕ) (ss : List (Option Received)) (at : Reach) → IsSession game → q < players_of game → IsReach game q ss at → is_open game.grid at.track.at ≡ true
-reach_open game q ss at is lt w =
+pub stream_open : (game : Game) (q : ℕ) (ss : List (Option Received)) (at : Stream) → IsSession game → q < players_of game → IsThere game q ss at → is_open game.grid at.track.at ≡ true
+stream_open game q ss at is lt w =
     ap (λ (t : Track). is_open game.grid t.at) (w.track ∙ ap (λ (k : Known). track_after game q k.moves) (sym w.known))
     ∙ known_to_open game q (at.commits + at.resolved) (frames_in (in_order ss)) (seat_open game q is lt)
 
@@ -72,10 +72,10 @@ step_revealed game track c r q t d m k before e f g =
     ∙ ap (λ (x : TurnFrame). reveal_step game track (Some (record { entry = c.entry; frame = x })) r (record { player = q; turn = t; mv = m; nonce = k })) f
 
 -- a turn more is committed, and a turn more resolved
-abbrev pub committed : Reach → Reach
+abbrev pub committed : Stream → Stream
 committed at = record { commits = at.commits + 1; resolved = at.resolved; track = at.track }
 
-abbrev pub resolved : Reach → Track → Reach
+abbrev pub resolved : Stream → Track → Stream
 resolved at track = record { commits = at.commits; resolved = at.resolved + 1; track = track }
 
 known_further : (game : Game) (q n : ℕ) (fs : List TurnFrame) (k l : Known) → known_to game q fs n ≡ k → next_known game q fs k ≡ l → known_to game q fs (n + 1) ≡ l
@@ -87,20 +87,20 @@ track_more : (game : Game) (q : ℕ) (ms : List Move) (m : Move) → track_after
 track_more game q ms m = track_from_append game (start_track game q) ms (m ∷ [])
 
 -- by whether a commitment is next
-pub by_commit : (game : Game) (ss : List (Option Received)) (at : Reach) → at.commits < min (at.resolved + game.ahead) game.turns → step_from game ss at ≡ commit_step (slot ss (2 * at.commits))
+pub by_commit : (game : Game) (ss : List (Option Received)) (at : Stream) → at.commits < min (at.resolved + game.ahead) game.turns → step_from game ss at ≡ commit_step (slot ss (2 * at.commits))
 by_commit game ss at lt = cond-true (is_commit_next game at) _ _ (lt-ltb _ _ lt)
 
-pub by_reveal : (game : Game) (ss : List (Option Received)) (at : Reach) → min (at.resolved + game.ahead) game.turns ≤ at.commits → step_from game ss at ≡ turn_step game ss at
+pub by_reveal : (game : Game) (ss : List (Option Received)) (at : Stream) → min (at.resolved + game.ahead) game.turns ≤ at.commits → step_from game ss at ≡ turn_step game ss at
 by_reveal game ss at le = cond-false (is_commit_next game at) _ _ (le-ltb _ _ le)
 
 -- the slot of the next frame
-abbrev pub next_slot : Game → Reach → ℕ
+abbrev pub next_slot : Game → Stream → ℕ
 next_slot game at = if is_commit_next game at then 2 * at.commits else 2 * at.resolved + 1
 
-pub commit_next : (game : Game) (at : Reach) → at.commits < min (at.resolved + game.ahead) game.turns → next_slot game at ≡ 2 * at.commits
+pub commit_next : (game : Game) (at : Stream) → at.commits < min (at.resolved + game.ahead) game.turns → next_slot game at ≡ 2 * at.commits
 commit_next game at lt = cond-true (is_commit_next game at) _ _ (lt-ltb _ _ lt)
 
-pub reveal_next : (game : Game) (at : Reach) → min (at.resolved + game.ahead) game.turns ≤ at.commits → next_slot game at ≡ 2 * at.resolved + 1
+pub reveal_next : (game : Game) (at : Stream) → min (at.resolved + game.ahead) game.turns ≤ at.commits → next_slot game at ≡ 2 * at.resolved + 1
 reveal_next game at le = cond-false (is_commit_next game at) _ _ (le-ltb _ _ le)
 
 -- a step over a commitment is none over a reveal
@@ -126,7 +126,7 @@ never_committed game track before None h = cc
 never_committed game track before (Some r) h = framed_never game track before r r.frame h
 
 -- a step over a commitment
-pub committed_next : (game : Game) (q : ℕ) (ss : List (Option Received)) (at : Reach) → AreSlots q ss at.commits at.resolved → step_from game ss at ≡ Committed →
+pub committed_next : (game : Game) (q : ℕ) (ss : List (Option Received)) (at : Stream) → AreSlots q ss at.commits at.resolved → step_from game ss at ≡ Committed →
     (at.commits < min (at.resolved + game.ahead) game.turns) × (r : Received) × (d : Digest) × (slot ss (2 * at.commits) ≡ Some r) × (r.frame ≡ Commit q at.commits d)
 committed_next game q ss at w h = elim (cases_lt at.commits (min (at.resolved + game.ahead) game.turns)) [
   | inl lt ↦ let f = found (slot ss (2 * at.commits)) refl (sym (by_commit game ss at lt) ∙ h) in (lt, f.0, f.1, f.2, f.3)
@@ -140,19 +140,19 @@ committed_next game q ss at w h = elim (cases_lt at.commits (min (at.resolved + 
         let f = is_commitment r.frame q at.commits own.0 own.1 in
         (r, f.0, e, f.1)
 
-pub step_committed : (game : Game) (q : ℕ) (ss : List (Option Received)) (at : Reach) → AreSlots q ss at.commits at.resolved → IsReach game q ss at → step_from game ss at ≡ Committed → IsReach game q ss (committed at)
-step_committed game q ss at w reach h =
+pub step_committed : (game : Game) (q : ℕ) (ss : List (Option Received)) (at : Stream) → AreSlots q ss at.commits at.resolved → IsThere game q ss at → step_from game ss at ≡ Committed → IsThere game q ss (committed at)
+step_committed game q ss at w stream h =
     let c = committed_next game q ss at w h in
     let one : suc at.commits ≡ at.commits + 1 = omega arith in
     let places : at.commits + at.resolved + 1 ≡ at.commits + 1 + at.resolved = omega arith in
     let more = next_at_commit game q at.commits at.resolved ss w c.0 ∙ with_commit_more q at.commits at.resolved ss c.1 c.2 c.3 c.4 ∙ ap (λ (n : ℕ). shown ss n at.resolved) one in
     record {
-      known = ap (known_to game q (frames_in (in_order ss))) (sym places) ∙ known_further game q (at.commits + at.resolved) (frames_in (in_order ss)) (shown ss at.commits at.resolved) _ reach.known more;
-      track = reach.track;
+      known = ap (known_to game q (frames_in (in_order ss))) (sym places) ∙ known_further game q (at.commits + at.resolved) (frames_in (in_order ss)) (shown ss at.commits at.resolved) _ stream.known more;
+      track = stream.track;
     }
 
 -- a step over a reveal: its commitment, the reveal, and what the judgement says
-pub record IsResolving (game : Game) (q : ℕ) (ss : List (Option Received)) (at : Reach) (track : Track) : Type 0 where
+pub record IsResolving (game : Game) (q : ℕ) (ss : List (Option Received)) (at : Stream) (track : Track) : Type 0 where
   pub all : min (at.resolved + game.ahead) game.turns ≤ at.commits
   pub within : at.resolved < game.turns
   pub commitment : Received
@@ -166,7 +166,7 @@ pub record IsResolving (game : Game) (q : ℕ) (ss : List (Option Received)) (at
   pub reveals_frame : reveal.frame ≡ Reveal q at.resolved mv nonce
   pub goes : Goes game at.track mv track (digest_eq (digest_of game (Reveal q at.resolved mv nonce)) digest) (move_fault game q at.track mv)
 
-pub step_resolving : (game : Game) (q : ℕ) (ss : List (Option Received)) (at : Reach) (track : Track) → IsSession game → length ss ≡ 2 * game.turns → AreSlots q ss at.commits at.resolved → step_from game ss at ≡ Resolved track → IsResolving game q ss at track
+pub step_resolving : (game : Game) (q : ℕ) (ss : List (Option Received)) (at : Stream) (track : Track) → IsSession game → length ss ≡ 2 * game.turns → AreSlots q ss at.commits at.resolved → step_from game ss at ≡ Resolved track → IsResolving game q ss at track
 step_resolving game q ss at track is len w h = elim (cases_lt at.commits (min (at.resolved + game.ahead) game.turns)) [
   | inl lt ↦ absurd (never_resolved (slot ss (2 * at.commits)) track (sym (by_commit game ss at lt) ∙ h))
   | inr ge ↦ found ge (slot ss (2 * at.resolved + 1)) refl (sym (by_reveal game ss at ge) ∙ h)
@@ -201,17 +201,17 @@ step_resolving game q ss at track is len w h = elim (cases_lt at.commits (min (a
         let f = is_reveal r.frame q at.resolved own.0 own.1 in
         framed ge r e f.0 f.1 f.2 g
 
-pub step_resolved : (game : Game) (q : ℕ) (ss : List (Option Received)) (at : Reach) (track : Track) → IsSession game → length ss ≡ 2 * game.turns → AreSlots q ss at.commits at.resolved → IsReach game q ss at → step_from game ss at ≡ Resolved track →
-    IsReach game q ss (resolved at track)
+pub step_resolved : (game : Game) (q : ℕ) (ss : List (Option Received)) (at : Stream) (track : Track) → IsSession game → length ss ≡ 2 * game.turns → AreSlots q ss at.commits at.resolved → IsThere game q ss at → step_from game ss at ≡ Resolved track →
+    IsThere game q ss (resolved at track)
 unfolding is_legal
-step_resolved game q ss at track is len w reach h =
+step_resolved game q ss at track is len w stream h =
     let s = step_resolving game q ss at track is len w h in
     let goes = s.goes in
     let m : Move = s.mv in
     let all = s.all in
     let within = s.within in
     let ahead = is.ahead.0 in
-    let tracked : at.track ≡ track_after game q (moves_to ss at.resolved) = reach.track in
+    let tracked : at.track ≡ track_after game q (moves_to ss at.resolved) = stream.track in
     let opening = opening_here game q at.resolved (moves_to ss at.resolved) s.digest ss s.reveal m s.nonce s.reveals s.reveals_frame in
     let legal : is_none (move_fault game q (track_after game q (moves_to ss at.resolved)) m) ≡ true = ap (λ (x : Track). is_none (move_fault game q x m)) (sym tracked) ∙ ap is_none goes.legal in
     let some : (if digest_eq (digest_of game (Reveal q at.resolved m s.nonce)) s.digest && is_none (move_fault game q (track_after game q (moves_to ss at.resolved)) m) then Some m else None) ≡ Some m =
@@ -221,15 +221,15 @@ step_resolved game q ss at track is len w reach h =
     let places : at.commits + at.resolved + 1 ≡ at.commits + (at.resolved + 1) = omega arith in
     let more = next_at_reveal game q at.commits at.resolved ss s.commitment s.digest w all within (omega arith) s.commits s.commits_frame ∙ ap (with_move (shown ss at.commits at.resolved)) (opening ∙ some) ∙ moved in
     record {
-      known = ap (known_to game q (frames_in (in_order ss))) (sym places) ∙ known_further game q (at.commits + at.resolved) (frames_in (in_order ss)) (shown ss at.commits at.resolved) _ reach.known more;
+      known = ap (known_to game q (frames_in (in_order ss))) (sym places) ∙ known_further game q (at.commits + at.resolved) (frames_in (in_order ss)) (shown ss at.commits at.resolved) _ stream.known more;
       track = goes.leads ∙ ap (λ (x : Track). next_track game x m) tracked ∙ sym (track_more game q (moves_to ss at.resolved) m) ∙ ap (λ (x : Known). track_after game q x.moves) moved;
     }
 
 -- where the walk ends, nothing more is known
-pub step_stop : (game : Game) (q : ℕ) (ss : List (Option Received)) (at : Reach) → IsSession game → length ss ≡ 2 * game.turns → AreSlots q ss at.commits at.resolved → IsReach game q ss at →
+pub step_stop : (game : Game) (q : ℕ) (ss : List (Option Received)) (at : Stream) → IsSession game → length ss ≡ 2 * game.turns → AreSlots q ss at.commits at.resolved → IsThere game q ss at →
     is_stop (step_from game ss at) ≡ true → next_known game q (frames_in (in_order ss)) (shown ss at.commits at.resolved) ≡ shown ss at.commits at.resolved
 unfolding is_legal
-step_stop game q ss at is len w reach h = elim (cases_lt at.commits (min (at.resolved + game.ahead) game.turns)) [
+step_stop game q ss at is len w stream h = elim (cases_lt at.commits (min (at.resolved + game.ahead) game.turns)) [
   | inl lt ↦ commits lt (slot ss (2 * at.commits)) refl (ap is_stop (sym (by_commit game ss at lt)) ∙ h)
   | inr ge ↦ elim (cases_lt at.resolved game.turns) [
     | inl below ↦ reveals ge below (slot ss (2 * at.resolved + 1)) refl (ap is_stop (sym (by_reveal game ss at ge)) ∙ h)
@@ -261,11 +261,11 @@ step_stop game q ss at is len w reach h = elim (cases_lt at.commits (min (at.res
             let halts = judged_stop game at.track m a r _ (move_fault game q at.track m) (ap is_stop (sym (step_revealed game at.track a r q at.resolved d m f.1 (slot ss (2 * at.resolved)) i j f.2)) ∙ g) in
             let opening = opening_here game q at.resolved (moves_to ss at.resolved) d ss r m f.1 e f.2 in
             let none : (if digest_eq (digest_of game (Reveal q at.resolved m f.1)) d && is_none (move_fault game q (track_after game q (moves_to ss at.resolved)) m) then Some m else None) ≡ None =
-            ap (λ (y : Track). if digest_eq (digest_of game (Reveal q at.resolved m f.1)) d && is_none (move_fault game q y m) then Some m else None) (sym reach.track) ∙ ap (λ (b : Bool). if b then Some m else None) halts in
+            ap (λ (y : Track). if digest_eq (digest_of game (Reveal q at.resolved m f.1)) d && is_none (move_fault game q y m) then Some m else None) (sym stream.track) ∙ ap (λ (b : Bool). if b then Some m else None) halts in
             ap (with_move (shown ss at.commits at.resolved)) (opening ∙ none)
 
 -- a step goes on over a filled slot
-pub slots_committed : (game : Game) (q : ℕ) (ss : List (Option Received)) (at : Reach) → length ss ≡ 2 * game.turns → AreSlots q ss at.commits at.resolved → step_from game ss at ≡ Committed → AreSlots q ss (at.commits + 1) at.resolved
+pub slots_committed : (game : Game) (q : ℕ) (ss : List (Option Received)) (at : Stream) → length ss ≡ 2 * game.turns → AreSlots q ss at.commits at.resolved → step_from game ss at ≡ Committed → AreSlots q ss (at.commits + 1) at.resolved
 slots_committed game q ss at len w h =
     let c = committed_next game q ss at w h in
     let lt = c.0 in
@@ -282,7 +282,7 @@ slots_committed game q ss at len w h =
       few = w.few;
     }
 
-pub slots_resolved : (game : Game) (q : ℕ) (ss : List (Option Received)) (at : Reach) (track : Track) → IsSession game → length ss ≡ 2 * game.turns → AreSlots q ss at.commits at.resolved → step_from game ss at ≡ Resolved track → AreSlots q ss at.commits (at.resolved + 1)
+pub slots_resolved : (game : Game) (q : ℕ) (ss : List (Option Received)) (at : Stream) (track : Track) → IsSession game → length ss ≡ 2 * game.turns → AreSlots q ss at.commits at.resolved → step_from game ss at ≡ Resolved track → AreSlots q ss at.commits (at.resolved + 1)
 slots_resolved game q ss at track is len w h =
     let s = step_resolving game q ss at track is len w h in
     let all = s.all in

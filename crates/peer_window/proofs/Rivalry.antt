@@ -19,7 +19,7 @@ use Rattle.definitions.specs.Findings.{is_reveal, kinds}
 use Rattle.grid_world.specs.Sessions.{IsSession}
 use Rattle.peer_window.specs.declared.received.Received.{Received}
 use Rattle.definitions.specs.declared.findings.Finding.{Finding}
-use Rattle.peer_window.specs.declared.walk.Reach.{Reach}
+use Rattle.grid_world.specs.declared.streams.Stream.{Stream}
 use Rattle.peer_window.specs.Clashes.{clash_among, clash_in, clash_of, finding_by, first_clash, lower_entry, of_turn, rival_clash, rival_first, rival_kind, same_digest}
 use Rattle.peer_window.specs.Slots.{in_order, other_slot, slot_of, shown, slot}
 use Rattle.peer_window.specs.Windows.{IsHeld}
@@ -167,7 +167,7 @@ commits_differ game h r q t d e a b apart =
     ∙ sym (ap (λ (c : Bool). c && (t == t) && digest_eq d e) (eq-eqb q q refl) ∙ ap (λ (c : Bool). c && digest_eq d e) (eq-eqb t t refl)) ∙ frames
 
 -- the first clash with a frame that comes beside a different one of its place
-pub rival_first_clash : (game : Game) (q : ℕ) (ss : List (Option Received)) (at : Reach) (r h : Received) → IsSession game → IsHeld game q ss at → first_clash game q (in_order ss) ≡ None →
+pub rival_first_clash : (game : Game) (q : ℕ) (ss : List (Option Received)) (at : Stream) (r h : Received) → IsSession game → IsHeld game q ss at → first_clash game q (in_order ss) ≡ None →
     player_of r.frame ≡ q → slot_of r.frame < length ss → slot ss (slot_of r.frame) ≡ Some h → frame_eq h.frame r.frame ≡ false →
     Some (rival_clash game q h (slot ss (other_slot r.frame)) r) ≡ first_clash game q (in_order ss ++ r ∷ [])
 unfolding first_clash clash_in digest_of

@@ -12,7 +12,7 @@ use Rattle.definition_laws.proofs.Knowing.{known_to_whole, next_commit, next_end
 use Rattle.definition_laws.proofs.Windows.{known_to_unmoved}
 use Rattle.grid_world.specs.Sessions.{IsSession}
 use Rattle.peer_window.specs.declared.received.Received.{Received}
-use Rattle.peer_window.specs.declared.walk.Reach.{Reach}
+use Rattle.grid_world.specs.declared.streams.Stream.{Stream}
 use Rattle.peer_window.specs.Clashes.{first_clash}
 use Rattle.peer_window.specs.Slots.{AreSlots, digests_to, frames_in, in_order, moves_to, slot_of, shown, slot}
 use Rattle.peer_window.specs.Windows.{IsHeld}
@@ -27,7 +27,7 @@ first_append g [] f e = ap (λ o. option_or o None) e
 first_append g (x ∷ fs) f e = ap (option_or (g x)) (first_append g fs f e)
 
 -- a frame of another slot than the next leads nowhere
-unmoved : (game : Game) (q : ℕ) (ss : List (Option Received)) (at : Reach) (fs : List TurnFrame) (f : TurnFrame) → AreSlots q ss at.commits at.resolved → (slot_of f ≡ next_slot game at → ⊥) →
+unmoved : (game : Game) (q : ℕ) (ss : List (Option Received)) (at : Stream) (fs : List TurnFrame) (f : TurnFrame) → AreSlots q ss at.commits at.resolved → (slot_of f ≡ next_slot game at → ⊥) →
     next_known game q (fs ++ f ∷ []) (shown ss at.commits at.resolved) ≡ next_known game q fs (shown ss at.commits at.resolved)
 unmoved game q ss at fs f w apart =
     let a = digests_length q at.commits at.resolved ss at.commits w (omega arith) in
@@ -57,7 +57,7 @@ unmoved game q ss at fs f w apart =
         (opening_elsewhere game q (moves_to ss at.resolved) d f (length (moves_to ss at.resolved)) (slot_of f) refl (λ k. apart (omega arith)))
 
 -- with a rival nothing more is known
-pub rival_known : (game : Game) (q : ℕ) (ss : List (Option Received)) (at : Reach) (r h : Received) → IsSession game → IsHeld game q ss at → first_clash game q (in_order ss) ≡ None → slot ss (slot_of r.frame) ≡ Some h →
+pub rival_known : (game : Game) (q : ℕ) (ss : List (Option Received)) (at : Stream) (r h : Received) → IsSession game → IsHeld game q ss at → first_clash game q (in_order ss) ≡ None → slot ss (slot_of r.frame) ≡ Some h →
     known_to game q (frames_in (in_order ss ++ r ∷ [])) (2 * game.turns) ≡ shown ss at.commits at.resolved
 rival_known game q ss at r h is w clean e =
     ap (λ (fs : List TurnFrame). known_to game q fs (2 * game.turns)) (frames_append (in_order ss) r)

@@ -19,7 +19,7 @@ use Rattle.definitions.specs.Findings.{is_commit, is_illegal_at, kinds}
 use Rattle.grid_world.specs.Sessions.{IsSession}
 use Rattle.peer_window.specs.declared.received.Received.{Received}
 use Rattle.definitions.specs.declared.findings.Finding.{Finding}
-use Rattle.peer_window.specs.declared.walk.Reach.{Reach}
+use Rattle.grid_world.specs.declared.streams.Stream.{Stream}
 use Rattle.peer_window.specs.Clashes.{clash_among, clash_in, finding_by, illegal_clash, is_first, of_turn, same_digest}
 use Rattle.peer_window.specs.Steps.{frame_step, illegal_at, illegal_in, slot_step}
 use Rattle.peer_window.specs.Slots.{in_order, shown, slot}
@@ -141,7 +141,7 @@ uncommitted game track (Some r) = go r.frame
     go (Reveal p t m n) = refl
 
 -- the first clash of a turn, where the slots show all that is known
-pub turn_value : (game : Game) (q t : ℕ) (ss : List (Option Received)) (at : Reach) → IsSession game → IsHeld game q ss at →
+pub turn_value : (game : Game) (q t : ℕ) (ss : List (Option Received)) (at : Stream) → IsSession game → IsHeld game q ss at →
     clash_in game q (in_order ss) t ≡ option_or (pair_clash game q t (slot ss (2 * t)) (slot ss (2 * t + 1))) (end_clash t at.resolved (illegal_at game ss at))
 unfolding clash_in
 turn_value game q t ss at is h =

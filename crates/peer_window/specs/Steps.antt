@@ -15,7 +15,7 @@ use Rattle.move_rules.specs.Verdicts.{verdict}
 use Rattle.reveal_check.specs.Judgements.{by_rules, judgement}
 use Rattle.peer_window.specs.declared.received.Received.{Received}
 use Rattle.definitions.specs.declared.findings.Finding.{Finding}
-use Rattle.peer_window.specs.declared.walk.Reach.{Reach}
+use Rattle.grid_world.specs.declared.streams.Stream.{Stream}
 use Rattle.peer_window.specs.declared.walk.Step.{Step}
 use Rattle.peer_window.specs.declared.walk.Step.TheVariants.{Committed, Resolved, Halt, Illegal}
 use Rattle.peer_window.specs.Clashes.{illegal_clash, is_of, same_digest}
@@ -60,15 +60,15 @@ abbrev pub AgreeBut : Game → List (Option Received) → Option Finding → Typ
 AgreeBut game ss bad = (t : ℕ) (c g : Received) → slot ss (2 * t) ≡ Some c → slot ss (2 * t + 1) ≡ Some g → same_digest game c g ≡ not (is_of bad t)
 
 -- the next frame is a commitment, as many turns ahead as players commit
-abbrev pub is_commit_next : Game → Reach → Bool
+abbrev pub is_commit_next : Game → Stream → Bool
 is_commit_next game at = commits_next game at.commits at.resolved
 
 -- the step over the reveal of the first turn that isn't resolved
-abbrev pub turn_step : Game → List (Option Received) → Reach → Step
+abbrev pub turn_step : Game → List (Option Received) → Stream → Step
 turn_step game ss at = slot_step game at.track (slot ss (2 * at.resolved)) (slot ss (2 * at.resolved + 1))
 
 -- the step over the next frame
-abbrev pub step_from : Game → List (Option Received) → Reach → Step
+abbrev pub step_from : Game → List (Option Received) → Stream → Step
 step_from game ss at = if is_commit_next game at then commit_step (slot ss (2 * at.commits)) else turn_step game ss at
 
 -- a walk ends with the step
@@ -86,15 +86,15 @@ illegal_in Halt = None
 illegal_in (Illegal clash) = Some clash
 
 -- what the reveal of the first turn that isn't resolved shows, if it is illegal
-abbrev pub illegal_at : Game → List (Option Received) → Reach → Option Finding
+abbrev pub illegal_at : Game → List (Option Received) → Stream → Option Finding
 illegal_at game ss at = illegal_in (turn_step game ss at)
 
 -- so much of the player's stream is there, and leads to this track
-pub record IsReach (game : Game) (q : ℕ) (ss : List (Option Received)) (at : Reach) : Type 0 where
+pub record IsThere (game : Game) (q : ℕ) (ss : List (Option Received)) (at : Stream) : Type 0 where
   pub known : known_to game q (frames_in (in_order ss)) (at.commits + at.resolved) ≡ shown ss at.commits at.resolved
   pub track : at.track ≡ track_after game q (shown ss at.commits at.resolved).moves
 
 -- what is there, and no more of it
-pub record IsWalked (game : Game) (q : ℕ) (ss : List (Option Received)) (at : Reach) : Type 0 where
-  pub reach : IsReach game q ss at
+pub record IsWalked (game : Game) (q : ℕ) (ss : List (Option Received)) (at : Stream) : Type 0 where
+  pub stream : IsThere game q ss at
   pub whole : next_known game q (frames_in (in_order ss)) (shown ss at.commits at.resolved) ≡ shown ss at.commits at.resolved

@@ -9,7 +9,7 @@ use Rattle.definitions.specs.Logs.{frame_eq}
 use Rattle.definitions.specs.Held.{Known, known_to, places_in}
 use Rattle.definitions.specs.Answers.{is_beyond, place_of}
 use Rattle.peer_window.specs.declared.received.Received.{Received}
-use Rattle.peer_window.specs.declared.walk.Reach.{Reach}
+use Rattle.grid_world.specs.declared.streams.Stream.{Stream}
 use Rattle.definitions.specs.declared.findings.Finding.{Finding}
 use Rattle.peer_window.specs.declared.received.Offer.{Offer}
 use Rattle.peer_window.specs.declared.received.Offer.TheVariants.{Taken, Stashed, Same, Far, Conflict}
@@ -35,7 +35,7 @@ pub record IsWindow (game : Game) (w : Seen) : Type 0 where
   pub clean : w.closed ≡ false → first_clash game w.player w.frames ≡ None
 
 -- the slots show so much of the stream, and no more
-pub record IsHeld (game : Game) (q : ℕ) (ss : List (Option Received)) (at : Reach) : Type 0 where
+pub record IsHeld (game : Game) (q : ℕ) (ss : List (Option Received)) (at : Stream) : Type 0 where
   pub player : q < players_of game
   pub places : length ss ≡ 2 * game.turns
   pub slots : AreSlots q ss at.commits at.resolved
@@ -43,12 +43,12 @@ pub record IsHeld (game : Game) (q : ℕ) (ss : List (Option Received)) (at : Re
   pub leads : at.track ≡ track_after game q (shown ss at.commits at.resolved).moves
 
 -- the parts of a window: a rival is there only where it is closed
-pub record AreParts (q : ℕ) (ss : List (Option Received)) (rival : Option Received) (closed : Bool) (at : Reach) : Type 0 where
+pub record AreParts (q : ℕ) (ss : List (Option Received)) (rival : Option Received) (closed : Bool) (at : Stream) : Type 0 where
   pub slots : AreSlots q ss at.commits at.resolved
   pub alone : closed ≡ false → rival ≡ None
 
 -- what slots show, with the frame that is held beside the one at its place, if there is one
-abbrev pub seen_of : ℕ → List (Option Received) → Option Received → Bool → Reach → Seen
+abbrev pub seen_of : ℕ → List (Option Received) → Option Received → Bool → Stream → Seen
 seen_of player ss rival closed at = record {
   player = player;
   places = length ss;

@@ -10,17 +10,9 @@ ghost use Rattle.peer_window.specs.Steps as W;
 use crate::clashes::{illegal_clash, is_of};
 use crate::received::Received;
 use crate::slots::{commitment_slot, reveal_slot, slot};
-use definitions::{Finding, Move, PlayerId, Track, Turn, TurnFrame};
-use grid_world::Session;
+use definitions::{Finding, Move, PlayerId, Track, Turn, TurnFrame, What};
+use grid_world::{Session, Stream};
 use move_rules::Walker;
-
-/// How many turns are committed and how many resolved, and the track after these.
-#[derive(Clone, Copy, Debug, PartialEq, Eq)]
-pub(crate) struct Reach {
-    pub commits: u32,
-    pub resolved: u32,
-    pub track: Track,
-}
 
 /// What stands where the next frame should.
 #[derive(Clone, Copy, Debug, PartialEq, Eq)]
@@ -100,47 +92,48 @@ fn turn_step(
     player: PlayerId,
     slots: &[Option<Received>],
     bad: &Option<Finding>,
-    reach: &Reach,
+    stream: &Stream,
 ) -> Step
     requires player { player < players_of session.now }
-    requires slots { AreSlots player slots.now reach.now.commits reach.now.resolved }
+    requires slots { AreSlots player slots.now stream.now.commits stream.now.resolved }
     requires agree { W.AgreeBut session.now slots.now bad.now }
-    requires track { IsTrue (is_open session.now.grid reach.now.track.at) }
-    ensures step { result ≡ W.turn_step session.now slots.now reach.now }
+    requires track { IsTrue (is_open session.now.grid stream.now.track.at) }
+    ensures step { result ≡ W.turn_step session.now slots.now stream.now }
 {
-    if is_of(bad, reach.resolved) {
+    if is_of(bad, stream.resolved) {
         return Step::Halt;
     }
-    match slot(slots, reveal_slot(reach.resolved)) {
+    match slot(slots, reveal_slot(stream.resolved)) {
         None => Step::Halt,
         Some(received) => {
-            let before = slot(slots, commitment_slot(reach.resolved));
-            frame_step(session, walker, &reach.track, &before, &received)
+            let before = slot(slots, commitment_slot(stream.resolved));
+            frame_step(session, walker, &stream.track, &before, &received)
         }
     }
 }
 
-/// The step over the next frame: a commitment as many turns ahead as players commit, and otherwise a reveal.
+/// The step over the next frame of the stream. Past the last turn's reveal the walk halts.
 fn next_step(
     session: &Session,
     walker: &mut Walker,
     player: PlayerId,
     slots: &[Option<Received>],
     bad: &Option<Finding>,
-    reach: &Reach,
+    stream: &Stream,
 ) -> Step
     requires player { player < players_of session.now }
-    requires slots { AreSlots player slots.now reach.now.commits reach.now.resolved }
+    requires slots { AreSlots player slots.now stream.now.commits stream.now.resolved }
     requires agree { W.AgreeBut session.now slots.now bad.now }
-    requires reach { reach.now.resolved ≤ session.now.turns }
-    requires track { IsTrue (is_open session.now.grid reach.now.track.at) }
-    ensures step { result ≡ W.step_from session.now slots.now reach.now }
+    requires length { length slots.now ≡ 2 * session.now.turns }
+    requires track { IsTrue (is_open session.now.grid stream.now.track.at) }
+    ensures step { result ≡ W.step_from session.now slots.now stream.now }
 {
-    session.facts();
-    if reach.commits < (reach.resolved + session.ahead()).min(session.turns()) {
-        commit_step(slots, reach.commits)
-    } else {
-        turn_step(session, walker, player, slots, bad, reach)
+    match stream.slot(session) {
+        None => Step::Halt,
+        Some(next) => match next.what {
+            What::Commit => commit_step(slots, next.turn),
+            What::Reveal => turn_step(session, walker, player, slots, bad, stream),
+        },
     }
 }
 
@@ -151,39 +144,39 @@ pub(crate) fn walk(
     player: PlayerId,
     slots: &[Option<Received>],
     bad: &Option<Finding>,
-    from: &Reach,
-) -> Reach
+    from: &Stream,
+) -> Stream
     requires player { player < players_of session.now }
     requires length { length slots.now ≡ 2 * session.now.turns }
     requires slots { AreSlots player slots.now from.now.commits from.now.resolved }
     requires agree { W.AgreeBut session.now slots.now bad.now }
-    requires reach { W.IsReach session.now player slots.now from.now }
+    requires stream { W.IsThere session.now player slots.now from.now }
     ensures walked { W.IsWalked session.now player slots.now result }
     ensures slots { AreSlots player slots.now result.commits result.resolved }
 {
     session.facts();
-    let mut reach = *from;
+    let mut stream = *from;
     loop {
-        match next_step(session, walker, player, slots, bad, &reach) {
+        match next_step(session, walker, player, slots, bad, &stream) {
             Step::Committed => {
-                reach = Reach {
-                    commits: reach.commits + 1,
-                    resolved: reach.resolved,
-                    track: reach.track,
+                stream = Stream {
+                    commits: stream.commits + 1,
+                    resolved: stream.resolved,
+                    track: stream.track,
                 };
             }
             Step::Resolved(track) => {
-                reach = Reach {
-                    commits: reach.commits,
-                    resolved: reach.resolved + 1,
+                stream = Stream {
+                    commits: stream.commits,
+                    resolved: stream.resolved + 1,
                     track,
                 };
             }
             Step::Halt => {
-                return reach;
+                return stream;
             }
             Step::Illegal(_) => {
-                return reach;
+                return stream;
             }
         }
     }
@@ -198,16 +191,16 @@ pub(crate) fn illegal_reveal(
     player: PlayerId,
     slots: &[Option<Received>],
     bad: &Option<Finding>,
-    reach: &Reach,
+    stream: &Stream,
 ) -> Option<Finding>
     requires player { player < players_of session.now }
-    requires slots { AreSlots player slots.now reach.now.commits reach.now.resolved }
+    requires slots { AreSlots player slots.now stream.now.commits stream.now.resolved }
     requires agree { W.AgreeBut session.now slots.now bad.now }
-    requires reach { W.IsReach session.now player slots.now reach.now }
-    ensures { result ≡ W.illegal_at session.now slots.now reach.now }
+    requires stream { W.IsThere session.now player slots.now stream.now }
+    ensures { result ≡ W.illegal_at session.now slots.now stream.now }
 {
     session.facts();
-    match turn_step(session, walker, player, slots, bad, reach) {
+    match turn_step(session, walker, player, slots, bad, stream) {
         Step::Committed => None,
         Step::Resolved(_) => None,
         Step::Halt => None,

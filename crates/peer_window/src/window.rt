@@ -15,9 +15,9 @@ ghost use Rattle.peer_window.specs.Windows as W;
 use crate::clashes::{lower_clash, opening_clash, rival_clash};
 use crate::received::{Offer, Received};
 use crate::slots::{commitment_slot, other_slot, reveal_slot, slot, slot_of};
-use crate::walk::{Reach, illegal_reveal, walk};
+use crate::walk::{illegal_reveal, walk};
 use definitions::{Digest, Finding, FramePlace, Move, Place, PlayerId, Track, Turn, TurnFrame};
-use grid_world::Session;
+use grid_world::{Session, Stream};
 use move_rules::{Walker, start_track};
 use std::alloc::{AllocError, Global};
 use std::marker::Model;
@@ -33,7 +33,7 @@ pub struct Window {
     // a frame came that makes a clash
     closed: bool,
     // how much of the stream is there
-    reach: Reach,
+    stream: Stream,
 }
 
 impl Model for Window {
@@ -41,15 +41,15 @@ impl Model for Window {
 
     ghost Value = { Seen };
 
-    ghost view = { λ w. seen_of w.player w.slots.items w.rival w.closed w.reach };
+    ghost view = { λ w. seen_of w.player w.slots.items w.rival w.closed w.stream };
 
-    ghost invariant = { λ w. AreParts w.player w.slots.items w.rival w.closed w.reach };
+    ghost invariant = { λ w. AreParts w.player w.slots.items w.rival w.closed w.stream };
 }
 
 /// How far the frames that are held lead, and what became of the last.
 #[derive(Clone, Copy)]
 pub(crate) struct Held {
-    pub reach: Reach,
+    pub stream: Stream,
     pub offer: Offer,
 }
 
@@ -116,7 +116,7 @@ fn hold(
     walker: &mut Walker,
     player: PlayerId,
     slots: &mut [Option<Received>],
-    from: &Reach,
+    from: &Stream,
     received: &Received,
 ) -> Held
     requires held { IsHeld session.now player slots.old from.now }
@@ -126,21 +126,21 @@ fn hold(
     requires later { EachIs (λ r. r.entry < received.now.entry) (in_order slots.old) }
     requires clean { first_clash session.now player (in_order slots.old) ≡ None }
     ensures slots { slots.new ≡ slice_set slots.old (slot_of received.now.frame) (Some received.now) }
-    ensures held { IsHeld session.now player slots.new result.reach }
+    ensures held { IsHeld session.now player slots.new result.stream }
     ensures offer { result.offer ≡ new_answer (first_clash session.now player (in_order slots.new)) (place_of session.now received.now.frame == from.now.commits + from.now.resolved) }
 {
     session.facts();
-    let next = FramePlace::from(from.commits + from.resolved);
+    let next = FramePlace::from(from.next());
     let was_next = session.place_of(&received.frame) == next;
     let other = slot(slots, other_slot(&received.frame));
     let at = slot_of(&received.frame);
     let bad = opening_clash(session, player, &other, received);
     slots[at as usize] = Some(*received);
-    let reach = walk(session, walker, player, slots, &bad, from);
-    let illegal = illegal_reveal(session, walker, player, slots, &bad, &reach);
+    let stream = walk(session, walker, player, slots, &bad, from);
+    let illegal = illegal_reveal(session, walker, player, slots, &bad, &stream);
     let clash = lower_clash(bad, illegal);
     Held {
-        reach,
+        stream,
         offer: answer_of(clash, was_next),
     }
 }
@@ -164,7 +164,7 @@ impl Window {
             slots,
             rival: None,
             closed: false,
-            reach: Reach {
+            stream: Stream {
                 commits: 0,
                 resolved: 0,
                 track: start_track(session, player),
@@ -184,7 +184,7 @@ impl Window {
         empty(&mut self.slots);
         self.rival = None;
         self.closed = false;
-        self.reach = Reach {
+        self.stream = Stream {
             commits: 0,
             resolved: 0,
             track: start_track(session, self.player),
@@ -220,7 +220,7 @@ impl Window {
         ensures unchanged { (result ≡ Offer.Far) ⊎ (result ≡ Offer.Same) → self.new ≡ self.old }
     {
         session.facts();
-        if session.is_beyond(self.reach.commits + self.reach.resolved, frame) {
+        if session.is_beyond(self.stream.next(), frame) {
             return Offer::Far;
         }
         let at = slot_of(frame);
@@ -235,10 +235,10 @@ impl Window {
                     walker,
                     self.player,
                     &mut self.slots,
-                    &self.reach,
+                    &self.stream,
                     &received,
                 );
-                self.reach = held.reach;
+                self.stream = held.stream;
                 self.closed = is_conflict(&held.offer);
                 held.offer
             }
@@ -258,7 +258,7 @@ impl Window {
     pub fn held(&self, turn: Turn) -> Option<Digest>
         ensures { result ≡ slice_get self.now.known.digests turn }
     {
-        if turn >= self.reach.commits {
+        if turn >= self.stream.commits {
             return None;
         }
         match slot(&self.slots, commitment_slot(turn)) {
@@ -274,7 +274,7 @@ impl Window {
     pub fn move_at(&self, turn: Turn) -> Option<Move>
         ensures { result ≡ slice_get self.now.known.moves turn }
     {
-        if turn >= self.reach.resolved {
+        if turn >= self.stream.resolved {
             return None;
         }
         match slot(&self.slots, reveal_slot(turn)) {
@@ -290,27 +290,27 @@ impl Window {
     pub fn resolved(&self) -> u32
         ensures { result ≡ length self.now.known.moves }
     {
-        self.reach.resolved
+        self.stream.resolved
     }
 
     /// How many commitments are held.
     pub fn commits(&self) -> u32
         ensures { result ≡ length self.now.known.digests }
     {
-        self.reach.commits
+        self.stream.commits
     }
 
     /// The least place of the player's stream that is not there, counted from 0.
     pub fn next(&self) -> Place
         ensures { result ≡ places_in self.now.known }
     {
-        self.reach.commits + self.reach.resolved
+        self.stream.next()
     }
 
     /// Where the player stands after the turns that are resolved, and its charge.
     pub fn track(&self) -> Track
         ensures { result ≡ self.now.track }
     {
-        self.reach.track
+        self.stream.track
     }
 }

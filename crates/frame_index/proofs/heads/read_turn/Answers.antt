@@ -1,33 +1,22 @@
-use Rattle.std.proofs.Common.{◌≡◌, ◌+◌, arith, subst, sym, ℕ, List}
-use Rattle.std.specs.Prelude.{min}
+use Rattle.std.proofs.Common.{List, ap, subst, sym, ℕ, ◌+◌, ◌∙◌}
+use Rattle.std.proofs.lemmas.Result.{on_ok_weaker}
 use Rattle.frame_index.specs.declared.seen.Seen.{Seen}
+use Rattle.frame_index.specs.Heads.{Stand, past_commitment, turn_at}
 use Rattle.frame_index.specs.Keeps.{Keeps}
-use Rattle.frame_index.proofs.Fronts.{at_reveal, past_commit, past_last, past_reveal, reveal_turn}
+use Rattle.frame_index.proofs.Fronts.{past_front, reveal_front, turn_of_front}
 use Rattle.frame_index.proofs.heads.read_turn.Goals as goal
 
-pub returns-in_ok-read_place-clause-stand : goal.returns-in_ok-read_place-clause-stand
-returns-in_ok-read_place-clause-stand c logs index keeps stand =
+pub returns-clause-stand : goal.returns-clause-stand
+returns-clause-stand c =
     let game = c.args.session.now in
     let q = c.args.player in
-    let commits = c.min-commits.result in
-    let is : commits ≡ min (c.args.turn + game.ahead) game.turns = omega arith in
-    past_commit game q logs c.read_place.new.heads c.args.turn commits is (omega arith)
-    (c.in_ok-read_place.ensures.stand logs index
-    (past_reveal game q logs c.step_all.new.heads c.args.turn commits is
+    let t = c.args.turn in
+    let front = reveal_front game t c.facts.ensures c.requires.turn c.reveal_place-place.result c.reveal_place-place.ensures.place in
+    on_ok_weaker c.read_commitment.result
+    (λ d logs index keeps stand.
+    subst (λ (n : ℕ). Stand game q logs n c.read_commitment.new.heads) (ap (λ (n : ℕ). past_commitment game (n + 1)) front ∙ past_front game t c.facts.ensures c.requires.turn)
+    (d logs index
     (c.step_all.ensures.stand logs
-    (subst (λ (u : ℕ). Keeps game q u logs c.deref.result.now) (sym (reveal_turn game q logs c.args.heads.now c.args.turn commits is))
-    (subst (λ (ks : List Seen). Keeps game q c.args.turn logs ks) (sym c.deref.ensures.value) keeps))
-    (at_reveal game q logs c.args.heads.now c.args.turn commits is stand))))
-
-pub returns-else-commits-turns-clause-stand : goal.returns-else-commits-turns-clause-stand
-returns-else-commits-turns-clause-stand c logs index keeps stand =
-    let game = c.args.session.now in
-    let q = c.args.player in
-    let commits = c.min-commits.result in
-    let is : commits ≡ min (c.args.turn + game.ahead) game.turns = omega arith in
-    past_last game q logs c.step_all.new.heads c.args.turn commits is (omega arith)
-    (past_reveal game q logs c.step_all.new.heads c.args.turn commits is
-    (c.step_all.ensures.stand logs
-    (subst (λ (u : ℕ). Keeps game q u logs c.deref.result.now) (sym (reveal_turn game q logs c.args.heads.now c.args.turn commits is))
-    (subst (λ (ks : List Seen). Keeps game q c.args.turn logs ks) (sym c.deref.ensures.value) keeps))
-    (at_reveal game q logs c.args.heads.now c.args.turn commits is stand)))
+    (subst (λ (u : ℕ). Keeps game q u logs c.deref.result.now) (sym (ap (turn_at game) front ∙ turn_of_front game t c.facts.ensures c.requires.turn))
+    (subst (λ (ks : List Seen). Keeps game q t logs ks) (sym c.deref.ensures.value) keeps))
+    (subst (λ (n : ℕ). Stand game q logs n c.args.heads.now) (sym front) stand)))) c.read_commitment.ensures.stand

@@ -24,7 +24,7 @@ loop-log-preserved c =
     record {
       long = length-set c.loop-log.heads c.loop-log.log _ ∙ long;
       tracks = open_set c.args.session.now c.loop-log.heads c.loop-log.log c.step.result c.step.ensures.track c.loop-log.invariant.tracks;
-      half = λ logs keeps stand. halfway_more _ _ logs c.args.front c.loop-log.log c.loop-log.heads _ c.step.result (slice_get-get_or c.loop-log.heads c.loop-log.log _ lt)
+      half = λ logs keeps stand. halfway_more _ _ logs c.args.place c.loop-log.log c.loop-log.heads _ c.step.result (slice_get-get_or c.loop-log.heads c.loop-log.log _ lt)
           (λ h there stands. c.step.ensures.stands logs h keeps there stands) (c.loop-log.invariant.half logs keeps stand);
     }
 
@@ -32,4 +32,4 @@ pub returns-clause-stand : goal.returns-clause-stand
 returns-clause-stand c logs keeps stand =
     let long = c.loop-log.invariant.long in
     let le : length c.loop-log.heads ≤ c.loop-log.log = omega arith in
-    halfway_all _ _ logs c.args.front c.loop-log.log c.loop-log.heads le (c.loop-log.invariant.half logs keeps stand)
+    halfway_all _ _ logs c.args.place c.loop-log.log c.loop-log.heads le (c.loop-log.invariant.half logs keeps stand)

@@ -3,11 +3,11 @@ use Rattle.peer_window.specs.Slots.{AreSlots}
 use Rattle.peer_window.specs.Steps as W
 use Rattle.peer_window.proofs.walk.walk.Given as goal
 
-abbrev pub invariant-loop-reach : goal.invariant-loop-reach
-invariant-loop-reach l = record {
-  slots : AreSlots l.player l.slots l.reach.commits l.reach.resolved;
-  reach : W.IsReach l.session l.player l.slots l.reach;
+abbrev pub invariant-loop-stream : goal.invariant-loop-stream
+invariant-loop-stream l = record {
+  slots : AreSlots l.player l.slots l.stream.commits l.stream.resolved;
+  stream : W.IsThere l.session l.player l.slots l.stream;
 }
 
-abbrev pub decreases-loop-reach : goal.decreases-loop-reach
-decreases-loop-reach l = length l.slots + length l.slots - (l.reach.commits + l.reach.resolved)
+abbrev pub decreases-loop-stream : goal.decreases-loop-stream
+decreases-loop-stream l = length l.slots + length l.slots - (l.stream.commits + l.stream.resolved)

@@ -7,14 +7,14 @@ use Rattle.peer_window.proofs.window.Window.move_at.Goals as goal
 
 pub returns-then-turn-self : goal.returns-then-turn-self
 returns-then-turn-self c =
-    no_move c.self.inside.player c.self.inside.reach.commits c.self.inside.reach.resolved c.args.turn c.self.inside.slots.items c.args.self.now.known (ap (λ (w : Seen). w.known) (sym c.self.view_is)) c.self.invariant.slots (omega arith)
+    no_move c.self.inside.player c.self.inside.stream.commits c.self.inside.stream.resolved c.args.turn c.self.inside.slots.items c.args.self.now.known (ap (λ (w : Seen). w.known) (sym c.self.view_is)) c.self.invariant.slots (omega arith)
 
 pub returns-in-Reveal : goal.returns-in-Reveal
 returns-in-Reveal c =
-    the_move c.self.inside.player c.self.inside.reach.commits c.self.inside.reach.resolved c.args.turn c.reveal_slot.result c.in-Reveal.player c.in-Reveal.turn c.self.inside.slots.items c.args.self.now.known c.in-Some.received c.in-Reveal.mv c.in-Reveal.nonce
+    the_move c.self.inside.player c.self.inside.stream.commits c.self.inside.stream.resolved c.args.turn c.reveal_slot.result c.in-Reveal.player c.in-Reveal.turn c.self.inside.slots.items c.args.self.now.known c.in-Some.received c.in-Reveal.mv c.in-Reveal.nonce
     (ap (λ (w : Seen). w.known) (sym c.self.view_is)) c.self.invariant.slots c.reveal_slot.ensures (omega arith) (c.in-Some.ensures ∙ ap (λ (xs : List (Option Received)). slot xs c.reveal_slot.result) c.deref.ensures.value) c.in-Reveal.is
 
 pub returns-in-Commit : goal.returns-in-Commit
 returns-in-Commit c =
-    never_commitment c.self.inside.player c.self.inside.reach.commits c.self.inside.reach.resolved c.args.turn c.reveal_slot.result c.in-Commit.player c.in-Commit.turn c.self.inside.slots.items c.in-Some.received c.in-Commit.digest
+    never_commitment c.self.inside.player c.self.inside.stream.commits c.self.inside.stream.resolved c.args.turn c.reveal_slot.result c.in-Commit.player c.in-Commit.turn c.self.inside.slots.items c.in-Some.received c.in-Commit.digest
     c.self.invariant.slots c.reveal_slot.ensures (c.in-Some.ensures ∙ ap (λ (xs : List (Option Received)). slot xs c.reveal_slot.result) c.deref.ensures.value) c.in-Commit.is

@@ -4,4 +4,4 @@ use Rattle.peer_window.proofs.Lookups.{count_moves}
 use Rattle.peer_window.proofs.window.Window.resolved.Goals as goal
 
 pub returns : goal.returns
-returns c = count_moves c.self.inside.player c.self.inside.reach.commits c.self.inside.reach.resolved c.self.inside.slots.items c.args.self.now.known (ap (λ (w : Seen). w.known) (sym c.self.view_is)) c.self.invariant.slots
+returns c = count_moves c.self.inside.player c.self.inside.stream.commits c.self.inside.stream.resolved c.self.inside.slots.items c.args.self.now.known (ap (λ (w : Seen). w.known) (sym c.self.view_is)) c.self.invariant.slots
