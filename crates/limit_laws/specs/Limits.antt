@@ -8,7 +8,11 @@ use Rattle.rosters.specs.declared.limits.TheConstants.{ROSTER_FRONT}
 use Rattle.pilots.specs.declared.limits.TheConstants.{MOVES_FRONT}
 use Rattle.frame_index.specs.declared.limits.TheConstants.{MOST_LOGS}
 use Rattle.post_rules.specs.declared.limits.TheConstants.{MOST_DATAGRAMS, MOST_FRAMES}
+use Rattle.machine_host.specs.declared.hosts.TheConstants.{MOST_EVENTS}
 use Rattle.station_mio.specs.declared.pace.TheConstants.{PAUSE, PATIENCE, LINGER}
+use Rattle.station_mio.specs.declared.rows.TheConstants.{MOST_SOCKETS}
+use Rattle.station_mio.specs.declared.ending.TheConstants.{MOST_READS}
+use Rattle.station_mio.specs.declared.sockets.TheConstants.{MOST_WAITS}
 
 -- the protocol, its sessions and its texts
 pub record ProtocolLimits : Type 0 where
@@ -69,6 +73,13 @@ pub record PauseLimits : Type 0 where
   pub patience : PATIENCE ≡ 3_000
   pub linger : LINGER ≡ 1_000
 
+-- how many sockets a station has, how many a wait reports, and how often the end reads one and waits
+pub record SocketLimits : Type 0 where
+  pub most_sockets : MOST_SOCKETS ≡ 512
+  pub most_events : MOST_EVENTS ≡ 48
+  pub most_reads : MOST_READS ≡ 1_000
+  pub most_waits : MOST_WAITS ≡ 1_000
+
 -- all of them
 pub record LimitsAre : Type 0 where
   pub protocol : ProtocolLimits
@@ -77,3 +88,4 @@ pub record LimitsAre : Type 0 where
   pub log : LogLimits
   pub post : PostLimits
   pub pause : PauseLimits
+  pub socket : SocketLimits

@@ -74,16 +74,18 @@ impl Machine {
         Ok(())
     }
 
-    /// The place of the socket of this number, if there is one.
+    /// The place of the socket of this number, if there is one. A number may be used again where
+    /// a host closed its socket at once: that of the last one counts.
     fn place(&self, number: SocketId) -> Option<usize>
         ensures { IfSome result (λ place. place < length self.now.lines.items) }
     {
+        let mut found = None;
         for place in 0..self.lines.len() {
             if self.lines[place].number == number {
-                return Some(place);
+                found = Some(place);
             }
         }
-        None
+        found
     }
 
     /// The socket of this number, if there is one, as its other side sees it.

@@ -53,7 +53,7 @@ appended_more bytes rest before middle after count w e = record {
 
 -- all of them
 pub appended_all : (bytes : List ℕ) (before after : List Ask) → AppendedSo bytes [] before after → AppendsAll bytes true before after
-appended_all bytes before after w = record { more = w.more; asked = w.asked; only = w.only; rest = []; front = w.front; all = λ e. refl }
+appended_all bytes before after w = record { more = w.more; asked = w.asked; only = w.only; rest = []; front = w.front; all = λ e. refl; stuck = λ x. absurd (cc) }
 
 -- the machine failed in the next one
 pub appended_failed : (bytes rest : List ℕ) (before middle after : List Ask) (fault : HostFault) → AppendedSo bytes rest before middle → after ≡ middle ++ A.Appended rest (Err fault) ∷ [] → AppendsAll bytes false before after
@@ -64,13 +64,15 @@ appended_failed bytes rest before middle after fault w e = record {
   rest = rest;
   front = w.front ∙ ap (λ (x : List ℕ). x ++ rest) (sym (append-nil (appended_in w.more)) ∙ sym (in_then w.more (A.Appended rest (Err fault))));
   all = λ x. absurd (cc);
+  stuck = λ x. (w.more, Err fault, refl, tt);
 }
 
 -- or took nothing
 pub appended_stuck : (bytes rest : List ℕ) (before middle after : List Ask) → AppendedSo bytes rest before middle → after ≡ middle ++ A.Appended rest (Ok 0) ∷ [] → AppendsAll bytes false before after
+unfolding appended_more
 appended_stuck bytes rest before middle after w e =
     let m = appended_more bytes rest before middle after 0 w e in
-    record { more = m.more; asked = m.asked; only = m.only; rest = rest; front = m.front; all = λ x. absurd (cc) }
+    record { more = m.more; asked = m.asked; only = m.only; rest = rest; front = m.front; all = λ x. absurd (cc); stuck = λ x. (w.more, Ok 0, refl, refl) }
 
 -- one more step, or the end
 pub appended_step : (bytes rest left : List ℕ) (before middle after : List Ask) → AppendedSo bytes rest before middle → AppendsSome rest (Some left) middle after → AppendedSo bytes left before after

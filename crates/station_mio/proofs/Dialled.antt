@@ -36,8 +36,9 @@ dials_now a m b now addr dial s e selects is w = (m, s, e, subst (λ (r : Bool).
 
 -- it listens, where readiness can be asked of
 pub listens_now : (a m b : Net) (addr : Addr) (done : Result (Unit {0}) HostFault) → Selects a.selects m.selects a.asks m.asks → m ≡ record a { asks = m.asks; selects = m.selects } →
-    m.selects ≡ true → ListensAt addr (is_ok done) m.asks b.asks → b ≡ record m { asks = b.asks; listens = b.listens } → (is_ok done ≡ true → b.listens ≡ true) → Listens addr done a b
-listens_now a m b addr done s e is w same l =
+    m.selects ≡ true → ListensAt addr (is_ok done) m.asks b.asks → b ≡ record m { asks = b.asks; listens = b.listens } → (is_ok done ≡ true → b.listens ≡ true) →
+    (is_ok done ≡ false → b.listens ≡ m.listens) → Listens addr done a b
+listens_now a m b addr done s e is w same l kept =
     let both : b ≡ record a { asks = b.asks; selects = m.selects; listens = b.listens } = same ∙ ap (λ (n : Net). record n { asks = b.asks; listens = b.listens }) e in
     let selects : m.selects ≡ b.selects = sym (ap (λ (n : Net). n.selects) both) in
     record {
@@ -46,4 +47,5 @@ listens_now a m b addr done s e is w same l =
       asked = subst (λ (r : Bool). ListensBy r addr done m.asks b.asks) (sym is ∙ selects) w;
       same = both ∙ ap (λ (r : Bool). record a { asks = b.asks; selects = r; listens = b.listens }) selects;
       listens = l;
+      kept = λ failed. kept failed ∙ ap (λ (n : Net). n.listens) e;
     }

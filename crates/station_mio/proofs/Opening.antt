@@ -69,8 +69,7 @@ none_next a b (inr (inr (inl x))) = ap (λ (n : Net). n.next) x.1
 none_next a b (inr (inr (inr x))) = ap (λ (n : Net). n.next) x.1
 
 stops_next : (list : List Ready) (a b : Net) → StopsAt list a b → b.next ≡ a.next
-stops_next list a b (inl (full, inl x)) = ap (λ (n : Net). n.next) x
-stops_next list a b (inl (full, inr x)) = ap (λ (n : Net). n.next) x
+stops_next list a b (inl (full, x)) = ap (λ (n : Net). n.next) x
 stops_next list a b (inr x) = none_next a b x
 
 waiting_open : (list out : List Ready) (a b : Net) (first : ℕ) → AcceptsWaiting list out a b → OpensBetween first a.next list → OpensBetween first b.next out

@@ -231,8 +231,7 @@ quiet_come [] a b w = same_asks a.asks b.asks (ap (λ (n : Net). n.asks) w)
 quiet_come (s ∷ news) a b w = quiet_then a.asks w.0.asks b.asks (quiet_accepts_one (Some s) a w.0 w.1) (quiet_come news w.0 b w.2)
 
 quiet_stops : (list : List Ready) (a b : Net) → StopsAt list a b → Quiet a.asks b.asks
-quiet_stops list a b (inl (full, inl x)) = same_asks a.asks b.asks (ap (λ (n : Net). n.asks) x)
-quiet_stops list a b (inl (full, inr x)) = same_asks a.asks b.asks (ap (λ (n : Net). n.asks) x)
+quiet_stops list a b (inl (full, x)) = same_asks a.asks b.asks (ap (λ (n : Net). n.asks) x)
 quiet_stops list a b (inr x) = quiet_accepts_one None a b x
 
 quiet_waiting : (list out : List Ready) (a b : Net) → AcceptsWaiting list out a b → Quiet a.asks b.asks
@@ -257,8 +256,8 @@ quiet_lists tokens list a b w =
 
 pub quiet_polls : (did : Did) (list : List Ready) (a b : Net) → Polls did list a b → Quiet a.asks b.asks
 quiet_polls Did.Done list a b w = quiet_then a.asks w.waited.asks b.asks (quiet_waits (Ok w.tokens) a w.waited w.waits) (quiet_lists w.tokens list w.waited b w.lists)
-quiet_polls Did.Failed list a b (inl w) = quiet_selects a.selects false a.asks b.asks w.selects
-quiet_polls Did.Failed list a b (inr w) = quiet_waits (Err w.0) a b w.1
+quiet_polls Did.Failed list a b (_, inl w) = quiet_selects a.selects false a.asks b.asks w.selects
+quiet_polls Did.Failed list a b (_, inr w) = quiet_waits (Err w.0) a b w.1
 
 quiet_dials_at : (now : ℕ) (addr : Addr) (dial : Dial) (a b : Net) → DialsAt now addr dial a b → Quiet a.asks b.asks
 quiet_dials_at now addr (D.Socket s) a b w = quiet_connects s addr true a.asks b.asks w.1

@@ -449,13 +449,13 @@ tells_begun_well : (name : List ℕ) (log : Option Bool) (a b : Net) (items : Li
 tells_begun_well name log a b items w t =
     let none = not_begun log (file_in a.asks) (log_in items) t.same in
     tells_by log (Some true) false true a.asks b.asks (A.FolderOpened w.0 None ∷ A.Created name 0o600 None ∷ []) items (log_item Did.Done name) no_file (record { kept = []; synced = [] })
-    w.1 (λ s. refl) (λ s. refl) (λ s. refl) (λ s. refl) refl none.2 ([], refl) ([], refl) (refl, refl, (λ x. absurd (let e : true ≡ false = x in cc)), ([], refl)) t
+    w.2 (λ s. refl) (λ s. refl) (λ s. refl) (λ s. refl) refl none.2 ([], refl) ([], refl) (refl, refl, (λ x. absurd (let e : true ≡ false = x in cc)), ([], refl)) t
 
 tells_begun_not : (name : List ℕ) (log : Option Bool) (a b : Net) (items : List Item) → CreatesLog name false a.asks b.asks → Tells log false a.asks items → Tells log false b.asks (items ++ log_item Did.Failed name ∷ [])
-tells_begun_not name log a b items (folder, fault, inl e) t =
+tells_begun_not name log a b items (folder, is, fault, inl e) t =
     tells_by log log false false a.asks b.asks (A.FolderOpened folder (Some fault) ∷ []) items (log_item Did.Failed name) (file_in a.asks) (log_in items)
     e (λ s. refl) (λ s. refl) (λ s. refl) (λ s. refl) refl refl t.kept t.synced t.same t
-tells_begun_not name log a b items (folder, fault, inr e) t =
+tells_begun_not name log a b items (folder, is, fault, inr e) t =
     tells_by log log false false a.asks b.asks (A.FolderOpened folder None ∷ A.Created name 0o600 (Some fault) ∷ []) items (log_item Did.Failed name) (file_in a.asks) (log_in items)
     e (λ s. refl) (λ s. refl) (λ s. refl) (λ s. refl) refl refl t.kept t.synced t.same t
 

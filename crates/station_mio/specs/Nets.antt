@@ -1,5 +1,5 @@
 -- Nets: the sockets of a station, and what its calls ask the machine and change.
-use Rattle.std.specs.Prelude.{◌≡◌, ◌⊎◌, ◌≤◌, ◌^◌, ◌-◌, ℕ, ◌+◌, max, Bool, true, false, List, [], ◌∷◌, ◌++◌, map, Option, Some, None, Result, Ok, Err, get_or, slice_set, is_ok, length, nat_lt, ◌&&◌}
+use Rattle.std.specs.Prelude.{◌≡◌, ◌⊎◌, ◌≤◌, ◌^◌, ◌-◌, ℕ, ◌+◌, max, Bool, true, false, List, [], ◌∷◌, ◌++◌, map, Option, Some, None, Result, Ok, Err, get_or, slice_set, is_ok, length, nat_lt, ◌&&◌, replicate}
 use Rattle.socket_station.specs.declared.answers.Addr.{Addr}
 use Rattle.socket_station.specs.declared.answers.Dial.{Dial}
 use Rattle.socket_station.specs.declared.answers.Dial.TheVariants as D
@@ -34,6 +34,10 @@ pub record Net : Type 0 where
   pub stands : List Stand
   -- the least number that no socket has had
   pub next : ℕ
+
+-- the sockets of a station that asked for nothing but this yet: each player may be dialled at once
+abbrev pub fresh : List Ask → Net
+fresh asks = record { asks = asks; selects = false; listens = false; backlog = B.Empty; due = replicate 256 0; stands = []; next = 0 }
 
 -- the greatest number that a socket may have is this less one
 abbrev pub LAST_NUMBER : ℕ
@@ -73,6 +77,8 @@ pub record Listens (addr : Addr) (done : Result (Unit {0}) HostFault) (a b : Net
   pub asked : ListensBy b.selects addr done middle b.asks
   pub same : b ≡ record a { asks = b.asks; selects = b.selects; listens = b.listens }
   pub listens : is_ok done ≡ true → b.listens ≡ true
+  -- one that stood stays where a further one fails
+  pub kept : is_ok done ≡ false → b.listens ≡ a.listens
 
 -- a socket is dialled at once: it stands as dialled, or there is none
 abbrev pub DialsAt : (now : ℕ) → Addr → Dial → (a b : Net) → Type 0
@@ -123,10 +129,10 @@ abbrev pub Come : (news : List ℕ) → (a b : Net) → Type 0
 Come [] a b = b ≡ a
 Come (s ∷ news) a b = (m : Net) × AcceptsOne (Some s) a m × Come news m b
 
--- no more are accepted now: the list is full, or one more wasn't accepted
+-- no more are accepted now: the list is full, and others may wait, or one more wasn't accepted
 abbrev pub StopsAt : (list : List Ready) → (a b : Net) → Type 0
 StopsAt list a b =
-    ((MOST_READY ≤ length list) × ((b ≡ record a { backlog = B.Waiting }) ⊎ (b ≡ a))) ⊎ AcceptsOne None a b
+    ((MOST_READY ≤ length list) × (b ≡ record a { backlog = B.Waiting })) ⊎ AcceptsOne None a b
 
 -- The connections that wait are accepted and listed, unless none did when it was last looked for.
 pub record AcceptsWaiting (list out : List Ready) (a b : Net) : Type 0 where
@@ -186,4 +192,4 @@ pub record PollsWell (list : List Ready) (a b : Net) : Type 0 where
 -- a poll: where the machine couldn't be asked, or failed, it failed
 abbrev pub Polls : Did → (list : List Ready) → (a b : Net) → Type 0
 Polls Did.Done list a b = PollsWell list a b
-Polls Did.Failed list a b = IsDeaf a b ⊎ ((f : HostFault) × Waits (Err f) a b)
+Polls Did.Failed list a b = (list ≡ []) × (IsDeaf a b ⊎ ((f : HostFault) × Waits (Err f) a b))

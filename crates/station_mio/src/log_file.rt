@@ -1,7 +1,7 @@
 //! The log of a station as a file of its machine.
 
-ghost use Rattle.std.specs.Prelude.{◌≡◌, IfSome, is_some, option_map, true, false};
-ghost use Rattle.station_mio.specs.Files.{CreatesLog, AppendsSome, AppendsAll, SyncsLog};
+ghost use Rattle.std.specs.Prelude.{◌≡◌, ◌<◌, IfSome, is_some, length, option_map, true, false};
+ghost use Rattle.station_mio.specs.Files.{CreatesLog, IsFolderOf, IsLastSlash, AppendsSome, AppendsAll, SyncsLog};
 
 use machine_host::Host;
 
@@ -16,12 +16,29 @@ pub(crate) struct LogFile<H: Host> {
     pub(crate) folder: Option<H::Folder>,
 }
 
+/// Where the last slash of a path stands.
+fn last_slash(path: &[u8]) -> Option<usize>
+    ensures last { IsLastSlash path.now result }
+    ensures within { IfSome result (λ at. at < length path.now) }
+{
+    let mut place = path.len();
+    while place > 0 {
+        place -= 1;
+        if path[place] == b'/' {
+            return Some(place);
+        }
+    }
+    None
+}
+
 /// The path of the folder that a file of this path is created in.
-fn folder_of(path: &[u8]) -> &[u8] {
-    match path.iter().rposition(|byte| *byte == b'/') {
+fn folder_of(path: &[u8]) -> &[u8]
+    ensures { IsFolderOf path.now result.now }
+{
+    match last_slash(path) {
         None => b".",
         Some(0) => b"/",
-        Some(at) => path.get(..at).unwrap_or(b"."),
+        Some(at) => &path[..at],
     }
 }
 

@@ -1,6 +1,6 @@
 //! When something is due, so that nothing is done without a pause.
 
-ghost use Rattle.std.specs.Prelude.{◌≡◌, max, get_or, slice_set};
+ghost use Rattle.std.specs.Prelude.{◌≡◌, max, get_or, slice_set, replicate};
 ghost use Rattle.station_mio.specs.Waiting.{Ticks, after_by};
 
 use definitions::PlayerId;
@@ -40,7 +40,9 @@ pub(crate) struct Pace {
 
 impl Pace {
     /// All of them at once.
-    pub(crate) fn new() -> Pace {
+    pub(crate) fn new() -> Pace
+        ensures { result.due ≡ replicate 256 0 }
+    {
         Pace { due: [0; 256] }
     }
 

@@ -11,7 +11,7 @@ use std::mem;
 
 /// How many sockets may be open at once: a loop has at most 256 that were accepted, one dialled for
 /// each player, and those of one list.
-pub(crate) const MOST_SOCKETS: usize = 512;
+pub const MOST_SOCKETS: usize = 512;
 
 /// A socket, by how it stands to the machine.
 #[derive(Drop)]

@@ -2,12 +2,12 @@
 
 ghost use Rattle.std.specs.Prelude.{◌≡◌, ◌<◌, ◌++◌, ◌∷◌, [], IfOk, IfSome, length, is_ok, is_some, get_or, max, slice_set, false, true};
 ghost use Rattle.socket_station.specs.Withins.{TakesWithin, GivesWithin};
-ghost use Rattle.station_mio.specs.Nets.{ReadsOn, WritesOn, Listens, Dials, DialsAt, DialsNow, WaitsFor, GoesOnIn, AcceptsOne, AcceptsWaiting, AcceptsAll, Lists, Polls, added, has_room, shut};
+ghost use Rattle.station_mio.specs.Nets.{ReadsOn, fresh, WritesOn, Listens, Dials, DialsAt, DialsNow, WaitsFor, GoesOnIn, AcceptsOne, AcceptsWaiting, AcceptsAll, Lists, Polls, added, has_room, shut};
 ghost use Rattle.station_mio.specs.Rows.{stand_of};
 ghost use Rattle.station_mio.specs.Asking.{ListensAt, Selects};
 ghost use Rattle.station_mio.specs.Waiting.{Ticks, after_by, patience_with};
 ghost use Rattle.station_mio.specs.Listing.{seen_of, report_all, listed_all_lost};
-ghost use Rattle.station_mio.specs.Ending.{EndsAll, Grows, Finishes};
+ghost use Rattle.station_mio.specs.Ending.{EndsAll, Lingers, Finishes};
 ghost use Rattle.station_mio.specs.Files.{CreatesLog, AppendsAll, SyncsLog};
 ghost use Rattle.station_mio.specs.Numbers.{OpensBetween, DialsBetween};
 ghost use Rattle.machine_host.specs.Asks.{Waited, list_of};
@@ -32,7 +32,7 @@ use std::alloc::{AllocError, Global};
 use std::marker::Model;
 
 /// How often the others are waited for at the end, so that nobody holds it up for ever.
-const MOST_TURNS: u32 = 1_000;
+pub const MOST_WAITS: u32 = 1_000;
 
 /// Sockets of a machine, and their readiness: one that listens, and at most 512 that were accepted
 /// or dialled, each under a number, from 0 on, that no other one has had. It is seen as what the
@@ -74,7 +74,7 @@ impl<H: Host + Drop> Sockets<H> {
     /// Takes all the memory, and an error comes where that is wanting. The machine is asked for
     /// nothing yet.
     pub fn new(alloc: Global, host: H) -> Result<Sockets<H>, AllocError>
-        ensures { IfOk result (λ s. (s.asks ≡ H.history host) × (s.stands ≡ []) × (s.next ≡ 0)) }
+        ensures { IfOk result (λ s. s ≡ fresh (H.history host)) }
     {
         Ok(Sockets {
             host,
@@ -113,6 +113,7 @@ impl<H: Host + Drop> Sockets<H> {
         ensures asked { ListensAt addr (is_ok result) self.old.asks self.new.asks }
         ensures same { self.new ≡ record self.old { asks = self.new.asks; listens = self.new.listens } }
         ensures listens { is_ok result ≡ true → self.new.listens ≡ true }
+        ensures kept { is_ok result ≡ false → self.new.listens ≡ self.old.listens }
     {
         let Some(selector) = &mut self.selector else {
             return Err(HostFault::Other);
@@ -364,6 +365,7 @@ impl<H: Host + Drop> Sockets<H> {
                 Some(number) => ready.push(Ready::Opened(number)),
             }
         }
+        self.backlog = Backlog::Waiting;
     }
 
     /// Lists new sockets for the connections that wait, unless none did when it was last looked.
@@ -436,6 +438,7 @@ impl<H: Host + Drop> Sockets<H> {
     /// Listens no more, and says to the others that no more is sent.
     fn end_writes(&mut self)
         ensures asked { EndsAll self.old.stands self.old.asks self.new.asks }
+        ensures listens { self.new.listens ≡ false }
         ensures next { self.new.next ≡ self.old.next }
     {
         self.listener = None;
@@ -445,7 +448,7 @@ impl<H: Host + Drop> Sockets<H> {
 
     /// Reads what came on all sockets, and closes those on which nothing more comes.
     fn drain(&mut self)
-        ensures asked { Grows self.old.asks self.new.asks }
+        ensures asked { Lingers self.old.asks self.new.asks }
         ensures next { self.new.next ≡ self.old.next }
     {
         drain_all(&mut self.host, &mut self.rows);
@@ -454,7 +457,7 @@ impl<H: Host + Drop> Sockets<H> {
     /// One turn of the end: what came is read, and where something may still come it waits for
     /// more. It says whether it is to go on.
     fn linger(&mut self, until: u64) -> bool
-        ensures asked { Grows self.old.asks self.new.asks }
+        ensures asked { Lingers self.old.asks self.new.asks }
         ensures next { self.new.next ≡ self.old.next }
     {
         self.drain();
@@ -477,7 +480,7 @@ impl<H: Host + Drop> Sockets<H> {
     {
         self.end_writes();
         let until = after(self.time(), LINGER);
-        for _ in 0..MOST_TURNS {
+        for _ in 0..MOST_WAITS {
             if !self.linger(until) {
                 return;
             }

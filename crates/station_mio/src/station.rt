@@ -1,6 +1,6 @@
 //! The sockets of a machine and a log file as a station.
 
-ghost use Rattle.std.specs.Prelude.{◌≡◌, ◌<◌, ◌++◌, ◌∷◌, [], Bool, Option, IfOk, is_some, length, option_map};
+ghost use Rattle.std.specs.Prelude.{◌≡◌, ◌<◌, ◌++◌, ◌∷◌, [], Bool, false, Option, IfOk, is_some, length, option_map};
 ghost use Rattle.socket_station.specs.Items.{listen_item, log_item, dial_item, poll_item, read_item, write_item, Shut, keep_item, sync_item};
 ghost use Rattle.socket_station.specs.declared.answers.Standing.TheVariants.{Open};
 ghost use Rattle.socket_station.specs.Standings.{OpensNew, standing_in};
@@ -53,7 +53,8 @@ impl<H: Host + Drop> MioStation<H> {
     /// Takes all the memory of its tables. The machine is asked for nothing yet.
     pub fn new(host: H, alloc: Global) -> Result<MioStation<H>, AllocError>
         requires unasked { H.history host ≡ [] }
-        ensures { IfOk result (λ s. ⟦<MioStation<H> as Station>⟧.history s ≡ []) }
+        ensures begins { IfOk result (λ s. ⟦<MioStation<H> as Station>⟧.history s ≡ []) }
+        ensures may_begin { IfOk result (λ s. s.begun ≡ false) }
     {
         Ok(MioStation {
             sockets: Sockets::new(alloc, host)?,
