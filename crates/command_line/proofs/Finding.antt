@@ -1,7 +1,7 @@
 -- Finding: what clap finds in texts of the command set, and what is read of it.
 use Rattle.std.proofs.Common.{◌≡◌, ◌∙◌, ◌≤◌, Bool, true, false, List, [], ◌∷◌, length, Option, Some, None, refl, sym, ap, ap₂, leb-true}
-use Rattle.std.specs.Prelude.{Box, codes, if◌then◌else◌, is_some, option_map}
-use Rattle.std.specs.Str.{bytes_eq}
+use Rattle.std.specs.Prelude.{Box, if◌then◌else◌, is_some, option_map}
+use Rattle.std.specs.List.{find}
 use Rattle.std.proofs.lemmas.Slice.Eq.{bytes_eq-Decides}
 use Rattle.std.specs.Borrow.{Bor}
 use Rattle.std.specs.Box.{box_value}
@@ -13,13 +13,13 @@ use Rattle.clap.specs.declared.parser.matches.ArgMatches.{ArgMatches}
 use Rattle.clap.specs.declared.parser.matches.ArgMatches.TheViews.{out-ArgMatches, out-SubCommand}
 use Rattle.clap.specs.declared.parser.matches.SubCommand.{SubCommand}
 use Rattle.clap.proofs.WalkLemmas.{both}
-use Rattle.command_line.specs.declared.names.Name.{Name}
-use Rattle.command_line.specs.declared.names.Name.TheVariants.{Audit, Drive, Judge, Make, Peer, Schedule, Upgrade}
+use Rattle.command_names.specs.declared.names.Name.{Name}
+use Rattle.command_names.specs.declared.names.Name.TheVariants.{Audit}
 use Rattle.command_line.specs.Commands.{command_set}
 use Rattle.command_line.specs.Found.{line_in, line_of, subcommand_for}
 use Rattle.command_line.specs.Lines.{Line, split_of}
-use Rattle.command_line.specs.Names.{least_of, most_of, named, text_of}
-use Rattle.command_line.specs.Names.{takes as takes_count}
+use Rattle.command_names.specs.Names.{all_names, is_written, least_of, most_of, named, text_of}
+use Rattle.command_names.specs.Names.{takes as takes_count}
 use Rattle.station.specs.Words.{are_plain}
 use Rattle.command_line.proofs.Sets.{line_subcommand, line_taken}
 
@@ -28,27 +28,20 @@ named-text_of : (name : Name) → named (text_of name) ≡ Some name
 named-text_of Audit = refl
 named-text_of name = refl
 
--- one more name: the text is this one, or the command comes from those behind it
-one_name : (text name : Text) (first : Name) (rest : Option Name) (found : Name) → (rest ≡ Some found → text ≡ text_of found)
-    → text_of first ≡ name → (if bytes_eq text name then Some first else rest) ≡ Some found → text ≡ text_of found
-one_name text name first rest found behind is h = go (bytes_eq text name) refl h
+-- what is found passes the test
+find-passes : {X : Type 0} (test : X → Bool) (xs : List X) (x : X) → find test xs ≡ Some x → test x ≡ true
+find-passes test [] x found = cc
+find-passes test (y ∷ xs) x found = go (test y) refl (find-passes test xs x) found
   where
-    go : (b : Bool) → bytes_eq text name ≡ b → (if b then Some first else rest) ≡ Some found → text ≡ text_of found
-    go true same e =
-        let command : first ≡ found = cc in
-        (bytes_eq-Decides text name).0 same ∙ sym is ∙ ap text_of command
-    go false same e = behind e
+    go : (b : Bool) → test y ≡ b → (find test xs ≡ Some x → test x ≡ true) → (if b then Some y else find test xs) ≡ Some x → test x ≡ true
+    go true passes later first =
+        let here : y ≡ x = cc in
+        ap test (sym here) ∙ passes
+    go false fails later next = later next
 
 -- a text that names a command is its name
 pub named-Some : (text : Text) (name : Name) → named text ≡ Some name → text ≡ text_of name
-named-Some text name =
-    one_name text (codes "audit") Audit _ name
-    (one_name text (codes "drive") Drive _ name
-    (one_name text (codes "judge") Judge _ name
-    (one_name text (codes "make") Make _ name
-    (one_name text (codes "peer") Peer _ name
-    (one_name text (codes "schedule") Schedule _ name
-    (one_name text (codes "upgrade") Upgrade None name (λ none. cc) refl) refl) refl) refl) refl) refl) refl
+named-Some text name found = (bytes_eq-Decides text (text_of name)).0 (find-passes (is_written text) all_names name found)
 
 -- the texts of a command line
 pub record IsLine (texts : List Text) (line : Line) : Type 0 where

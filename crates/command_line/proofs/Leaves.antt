@@ -1,4 +1,4 @@
--- Leaves: what clap finds in the words behind a name.
+-- Leaves: what clap finds in the words after a name.
 use Rattle.std.proofs.Common.{◌≡◌, ◌∙◌, ℕ, ◌<◌, ◌≤◌, true, false, List, [], ◌∷◌, length, refl, ap, arith, le-leb}
 use Rattle.std.specs.List.{list_all}
 use Rattle.clap.specs.Takes.{level_passes, settle_passes}

@@ -6,11 +6,11 @@ use Rattle.clap.specs.Simple.{App, Shape, entered, is_simple, label_of, names_of
 use Rattle.clap.specs.Takes.{takes, turn_passes, walk_passes}
 use Rattle.clap.specs.Walk.{Names, Text, Walk, answers_to, nothing_held, walk, walk_from, walked}
 use Rattle.clap.proofs.WalkLemmas.{walk_stopped}
-use Rattle.command_line.specs.declared.names.Name.{Name}
-use Rattle.command_line.specs.declared.names.Name.TheVariants.{Audit}
-use Rattle.command_line.specs.Commands.{all_names, command_set}
+use Rattle.command_names.specs.declared.names.Name.{Name}
+use Rattle.command_names.specs.declared.names.Name.TheVariants.{Audit}
+use Rattle.command_line.specs.Commands.{command_set}
 use Rattle.command_line.specs.Found.{words_row}
-use Rattle.command_line.specs.Names.{least_of, most_of, text_of}
+use Rattle.command_names.specs.Names.{all_names, least_of, most_of, text_of}
 use Rattle.station.specs.Words.{are_plain}
 use Rattle.command_line.proofs.Leaves.{leaf_passes, leaf_rows}
 use Rattle.command_line.proofs.Walks.{ready_leaf}
@@ -58,7 +58,7 @@ unfolding walked
 name_passes Audit = refl
 name_passes name = refl
 
--- the words behind a name are left to its command
+-- the words after a name are left to its command
 left_passes : (name : Name) (seen words : List Text) → walk_passes ready_set.top set_names (stopped_at name seen) words ≡ true
 unfolding walked walk_passes
 left_passes name seen [] = refl

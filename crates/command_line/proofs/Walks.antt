@@ -38,7 +38,7 @@ ready_leaf name least most = record (new_shape name) {
 abbrev pub held_words : List Text → Held
 held_words words = record { rows = []; pending = Some (codes "words", words); skip = 0 }
 
--- a walk that stands behind these words, where more may come
+-- a walk that stands after these words, where more may come
 abbrev behind : List Text → Walk
 behind words = record {
   held = held_words words;
@@ -73,7 +73,7 @@ module _ (least most : ℕ) (name : Text) where
     unfolding walked
     first_of_several word plain = let none = no_flag word plain in rw (none.0, none.1, none.2, several) refl
 
-    -- each further word waits behind those before it
+    -- each further word waits after those before it
     next_walked : (words : List Text) (word : Text) → is_plain word ≡ true → walked rules [] (behind words) word ≡ behind (words ++ word ∷ [])
     unfolding walked
     next_walked words word plain = let none = no_flag word plain in rw (none.0, none.1, none.2, several) refl
@@ -101,7 +101,7 @@ module _ (least most : ℕ) (name : Text) where
   none_behind word [] one few = refl
   none_behind word (next ∷ rest) one few = absurd (grind (arith, nat_tests))
 
-  -- the words behind a name wait as the values of `words`, and nothing is refused
+  -- the words after a name wait as the values of `words`, and nothing is refused
   pub leaf_walk : (words : List Text) → are_plain words ≡ true → 0 < length words → length words ≤ most
       → ((walk rules [] nothing_held words).held ≡ held_words words) × (walk_passes (ready_leaf name least most) [] (walk_from nothing_held) words ≡ true)
   unfolding walk_passes

@@ -3,11 +3,11 @@ use Rattle.std.specs.Prelude.{List, [], ◌∷◌, Option, Some, None, codes}
 use Rattle.clap.specs.Words.{Row, Text, all_of}
 use Rattle.clap.specs.declared.builder.value_parser.Reading.TheVariants.{AsWritten}
 use Rattle.clap.specs.declared.parser.matches.ValueSource.TheVariants.{CommandLine}
-use Rattle.command_line.specs.declared.names.Name.{Name}
+use Rattle.command_names.specs.declared.names.Name.{Name}
 use Rattle.command_line.specs.Lines.{Line}
-use Rattle.command_line.specs.Names.{named, text_of}
+use Rattle.command_names.specs.Names.{named, text_of}
 
--- the words behind a name, as the values of the argument `words`
+-- the words after a name, as the values of the argument `words`
 abbrev pub words_row : List Text → Row
 words_row words = record {
   id = codes "words";

@@ -1,13 +1,13 @@
 -- Lines: what a command line says.
 use Rattle.std.specs.Prelude.{ℕ, List, [], ◌∷◌, length, map, Option, Some, None, if◌then◌else◌}
 use Rattle.command_line.specs.declared.lines.CommandLine.{CommandLine}
-use Rattle.command_line.specs.declared.names.Name.{Name}
+use Rattle.command_names.specs.declared.names.Name.{Name}
 use Rattle.command_line.specs.declared.words.OwnLine.{OwnLine}
 use Rattle.std.specs.Prelude.{option_and_then}
-use Rattle.command_line.specs.Names.{named, takes}
+use Rattle.command_names.specs.Names.{named, takes}
 use Rattle.station.specs.Words.{texts_of}
 
--- a command, and the words behind its name
+-- a command, and the words after its name
 pub record Line : Type 0 where
   pub name : Name
   pub words : List (List ℕ)

@@ -7,12 +7,12 @@ ghost use Rattle.command_line.specs.Lines as L;
 ghost use Rattle.station.specs.Words as W;
 
 use crate::commands::command_set;
-use crate::names::Name;
 use clap::error::ErrorKind;
 use clap::{ArgMatches, Error};
+use command_names::Name;
 use std::alloc::{AllocError, Global};
 
-/// A command line as clap splits it: the command, and the words behind its name.
+/// A command line as clap splits it: the command, and the words after its name.
 #[derive(Debug, Drop)]
 pub struct CommandLine<'a> {
     pub name: Name,
@@ -25,7 +25,7 @@ fn is_line(texts: &[&str]) -> bool
 {
     match texts {
         [] => false,
-        [name, words @ ..] => match Name::read(name) {
+        [name, words @ ..] => match Name::read(name.as_bytes()) {
             Some(name) => name.takes(words.len()),
             None => false,
         },
@@ -56,14 +56,15 @@ fn read_line<'a>(alloc: Global, matches: &ArgMatches<'a>) -> Result<CommandLine<
     ensures { IfOk result (λ line. Some (L.said line) ≡ F.line_in (subcommand_rows_of matches.now)) }
 {
     let (text, found) = matches.subcommand().unwrap();
-    let name = Name::read(text).unwrap();
+    let name = Name::read(text.as_bytes()).unwrap();
     let words = found.get_raw("words").unwrap();
     let words = Vec::from_slice(alloc, words)?;
     Ok(CommandLine { name, words })
 }
 
-/// What the texts say, as clap splits them: a command, and the words behind its name; `None` where the first is no command's name,
-/// or the others are fewer or more than it takes. The texts of `read_texts` are plain. `Err` is want of memory.
+/// What the texts say, as clap splits them: a command, and the words after its name. It is `None`
+/// where the first is no command's name, or the others are fewer or more than it takes. The texts
+/// of `read_texts` are plain. `Err` is want of memory.
 pub fn split<'a>(alloc: Global, texts: &'a [&'a str]) -> Result<Option<CommandLine<'a>>, AllocError>
     requires { W.are_plain (map (λ t. t.now) texts.now) ≡ true }
     ensures { IfOk result (λ r. option_map L.said r ≡ L.split_of (map (λ t. t.now) texts.now)) }

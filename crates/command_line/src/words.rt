@@ -4,11 +4,11 @@ ghost use Rattle.std.specs.Prelude.{◌≡◌, IfOk, map, option_map};
 ghost use Rattle.command_line.specs.Lines as L;
 
 use crate::lines::split;
-use crate::names::Name;
+use command_names::Name;
 use station::read_texts;
 use std::alloc::{AllocError, Global};
 
-/// A command line with words of its own: the command, and the words behind its name as bytes.
+/// A command line with words of its own: the command, and the words after its name as bytes.
 #[derive(Debug, Drop)]
 pub struct OwnLine {
     pub name: Name,
@@ -27,8 +27,9 @@ fn copies_of(alloc: Global, texts: &[&str]) -> Result<Vec<Vec<u8>>, AllocError>
     Ok(copies)
 }
 
-/// What the program's words say, those behind its own name: a command, and the words behind its name, as clap splits them; `None` where a
-/// word is no UTF-8 or begins with `-`, where the first is no command's name, or where the others are fewer or more than it takes. `Err` is want
+/// What the program's words say, those after its own name: a command, and the words after its
+/// name, as clap splits them. It is `None` where a word is no UTF-8 or begins with `-`, where the
+/// first is no command's name, or where the others are fewer or more than it takes. `Err` is want
 /// of memory.
 pub fn split_words(alloc: Global, words: &[Vec<u8>]) -> Result<Option<OwnLine>, AllocError>
     ensures { IfOk result (λ r. option_map L.owned r ≡ L.line_of_words (map (λ w. w.items) words.now)) }

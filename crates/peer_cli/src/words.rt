@@ -6,7 +6,7 @@ ghost use Rattle.peer_runs.specs.Commands.{command_said};
 ghost use Rattle.peer_cli.specs.Lines as L;
 
 use command_line::OwnLine;
-use peer_runs::{Command, read_named};
+use peer_runs::{Command, read_in};
 
 /// The command of a command line, if it says one.
 pub(crate) fn command_on(line: &Option<OwnLine>) -> Option<Command<'_>>
@@ -14,6 +14,6 @@ pub(crate) fn command_on(line: &Option<OwnLine>) -> Option<Command<'_>>
 {
     match line {
         None => None,
-        Some(line) => read_named(line.name.as_str().as_bytes(), line.words.as_slice()),
+        Some(line) => read_in(line.name, line.words.as_slice()),
     }
 }

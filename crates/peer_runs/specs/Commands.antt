@@ -1,7 +1,10 @@
 -- Commands: the commands that the program's words say, and the law of each.
-use Rattle.std.specs.Prelude.{◌≡◌, ℕ, false, List, [], ◌∷◌, Option, Some, None, bytes_eq, codes, map, option_map, if◌then◌else◌}
+use Rattle.std.specs.Prelude.{◌≡◌, ℕ, false, List, [], ◌∷◌, Option, Some, None, option_and_then, option_map, if◌then◌else◌}
 use Rattle.std.specs.List.{list_all}
 use Rattle.station.specs.Words.{is_word}
+use Rattle.command_names.specs.declared.names.Name.{Name}
+use Rattle.command_names.specs.declared.names.Name.TheVariants as N
+use Rattle.command_names.specs.Names.{named}
 use Rattle.line_io.specs.Files.{Contents}
 use Rattle.run_frame.specs.Frame.{bare_answer}
 use Rattle.run_frame.specs.Law.{Law, law_without_input}
@@ -45,25 +48,27 @@ command_said (said.Make number) = Make number
 command_said (said.Peer peering) = Peer (peering_said peering)
 
 -- the command of this name with these words
-abbrev pub command_named : (name : List ℕ) → (words : List (List ℕ)) → Option Command
-command_named name words =
-    if bytes_eq name (codes "drive") then option_map Drive (driving_in words)
-    else if bytes_eq name (codes "upgrade") then option_map Upgrade (upgrading_in words)
-    else if bytes_eq name (codes "judge") then option_map Judge (judging_in words)
-    else if bytes_eq name (codes "audit") then option_map Audit (auditing_in words)
-    else if bytes_eq name (codes "schedule") then option_map Schedule (scheduling_in words)
-    else if bytes_eq name (codes "make") then option_map Make (making_in words)
-    else if bytes_eq name (codes "peer") then option_map Peer (peering_in words)
-    else None
+abbrev pub command_in : Name → List (List ℕ) → Option Command
+command_in N.Audit words = option_map Audit (auditing_in words)
+command_in N.Drive words = option_map Drive (driving_in words)
+command_in N.Judge words = option_map Judge (judging_in words)
+command_in N.Make words = option_map Make (making_in words)
+command_in N.Peer words = option_map Peer (peering_in words)
+command_in N.Schedule words = option_map Schedule (scheduling_in words)
+command_in N.Upgrade words = option_map Upgrade (upgrading_in words)
 
--- the command of these words: its name, and then its own words
-abbrev pub command_in : List (List ℕ) → Option Command
-command_in [] = None
-command_in (name ∷ words) = command_named name words
+-- the command whose name is written so, with these words
+unfoldable pub command_named : (name : List ℕ) → (words : List (List ℕ)) → Option Command
+command_named name words = option_and_then (λ n. command_in n words) (named name)
+
+-- the command that these words say: its name, and then its own words
+abbrev pub command_read : List (List ℕ) → Option Command
+command_read [] = None
+command_read (name ∷ words) = command_named name words
 
 -- the command of the program's words
 unfoldable pub command_of : List (List ℕ) → Option Command
-command_of words = if list_all is_word words then command_in words else None
+command_of words = if list_all is_word words then command_read words else None
 
 -- why words that are no command end so
 abbrev pub usage_cause : Contents → Status → Type 0

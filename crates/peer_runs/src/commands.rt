@@ -6,6 +6,7 @@ ghost use Rattle.run_frame.specs.Runs.{Works};
 ghost use Rattle.peer_runs.specs.Commands as C;
 ghost use Rattle.peer_runs.specs.Commands.{command_said, law_of};
 
+use command_names::Name;
 use drive_command::{DriveWords, read_drive_words, run_drive};
 use file_commands::{
     AuditWords, JudgeWords, read_audit_words, read_judge_words, read_upgrade_words, run_audit,
@@ -39,34 +40,28 @@ pub enum Command<'a> {
     Peer(PeerWords<'a>),
 }
 
-/// The command of this name with these words.
-pub fn read_named<'a>(name: &[u8], words: &'a [Vec<u8>]) -> Option<Command<'a>>
+/// The command of this name with these words, if they are words of it.
+pub fn read_in<'a>(name: Name, words: &'a [Vec<u8>]) -> Option<Command<'a>>
+    ensures { option_map command_said result ≡ C.command_in name (map (λ w. w.items) words.now) }
+{
+    match name {
+        Name::Audit => Some(Command::Audit(read_audit_words(words)?)),
+        Name::Drive => Some(Command::Drive(read_drive_words(words)?)),
+        Name::Judge => Some(Command::Judge(read_judge_words(words)?)),
+        Name::Make => Some(Command::Make(read_make_words(words)?)),
+        Name::Peer => Some(Command::Peer(read_peer_words(words)?)),
+        Name::Schedule => Some(Command::Schedule(read_schedule_words(words)?)),
+        Name::Upgrade => Some(Command::Upgrade(read_upgrade_words(words)?)),
+    }
+}
+
+/// The command whose name is written so, with these words.
+#[tactic(auto, unfolding(crate::specs::Commands::command_named))]
+fn read_named<'a>(name: &[u8], words: &'a [Vec<u8>]) -> Option<Command<'a>>
     ensures { option_map command_said result ≡ C.command_named name.now (map (λ w. w.items) words.now) }
 {
-    if name == b"drive".as_slice() {
-        let words = read_drive_words(words)?;
-        Some(Command::Drive(words))
-    } else if name == b"upgrade".as_slice() {
-        let session = read_upgrade_words(words)?;
-        Some(Command::Upgrade(session))
-    } else if name == b"judge".as_slice() {
-        let words = read_judge_words(words)?;
-        Some(Command::Judge(words))
-    } else if name == b"audit".as_slice() {
-        let words = read_audit_words(words)?;
-        Some(Command::Audit(words))
-    } else if name == b"schedule".as_slice() {
-        let session = read_schedule_words(words)?;
-        Some(Command::Schedule(session))
-    } else if name == b"make".as_slice() {
-        let number = read_make_words(words)?;
-        Some(Command::Make(number))
-    } else if name == b"peer".as_slice() {
-        let words = read_peer_words(words)?;
-        Some(Command::Peer(words))
-    } else {
-        None
-    }
+    let name = Name::read(name)?;
+    read_in(name, words)
 }
 
 /// Does what the command asks for, but for the last line of a refusal. Each command is handed only what it uses.
@@ -99,7 +94,7 @@ pub fn obey<I: Source, O: Sink, H: Shelf, S: Station, R: Rng>(
 
 /// The command that the words are.
 fn read_words(words: &[Vec<u8>]) -> Option<Command<'_>>
-    ensures { option_map command_said result ≡ C.command_in (map (λ w. w.items) words.now) }
+    ensures { option_map command_said result ≡ C.command_read (map (λ w. w.items) words.now) }
 {
     match words {
         [] => None,

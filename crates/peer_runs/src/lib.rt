@@ -5,12 +5,15 @@
 //! The crate touches the source, the sink, the shelf, the station and the generator that it is handed, and hands each command what it uses of
 //! them alone. The words are read by plain comparisons; `peer_cli` has them split by clap, and promises the same.
 //!
-//! A further command has its words, its law and one function in its own crate. Here it is a case of `Command`, of its readers and of `obey`
-//! (`src/commands.rt`), and of `command_named` and `law_of` (`specs/Commands.antt`).
+//! A further command has its words, its law and one function in its own crate, and its name in
+//! `command_names`. Here it is a line of `Command`, of `read_in`
+//! and of `obey` (`src/commands.rt`), a line of each definition of commands in
+//! `specs/Commands.antt`, and a line in each of two proofs (`Laws.antt`,
+//! `commands/obey/Answers.antt`).
 #![tactic(auto)]
 
 mod commands;
 mod program;
 
-pub use commands::{Command, is_command, obey, read_named};
+pub use commands::{Command, is_command, obey, read_in};
 pub use program::run;
