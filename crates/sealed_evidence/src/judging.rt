@@ -3,12 +3,12 @@
 ghost use Rattle.std.specs.Prelude.{◌≡◌, ◌<◌, length};
 ghost use Rattle.sealed_evidence.specs.Judging as J;
 
-use crate::roots::Roots;
 use crate::sealed::SealedExhibit;
 use definitions::TurnFrame;
 use evidence::judge;
 use grid_world::Session;
 use move_rules::Walker;
+use roots::Roots;
 use seal_keys::{Seal, valid};
 
 /// Whether the seal is valid for the frame under the root of the frame's player. False where the

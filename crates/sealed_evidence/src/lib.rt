@@ -12,7 +12,6 @@
 mod blaming;
 mod judging;
 pub mod laws;
-mod roots;
 mod sealed;
 
 pub use blaming::blame;

@@ -35,11 +35,18 @@ impl Roots {
         self.roots.len()
     }
 
-    /// The root of the keys of a player, of whom there is one.
+    /// The root of the keys of a player, of whom there is one. Players are counted from 0.
     pub fn root(&self, player: PlayerId) -> &[u8; 32]
         requires { player < length self.now }
         ensures { result.now ≡ item_or self.now player [] }
     {
         &self.roots[usize::from(player)]
+    }
+
+    /// The roots, that of player 0 first.
+    pub fn as_slice(&self) -> &[[u8; 32]]
+        ensures { result.now ≡ self.now }
+    {
+        &self.roots
     }
 }
