@@ -102,6 +102,10 @@ module _ (game : Game) (s b c : ShelfState) (name : List ℕ) (a a' : AuditState
         let long = ap (λ (ps : List Piece). length (bytes_read ps)) (calls_now game s b c name a a' log r at (Some []) w t.0) ∙ long_now game s b name a a' log r at (Some []) w in
         let few = w.few in
         omega (arith, long, few);
+    long = λ over.
+        let long = ap (λ (ps : List Piece). length (bytes_read ps)) (calls_now game s b c name a a' log r at (Some []) w t.0) ∙ long_now game s b name a a' log r at (Some []) w in
+        let few = w.few in
+        absurd (omega (arith, long, few, over));
     answer = λ content h.
         let there = given_at game s b c name a a' log r at (Some []) w t.0 content h in
         whole_answer content there.0 there.1 end (finish (given_by_calls game w.calls).feeding (subst (λ (x : Fed). IsFeedOf x (given_by_calls game w.calls).feeding) (sym t.2) w.feed));
@@ -121,6 +125,10 @@ module _ (game : Game) (s b c : ShelfState) (name : List ℕ) (a a' : AuditState
         let long = ap (λ (ps : List Piece). length (bytes_read ps)) (calls_now game s b c name a a' log r at None w t.0) ∙ long_now game s b name a a' log r at None w in
         let few = w.few in
         omega (arith, long, few);
+    long = λ over.
+        let long = ap (λ (ps : List Piece). length (bytes_read ps)) (calls_now game s b c name a a' log r at None w t.0) ∙ long_now game s b name a a' log r at None w in
+        let few = w.few in
+        absurd (omega (arith, long, few, over));
     answer = λ content h. so_far content (given_at game s b c name a a' log r at None w t.0 content h).0;
     session = w.same;
     others = w.others;
@@ -147,6 +155,7 @@ module _ (game : Game) (s b c : ShelfState) (name : List ℕ) (a a' : AuditState
         let long = ap (λ (ps : List Piece). length (bytes_read ps)) (calls_now game s b c name a a' log r at (Some t.0) w t.1) ∙ long_now game s b name a a' log r at (Some t.0) w in
         let within = t.3 in
         omega (arith, long, within);
+    long = λ over. refl;
     answer = λ content h.
         let there = given_at game s b c name a a' log r at (Some t.0) w t.1 content h in
         long_answer content t.0 there.1 there.0 (front_now game s b c name a a' log r at t.0 w t.1 content h) t.2;
@@ -169,6 +178,10 @@ module _ (game : Game) (s b c : ShelfState) (name : List ℕ) (a a' : AuditState
             let long = ap (λ (ps : List Piece). length (bytes_read ps)) (calls_now game s b c name a a' log r at (Some bytes) w t.1) ∙ long_now game s b name a a' log r at (Some bytes) w in
             let within = t.2 in
             omega (arith, long, within);
+        long = λ over.
+            let long = ap (λ (ps : List Piece). length (bytes_read ps)) (calls_now game s b c name a a' log r at (Some bytes) w t.1) ∙ long_now game s b name a a' log r at (Some bytes) w in
+            let within = t.2 in
+            absurd (omega (arith, long, within, over));
         answer = λ content h.
             in_part game (w.calls ++ p ∷ []) a a'' log content (es ++ some.front) some.behind (front_now game s b c name a a' log r at bytes w t.1 content h)
             (calls_entries game w.calls p ∙ ap (λ (x : List Entry). es ++ x) some.parts ∙ sym (append_assoc es some.front some.behind))

@@ -31,4 +31,4 @@ TakesPiece before now name a a' log r r' at (Err (Bad fault)) =
     (bytes : List ℕ) × IsCall before now name at (Some bytes) × (LONGEST_LOG < at + length bytes) × (at + length bytes ≤ LOG_FRONT) × (a' ≡ a) × (fault ≡ fault_at LONGEST_LOG TooLong)
 TakesPiece before now name a a' log r r' at (Err Failed) = IsCall before now name at None × (a' ≡ a)
 TakesPiece before now name a a' log r r' at (Err Memory) =
-    (bytes : List ℕ) × IsCall before now name at (Some bytes) × (at + length bytes ≤ LOG_FRONT) × ((f : LogFeeding) → IsFeedOf r f → TakesSome a.session a a' log bytes f)
+    (bytes : List ℕ) × IsCall before now name at (Some bytes) × (at + length bytes ≤ LONGEST_LOG) × ((f : LogFeeding) → IsFeedOf r f → TakesSome a.session a a' log bytes f)

@@ -1,7 +1,8 @@
 -- Taken: what is taken of a log's file, and what is answered.
-use Rattle.std.specs.Prelude.{◌≡◌, ℕ, ◌≤◌, Bool, true, false, List, [], ◌++◌, Option, None, Some, length}
-use Rattle.definitions.specs.declared.limits.TheConstants.{LOG_FRONT}
+use Rattle.std.specs.Prelude.{◌≡◌, ℕ, ◌<◌, ◌≤◌, Bool, true, false, List, [], ◌++◌, Option, None, Some, length}
+use Rattle.definitions.specs.declared.limits.TheConstants.{LOG_FRONT, LONGEST_LOG}
 use Rattle.definitions.specs.declared.logs.Entry.{Entry}
+use Rattle.definitions.specs.declared.logs.LogWhy.TheVariants.{TooLong}
 use Rattle.definitions.specs.World.{Game}
 use Rattle.station.specs.Pieces.{AllGive}
 use Rattle.station.specs.Shelves.{ShelfState}
@@ -63,6 +64,8 @@ IsAnswer game a a' log content Memory = IsTakenInPart a a' log (file_entries gam
 pub record TakesLog (game : Game) (before now : ShelfState) (name : List ℕ) (a a' : AuditState) (log : ℕ) (taken : LogTaken) : Type 0 where
   pub fetched : Fetched before now name (is_failed taken)
   pub short : length (bytes_read (since before.pieces now.pieces)) ≤ LOG_FRONT
+  -- one that is found to be too long is answered as that, also where memory is wanting
+  pub long : LONGEST_LOG < length (bytes_read (since before.pieces now.pieces)) → taken ≡ Bad LONGEST_LOG TooLong
   pub answer : (content : Option (List ℕ)) → AllGive content (since before.pieces now.pieces) → IsAnswer game a a' log content taken
   pub session : a'.session ≡ a.session
   pub others : LeavesOthers a a' log

@@ -1,5 +1,6 @@
-//! The longest matches that a session can be, by one peer.
+//! The longest matches that a session can be, by one peer, and their logs, which are read again.
 
+use crate::frames::put_entry;
 use crate::sessions::session_of;
 use commitment::digest_of;
 use definitions::{
@@ -7,7 +8,10 @@ use definitions::{
 };
 use grid_world::Session;
 use itoa::Buffer;
+use log_files::{LogText, audit};
+use old_log::resume_from;
 use peer_core::Peer;
+use session_log::LogWriter;
 use std::alloc::{AllocError, Global};
 use std::test::Fail;
 
@@ -170,10 +174,46 @@ struct Came {
     made: u32,
     shown: bool,
     entries: usize,
+    // whether a peer goes on from the log, and an audit of it agrees on all turns
+    resumed: bool,
+    agreed: bool,
+}
+
+/// The bytes of the peer's log.
+fn log_of(alloc: Global, peer: &Peer) -> Result<Vec<u8>, AllocError> {
+    let mut writer = LogWriter::new(peer.session(), peer.me());
+    let mut log = Vec::new(alloc);
+    for entry in peer.entries() {
+        put_entry(&mut log, &mut writer, entry)?;
+    }
+    Ok(log)
+}
+
+/// Whether a peer goes on from this log of player 0 with all its entries.
+fn goes_on(alloc: Global, session: &Session, log: &[u8], peer: &Peer) -> bool {
+    session.facts();
+    match resume_from(alloc, session, 0, log) {
+        Err(_) => false,
+        Ok(resumed) => resumed.dropped.is_none() && resumed.peer.entries() == peer.entries(),
+    }
+}
+
+/// Whether the log alone shows all turns of all players.
+fn agrees(alloc: Global, session: &Session, log: Vec<u8>) -> bool {
+    let logs = [LogText::new(log)];
+    let Ok(report) = audit(alloc, session, &logs) else {
+        return false;
+    };
+    for player in 0..session.players() {
+        if report.agreed(player) != session.turns() {
+            return false;
+        }
+    }
+    report.findings().is_empty()
 }
 
 /// What a match of all turns comes to.
-fn outcome_of(peer: &mut Peer, session: &Session) -> Came {
+fn outcome_of(alloc: Global, peer: &mut Peer, session: &Session) -> Result<Came, AllocError> {
     for turn in 0..session.ahead() {
         // a refusal changes nothing
         let _ = peer.choose(STAYS, nonce_of(0, turn));
@@ -184,7 +224,10 @@ fn outcome_of(peer: &mut Peer, session: &Session) -> Came {
     let last = peer.advance();
     let needs = peer.needs().as_slice().len();
     let shown = shows_all(peer);
-    Came {
+    let log = log_of(alloc, peer)?;
+    let resumed = goes_on(alloc, session, &log, peer);
+    let agreed = agrees(alloc, session, log);
+    Ok(Came {
         waits,
         played,
         last,
@@ -192,14 +235,16 @@ fn outcome_of(peer: &mut Peer, session: &Session) -> Came {
         made: peer.made_count(),
         shown,
         entries: peer.entries().len(),
-    }
+        resumed,
+        agreed,
+    })
 }
 
 /// What a match of all turns comes to, by player 0.
 fn outcome(alloc: Global, session: &Session) -> Result<Came, AllocError> {
     session.facts();
     let mut peer = Peer::new(alloc, session, 0)?;
-    Ok(outcome_of(&mut peer, session))
+    outcome_of(alloc, &mut peer, session)
 }
 
 /// What it should come to: a choice and two frames made a turn, and two frames got from each other
@@ -218,6 +263,8 @@ fn wanted(crowd: &Crowd) -> Came {
         entries: turns
             .wrapping_add(made)
             .wrapping_add(made.wrapping_mul(others)),
+        resumed: true,
+        agreed: true,
     }
 }
 

@@ -43,12 +43,14 @@ fn log_of(alloc: Global, session: &Session, owner: PlayerId) -> Result<LogText, 
     Ok(LogText::new(log))
 }
 
-/// A log of each player.
-fn logs_of(alloc: Global, session: &Session) -> Result<Vec<LogText>, AllocError> {
+/// A log of each player, so many times.
+fn logs_of(alloc: Global, session: &Session, times: u8) -> Result<Vec<LogText>, AllocError> {
     let mut logs = Vec::new(alloc);
-    for owner in 0..PLAYERS {
-        let log = log_of(alloc, session, owner)?;
-        logs.push(log)?;
+    for _ in 0..times {
+        for owner in 0..PLAYERS {
+            let log = log_of(alloc, session, owner)?;
+            logs.push(log)?;
+        }
     }
     Ok(logs)
 }
@@ -70,21 +72,31 @@ fn stood(report: &Report, player: PlayerId) -> bool {
     }
 }
 
+/// Whether the logs of the match, each so many times, have no finding and show all of it.
+fn show_all(alloc: Global, session: &Session, times: u8) -> Result<bool, Fail> {
+    let logs = logs_of(alloc, session, times)?;
+    if logs.len() > MOST_LOGS as usize {
+        return Err("many".into());
+    }
+    let Ok(report) = audit(alloc, session, &logs) else {
+        return Err("no report".into());
+    };
+    for player in 0..PLAYERS {
+        if !stood(&report, player) {
+            return Ok(false);
+        }
+    }
+    Ok(report.findings().is_empty())
+}
+
 #[test]
 fn a_match_of_sixteen_is_audited_by_all_its_logs(rt: HostRuntime) -> Result<(), Fail> {
     let alloc = rt.alloc();
     let session = session_of(alloc, ROW)?;
-    let logs = logs_of(alloc, &session)?;
-    if logs.len() > MOST_LOGS as usize {
-        return Err("many".into());
-    }
-    let Ok(report) = audit(alloc, &session, &logs) else {
-        return Err("no report".into());
-    };
-    assert!(rt; report.findings().is_empty());
-    for player in 0..PLAYERS {
-        let stood = stood(&report, player);
-        assert!(rt; stood, "{player}");
+    // four times all of them are as many logs as an audit takes
+    for times in [1, 4] {
+        let show_all = show_all(alloc, &session, times)?;
+        assert!(rt; show_all, "{times}");
     }
     Ok(())
 }
