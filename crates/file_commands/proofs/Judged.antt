@@ -5,7 +5,7 @@ use Rattle.definitions.specs.World.{Game}
 use Rattle.station.specs.Shelves.{ShelfState}
 use Rattle.run_frame.specs.declared.statuses.Status.{Status}
 use Rattle.run_frame.specs.declared.statuses.Status.TheVariants.{BadLine, BadSession, InputFault, NoMemory}
-use Rattle.run_frame.specs.declared.statuses.TextName.TheVariants.{Evidence, Script, Roster, Moves}
+use Rattle.run_frame.specs.declared.statuses.TextName.TheVariants.{Evidence, Script, Roster, Moves, Seed, Roots}
 use Rattle.evidence.specs.declared.exhibit.Exhibit.{Exhibit}
 use Rattle.file_commands.specs.Judge.{judge_answer}
 use Rattle.file_commands.specs.JudgeWords.{Judging}
@@ -27,4 +27,6 @@ case_refused due (BadLine Evidence line) d = ap judge_answer d
 case_refused due (BadLine Script line) d = absurd d
 case_refused due (BadLine Roster line) d = absurd d
 case_refused due (BadLine Moves line) d = absurd d
+case_refused due (BadLine Seed line) d = absurd d
+case_refused due (BadLine Roots line) d = absurd d
 case_refused due s d = absurd d

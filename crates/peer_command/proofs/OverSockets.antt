@@ -17,7 +17,7 @@ use Rattle.run_frame.specs.Opening.{IsRefusedBy, Reads}
 use Rattle.run_frame.specs.Outside.{CountsFaults, IsApart, Outside, with_sockets}
 use Rattle.run_frame.specs.Runs.{Works}
 use Rattle.run_frame.specs.declared.statuses.Status.{Status}
-use Rattle.run_frame.specs.declared.statuses.Status.TheVariants.{NoMemory, InputFault, OutputFault}
+use Rattle.run_frame.specs.declared.statuses.Status.TheVariants.{BadLine, BadLog, BadSeal, BadSession, InputFault, NoMemory, OutputFault, Usage}
 use Rattle.run_frame.proofs.Counts.{where_no_memory}
 use Rattle.run_frame.proofs.Working.{readings_fit, some_contents, works}
 use Rattle.ready_loop.specs.declared.polling.Ended.{Ended}
@@ -63,8 +63,12 @@ module _ (p : Peering) (rest : Outside) (a : SinkState) (h h' : ShelfState) (ite
       Ran a a (unplayed_answer due) false source (Rose h.faults h'.faults × (rest.input ≡ rest.input)) s
   refused_ran due source NoMemory f d = refl
   refused_ran due source InputFault f d = inl ((f, refl), refl)
-  refused_ran due source OutputFault f d = absurd d
-  refused_ran due source s f d = (sym (bytes_none a) ∙ ap (λ x. after_bytes a (unplayed_answer x).body) (sym d), ap (λ x. (unplayed_answer x).status) (sym d))
+  refused_ran due source Usage f d = (sym (bytes_none a) ∙ ap (λ x. after_bytes a (unplayed_answer x).body) (sym d), ap (λ x. (unplayed_answer x).status) (sym d))
+  refused_ran due source (BadSession line what) f d = (sym (bytes_none a) ∙ ap (λ x. after_bytes a (unplayed_answer x).body) (sym d), ap (λ x. (unplayed_answer x).status) (sym d))
+  refused_ran due source (BadLine text line) f d = (sym (bytes_none a) ∙ ap (λ x. after_bytes a (unplayed_answer x).body) (sym d), ap (λ x. (unplayed_answer x).status) (sym d))
+  refused_ran due source (BadLog log at why) f d = (sym (bytes_none a) ∙ ap (λ x. after_bytes a (unplayed_answer x).body) (sym d), ap (λ x. (unplayed_answer x).status) (sym d))
+  refused_ran due source (BadSeal file at) f d = (sym (bytes_none a) ∙ ap (λ x. after_bytes a (unplayed_answer x).body) (sym d), ap (λ x. (unplayed_answer x).status) (sym d))
+  refused_ran due source s f d = absurd d
 
   unopened_counts : (due : Result Seating Status) (s : Status) → h'.faults ≡ faults_behind (is_input_fault s) h.faults → IsRefusedBy due s → CountsFaults first (last a items chance) s
   unopened_counts due InputFault f d = (inr (refl, f), refl)

@@ -14,7 +14,7 @@ use Rattle.line_io.specs.Files.{Contents, content, behind_first}
 use Rattle.line_io.specs.Fronts.{Fetched, IsFrontOf}
 use Rattle.run_frame.specs.Frame.{is_input_fault}
 use Rattle.run_frame.specs.declared.statuses.Status.{Status}
-use Rattle.run_frame.specs.declared.statuses.Status.TheVariants.{NoMemory, Usage, BadSession, InputFault, OutputFault, BadLog}
+use Rattle.run_frame.specs.declared.statuses.Status.TheVariants.{NoMemory, Usage, BadSession, InputFault, BadLog}
 use Rattle.old_log.specs.declared.resuming.Resumed.{Resumed}
 use Rattle.session_log.specs.declared.faults.LogFault.{LogFault}
 use Rattle.old_log.specs.Old.{old_fault}
@@ -26,7 +26,7 @@ use Rattle.run_frame.specs.Sessions.{OpensSession, IsDue, is_shelf_fault, sessio
 use Rattle.old_log.specs.Begun.{IsStartFor, begun, log_front_of, old_beginning, with_old}
 use Rattle.run_frame.specs.Opening.{IsDueFor, IsRefusedBy, Opens, Reads}
 use Rattle.peer_command.specs.Seats.{IsSeatDue, IsSeated, MayReadLog, MayReadMoves, MayReadRoster, OpensSeat, ReadsBehindRoster, ReadsBehindSession, Seating, behind_roster, behind_session, moves_front_of, moves_in, roster_front_of, roster_in, start_by_moves, start_by_player, start_by_roster, start_by_session, start_for, start_of}
-use Rattle.run_frame.proofs.Opening.{reads_first, reads_none, reads_then}
+use Rattle.run_frame.proofs.Opening.{reads_first, reads_none, reads_then, refused_on, session_refused}
 
 -- the bytes that are read of a file, by its front
 pub roster_front_read : (content : Option (List ℕ)) (text : List ℕ) → IsFrontOf ROSTER_FRONT content text → roster_front_of content ≡ text
@@ -38,13 +38,6 @@ pub moves_front_read : (content : Option (List ℕ)) (text : List ℕ) → IsFro
 unfolding moves_front_of
 moves_front_read None text h = absurd h
 moves_front_read (Some bytes) text h = sym h
-
--- where something is refused, what stands on it is refused so
-refused_on : {T U : Type 0} (f : Result T Status → Result U Status) → ((status : Status) → f (Err status) ≡ Err status) → (due : Result T Status) (status : Status) → IsRefusedBy due status → IsRefusedBy (f due) status
-refused_on f keeps due NoMemory h = tt
-refused_on f keeps due InputFault h = tt
-refused_on f keeps due OutputFault h = absurd h
-refused_on f keeps due status h = ap f h ∙ keeps status
 
 -- the same of what a log is begun with
 start_refused : (player : ℕ) (due : Result Beginning Status) (status : Status) → IsStartFor player due (Err status) → IsRefusedBy due status
@@ -170,12 +163,6 @@ module _ (p : Peering) (game : Game) (a b : ShelfState) where
 
 -- the session, and then the rest
 module _ (p : Peering) (a b : ShelfState) where
-  session_refused : (due : Result Game Status) (status : Status) → IsDue due (Err status) → IsRefusedBy due status
-  session_refused due NoMemory h = tt
-  session_refused due InputFault h = tt
-  session_refused due (BadSession line what) h = h
-  session_refused due status h = absurd h
-
   pub no_session : (status : Status) → OpensSession a b p.session (Err status) → OpensSeat p a b (Err status)
   no_session status o =
       reads_first a b p.session (p.roster ∷ p.moves ∷ log_names p.old) (λ content. IsDue (session_in content) (Err status)) (MayReadRoster p) (λ contents. IsSeatDue p (start_for p contents) (Err status)) _

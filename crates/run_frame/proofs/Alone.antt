@@ -1,5 +1,6 @@
 -- Alone: a run of a command that leaves its input alone.
 use Rattle.std.proofs.Common.{◌≡◌, inl, inr, ℕ, Bool, false, true, List, [], refl, ap, sym, ◌∙◌, subst}
+use Rattle.std.specs.Prelude.{Result, Err}
 use Rattle.station.specs.Outside.{faults_behind}
 use Rattle.station.specs.Shelves.{ShelfState}
 use Rattle.station.specs.Since.{grows_none}
@@ -9,10 +10,11 @@ use Rattle.line_io.specs.Inputs.{AtEnd, Input, input_of}
 use Rattle.line_io.proofs.Writing.{bytes_none}
 use Rattle.run_frame.specs.Frame.{Answer, Lacked, Ran, bare_answer, is_input_fault}
 use Rattle.run_frame.specs.Law.{Law, ReadsFor}
+use Rattle.run_frame.specs.Opening.{IsRefusedBy}
 use Rattle.run_frame.specs.Outside.{CountsFaults, Outside, with_files}
 use Rattle.run_frame.specs.Runs.{Works}
 use Rattle.run_frame.specs.declared.statuses.Status.{Status}
-use Rattle.run_frame.specs.declared.statuses.Status.TheVariants.{BadLine, BadLog, BadSession, InputFault, NoMemory, OutputFault, Usage}
+use Rattle.run_frame.specs.declared.statuses.Status.TheVariants.{BadLine, BadLog, BadSeal, BadSession, InputFault, NoMemory, OutputFault, Usage}
 use Rattle.run_frame.proofs.Counts.{where_no_memory}
 use Rattle.run_frame.proofs.Working.{Holds, contents_fit, lacked_none, some_contents, works}
 
@@ -37,7 +39,19 @@ IsRefused due Usage = due ≡ bare_answer Usage
 IsRefused due (BadSession line what) = due ≡ bare_answer (BadSession line what)
 IsRefused due (BadLine text line) = due ≡ bare_answer (BadLine text line)
 IsRefused due (BadLog log at why) = due ≡ bare_answer (BadLog log at why)
+IsRefused due (BadSeal file at) = due ≡ bare_answer (BadSeal file at)
 IsRefused due status = ⊥
+
+-- what is refused is told so
+pub refused_so : {T : Type 0} (answer : Result T Status → Answer) → ((s : Status) → answer (Err s) ≡ bare_answer s) → (due : Result T Status) (s : Status) → IsRefusedBy due s → IsRefused (answer due) s
+refused_so answer bare due NoMemory h = tt
+refused_so answer bare due InputFault h = tt
+refused_so answer bare due Usage h = ap answer h ∙ bare Usage
+refused_so answer bare due (BadSession line what) h = ap answer h ∙ bare (BadSession line what)
+refused_so answer bare due (BadLine text line) h = ap answer h ∙ bare (BadLine text line)
+refused_so answer bare due (BadLog log at why) h = ap answer h ∙ bare (BadLog log at why)
+refused_so answer bare due (BadSeal file at) h = ap answer h ∙ bare (BadSeal file at)
+refused_so answer bare due s h = absurd h
 
 module _ (rest : Outside) (a b : SinkState) (h h' : ShelfState) where
   ran_counts : (due : Answer) (late : Bool) (s : Status) → h'.faults ≡ h.faults → Ran a b due late ⊥ ⊥ s → CountsFaults (with_files rest a h) (with_files rest b h') s
@@ -54,6 +68,7 @@ module _ (rest : Outside) (a b : SinkState) (h h' : ShelfState) where
   refused_ran due late source shelf (BadSession line what) d c = (sym (bytes_none a) ∙ ap (λ (x : Answer). after_bytes a x.body) (sym d), ap (λ (x : Answer). x.status) (sym d))
   refused_ran due late source shelf (BadLine text line) d c = (sym (bytes_none a) ∙ ap (λ (x : Answer). after_bytes a x.body) (sym d), ap (λ (x : Answer). x.status) (sym d))
   refused_ran due late source shelf (BadLog log at why) d c = (sym (bytes_none a) ∙ ap (λ (x : Answer). after_bytes a x.body) (sym d), ap (λ (x : Answer). x.status) (sym d))
+  refused_ran due late source shelf (BadSeal file at) d c = (sym (bytes_none a) ∙ ap (λ (x : Answer). after_bytes a x.body) (sym d), ap (λ (x : Answer). x.status) (sym d))
   refused_ran due late source shelf s d c = absurd d
 
   refused_counts : (due : Answer) (s : Status) → IsRefused due s → h'.faults ≡ faults_behind (is_input_fault s) h.faults → CountsFaults (with_files rest a h) (with_files rest a h') s
@@ -63,6 +78,7 @@ module _ (rest : Outside) (a b : SinkState) (h h' : ShelfState) where
   refused_counts due (BadSession line what) d e = (record { source = refl; files = e }, refl)
   refused_counts due (BadLine text line) d e = (record { source = refl; files = e }, refl)
   refused_counts due (BadLog log at why) d e = (record { source = refl; files = e }, refl)
+  refused_counts due (BadSeal file at) d e = (record { source = refl; files = e }, refl)
   refused_counts due s d e = absurd d
 
 module _ (law : Law) (holds : Holds law) (memory : law.memory ≡ true) (rest : Outside) (a : SinkState) (h h' : ShelfState) (calls : Calls) (files : ReadsFor law h h' calls) where

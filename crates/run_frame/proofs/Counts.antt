@@ -1,5 +1,5 @@
 -- Counts: how the counts of faults move where a command ends, and in the line of a refusal.
-use Rattle.std.proofs.Common.{◌≡◌, ◌⊎◌, inl, inr, refl, ap, sym, ◌∙◌, subst, arith}
+use Rattle.std.proofs.Common.{◌≡◌, ◌⊎◌, inl, inr, ap, sym, ◌∙◌, subst, arith}
 use Rattle.station.specs.Outside.{one_more}
 use Rattle.station.specs.Sinks.{SinkState}
 use Rattle.line_io.specs.Readings.{Drew}

@@ -1,13 +1,43 @@
 -- Opening: files that are read one behind the other.
-use Rattle.std.proofs.Common.{◌≡◌, ◌⊎◌, inl, inr, ℕ, zero, suc, Bool, false, List, [], ◌∷◌, ◌++◌, Option, refl, ap, sym, ◌∙◌, subst, append_assoc, append-nil}
+use Rattle.std.proofs.Common.{◌≡◌, ◌⊎◌, inl, inr, ℕ, zero, suc, Bool, false, List, [], ◌∷◌, ◌++◌, Option, None, Some, refl, ap, sym, ◌∙◌, subst, append_assoc, append-nil}
+use Rattle.std.specs.Prelude.{Result, Err}
 use Rattle.definitions.specs.Lists.{item_or}
+use Rattle.definitions.specs.World.{Game}
 use Rattle.station.specs.Outside.{faults_behind}
 use Rattle.station.specs.Pieces.{Piece}
 use Rattle.station.specs.Shelves.{ShelfState}
 use Rattle.station.specs.Since.{since}
 use Rattle.line_io.specs.Files.{AreContents, AreReadings, Contents, behind_first, content, in_turn}
 use Rattle.line_io.proofs.Unread.{behind_are, none_at, none_in_turn, none_read, none_readings}
-use Rattle.run_frame.specs.Opening.{Opens, Reads}
+use Rattle.line_io.specs.Fronts.{IsFrontOf}
+use Rattle.run_frame.specs.declared.statuses.Status.{Status}
+use Rattle.run_frame.specs.declared.statuses.Status.TheVariants.{BadLine, BadLog, BadSeal, BadSession, InputFault, NoMemory, Usage}
+use Rattle.run_frame.specs.Sessions.{IsDue}
+use Rattle.run_frame.specs.Opening.{IsRefusedBy, Opens, Reads, front_in}
+
+-- the bytes that were read of a file's front
+pub front_read : (most : ℕ) (content : Option (List ℕ)) (text : List ℕ) → IsFrontOf most content text → front_in most content ≡ text
+unfolding front_in
+front_read most None text h = absurd h
+front_read most (Some bytes) text h = sym h
+
+-- where something is refused, what stands on it is refused so
+pub refused_on : {T U : Type 0} (f : Result T Status → Result U Status) → ((status : Status) → f (Err status) ≡ Err status) → (due : Result T Status) (status : Status) → IsRefusedBy due status → IsRefusedBy (f due) status
+refused_on f keeps due NoMemory h = tt
+refused_on f keeps due InputFault h = tt
+refused_on f keeps due Usage h = ap f h ∙ keeps Usage
+refused_on f keeps due (BadSession line what) h = ap f h ∙ keeps (BadSession line what)
+refused_on f keeps due (BadLine text line) h = ap f h ∙ keeps (BadLine text line)
+refused_on f keeps due (BadLog log at why) h = ap f h ∙ keeps (BadLog log at why)
+refused_on f keeps due (BadSeal file at) h = ap f h ∙ keeps (BadSeal file at)
+refused_on f keeps due status h = absurd h
+
+-- where no session is read, none is due
+pub session_refused : (due : Result Game Status) (status : Status) → IsDue due (Err status) → IsRefusedBy due status
+session_refused due NoMemory h = tt
+session_refused due InputFault h = tt
+session_refused due (BadSession line what) h = h
+session_refused due status h = absurd h
 
 -- nothing was read
 pub reads_none : (a : ShelfState) (names : List (List ℕ)) (R : Contents → ℕ → Type 0) (P : Contents → Type 0) → ((contents : Contents) → P contents) → Reads a a names false R P

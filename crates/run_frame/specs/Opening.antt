@@ -1,5 +1,5 @@
 -- Opening: files that are read one behind the other, and what is due by what they hold.
-use Rattle.std.specs.Prelude.{◌≡◌, ◌⊎◌, ℕ, Bool, List, [], Option, Result, Ok, Err}
+use Rattle.std.specs.Prelude.{◌≡◌, ◌⊎◌, ℕ, Bool, List, [], Option, Result, Ok, Err, take, unwrap_or}
 use Rattle.definitions.specs.Lists.{item_or}
 use Rattle.station.specs.Outside.{faults_behind}
 use Rattle.station.specs.Pieces.{AllGive}
@@ -8,7 +8,11 @@ use Rattle.station.specs.Since.{since}
 use Rattle.line_io.specs.Files.{AreContents, Calls, Contents, ReadsFiles}
 use Rattle.line_io.specs.Fronts.{Fetched}
 use Rattle.run_frame.specs.declared.statuses.Status.{Status}
-use Rattle.run_frame.specs.declared.statuses.Status.TheVariants.{NoMemory, InputFault, OutputFault}
+use Rattle.run_frame.specs.declared.statuses.Status.TheVariants.{BadLine, BadLog, BadSeal, BadSession, InputFault, NoMemory, Usage}
+
+-- the first bytes of a file, at most so many; one that isn't there counts as one without bytes here
+unfoldable pub front_in : (most : ℕ) → Option (List ℕ) → List ℕ
+front_in most content = take most (unwrap_or content [])
 
 -- The file of this name was read, and P is so of any content that gives what was answered.
 pub record Opens (before after : ShelfState) (name : List ℕ) (failed : Bool) (P : Option (List ℕ) → Type 0) : Type 0 where
@@ -32,8 +36,12 @@ Found {T} due = (x : T) × (due ≡ Ok x)
 abbrev pub IsRefusedBy : {T : Type 0} → Result T Status → Status → Type 0
 IsRefusedBy due NoMemory = Unit {0}
 IsRefusedBy due InputFault = Unit {0}
-IsRefusedBy due OutputFault = ⊥
-IsRefusedBy due status = due ≡ Err status
+IsRefusedBy due Usage = due ≡ Err Usage
+IsRefusedBy due (BadSession line what) = due ≡ Err (BadSession line what)
+IsRefusedBy due (BadLine text line) = due ≡ Err (BadLine text line)
+IsRefusedBy due (BadLog log at why) = due ≡ Err (BadLog log at why)
+IsRefusedBy due (BadSeal file at) = due ≡ Err (BadSeal file at)
+IsRefusedBy due status = ⊥
 
 -- What is read is what is due, unless memory was wanting or the shelf failed.
 abbrev pub IsDueFor : {T : Type 0} → Result T Status → Result T Status → Type 0

@@ -5,9 +5,9 @@ use Rattle.definitions.specs.declared.sessions.SessionRule.TheVariants.{S1, S2, 
 use Rattle.definitions.specs.declared.logs.LogWhy.{LogWhy}
 use Rattle.definitions.specs.declared.logs.LogWhy.TheVariants.{TooLong, Torn, BadChain, BadEntry, NotReplayed}
 use Rattle.run_frame.specs.declared.statuses.TextName.{TextName}
-use Rattle.run_frame.specs.declared.statuses.TextName.TheVariants.{Script, Roster, Moves, Evidence}
+use Rattle.run_frame.specs.declared.statuses.TextName.TheVariants.{Script, Roster, Moves, Evidence, Seed, Roots}
 use Rattle.run_frame.specs.declared.statuses.Status.{Status}
-use Rattle.run_frame.specs.declared.statuses.Status.TheVariants.{Done, NoMemory, Usage, BadSession, InputFault, OutputFault, Caught, GaveUp, KeepFault, PollFault, BadLog, BadLine, OwnMove}
+use Rattle.run_frame.specs.declared.statuses.Status.TheVariants.{Done, NoMemory, Usage, BadSession, InputFault, OutputFault, Caught, GaveUp, KeepFault, PollFault, BadLog, BadLine, OwnMove, BadSeal}
 
 -- the exit status of a run that ends so
 abbrev pub code_of : Status → ℕ
@@ -24,6 +24,7 @@ code_of PollFault = 9
 code_of (BadLog log at why) = 10
 code_of (BadLine text line) = 11
 code_of (OwnMove turn fault) = 12
+code_of (BadSeal file at) = 14
 
 -- the name of a rule of session texts
 abbrev pub rule_name : SessionRule → List ℕ
@@ -54,6 +55,8 @@ text_word Script = codes "script"
 text_word Roster = codes "roster"
 text_word Moves = codes "moves"
 text_word Evidence = codes "evidence"
+text_word Seed = codes "seed"
+text_word Roots = codes "roots"
 
 -- the line that tells of a session text that is not in its grammar
 unfoldable pub bad_session_line : ℕ → SessionRule → List ℕ
@@ -66,6 +69,10 @@ bad_log_line log at why = codes "bad log " ++ decimal log ++ codes " at " ++ dec
 -- the line that tells of a line that is not in its grammar
 unfoldable pub bad_line_line : TextName → ℕ → List ℕ
 bad_line_line text line = codes "bad line " ++ text_word text ++ codes " " ++ decimal line ++ codes "\n"
+
+-- the line that tells of a file that is none of sealed frames
+unfoldable pub bad_seal_line : ℕ → ℕ → List ℕ
+bad_seal_line file at = codes "bad seal " ++ decimal file ++ codes " at " ++ decimal at ++ codes "\n"
 
 -- The line by which a status is told at the very end. Those that a command tells in its own text, and a fault of the sink,
 -- have none.
@@ -83,3 +90,4 @@ refusal_of PollFault = []
 refusal_of (BadLog log at why) = bad_log_line log at why
 refusal_of (BadLine text line) = bad_line_line text line
 refusal_of (OwnMove turn fault) = []
+refusal_of (BadSeal file at) = bad_seal_line file at

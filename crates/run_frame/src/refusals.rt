@@ -1,7 +1,7 @@
 //! The last line of a run that did not come to its command's end.
 
 ghost use Rattle.std.specs.Prelude.{◌≡◌};
-ghost use Rattle.run_frame.specs.Statuses.{rule_name, why_word, text_word, bad_session_line, bad_log_line, bad_line_line, refusal_of};
+ghost use Rattle.run_frame.specs.Statuses.{rule_name, why_word, text_word, bad_session_line, bad_log_line, bad_line_line, bad_seal_line, refusal_of};
 ghost use Rattle.run_frame.specs.Ends.{Refuses};
 
 use crate::statuses::{Status, TextName};
@@ -59,6 +59,8 @@ fn word_of_text(text: TextName) -> &'static [u8]
         TextName::Roster => b"roster",
         TextName::Moves => b"moves",
         TextName::Evidence => b"evidence",
+        TextName::Seed => b"seed",
+        TextName::Roots => b"roots",
     }
 }
 
@@ -110,6 +112,22 @@ fn line_of_bad_line(name: TextName, line: u32) -> RefusalLine
     text
 }
 
+/// The line that tells of a file that is none of sealed frames.
+#[tactic(auto, unfolding(crate::specs::Statuses::bad_seal_line))]
+fn line_of_bad_seal(file: u32, at: u32) -> RefusalLine
+    ensures { result.items ≡ bad_seal_line file at }
+{
+    let mut text = ArrayVec::new();
+    text.try_extend_from_slice(b"bad seal ").unwrap();
+    text.try_extend_from_slice(Buffer::new().format(file).as_bytes())
+        .unwrap();
+    text.try_extend_from_slice(b" at ").unwrap();
+    text.try_extend_from_slice(Buffer::new().format(at).as_bytes())
+        .unwrap();
+    text.push(b'\n');
+    text
+}
+
 /// The line by which a status is told.
 fn refusal_line(status: Status) -> RefusalLine
     ensures { result.items ≡ refusal_of status }
@@ -121,6 +139,7 @@ fn refusal_line(status: Status) -> RefusalLine
         Status::InputFault => text_of(b"input fault\n"),
         Status::BadLog { log, at, why } => line_of_bad_log(log, at, why),
         Status::BadLine { text, line } => line_of_bad_line(text, line),
+        Status::BadSeal { file, at } => line_of_bad_seal(file, at),
         Status::Done
         | Status::OutputFault
         | Status::Caught

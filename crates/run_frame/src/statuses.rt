@@ -16,6 +16,10 @@ pub enum TextName {
     Moves,
     /// What shows a finding to others.
     Evidence,
+    /// The bytes from which a player's keys are made.
+    Seed,
+    /// The roots of the players' keys.
+    Roots,
 }
 
 /// How a run ends. `code` gives its exit status.
@@ -48,10 +52,14 @@ pub enum Status {
     BadLine { text: TextName, line: u32 },
     /// The move given for a turn, counted from 0, is not legal, and why.
     OwnMove { turn: Turn, fault: MoveFault },
+    /// A file of sealed frames isn't one: its number among those given, counted from 0, and the first byte, counted from 0,
+    /// at which no frame with a valid seal stands.
+    BadSeal { file: u32, at: u32 },
 }
 
 impl Status {
-    /// The exit status, from 0 for Done to 12 for OwnMove, in the order of the variants.
+    /// The exit status, from 0 for Done to 12 for OwnMove, in the order of the variants, and 14 for
+    /// BadSeal. No run ends with 13.
     pub fn code(&self) -> u8
         ensures { result ≡ code_of self.now }
     {
@@ -69,6 +77,7 @@ impl Status {
             Status::BadLog { .. } => 10,
             Status::BadLine { .. } => 11,
             Status::OwnMove { .. } => 12,
+            Status::BadSeal { .. } => 14,
         }
     }
 }
