@@ -19,11 +19,12 @@ use Rattle.evidence.specs.Text.{IsExhibit, FitsText, kind_line, frame_line, head
 use Rattle.evidence.specs.Reading.{head_at, frame_at, frames_at, said_by}
 use Rattle.evidence.proofs.Steps.{kind_said-spelled, frame_said-spelled}
 
-pub head_again : (q t : ℕ) (kind : Kind) (rest : List (List ℕ)) → q ≤ GREATEST_PLAYER → t < 2 ^ 32 → head_at (head_lines q t kind ++ rest) ≡ Ok (record { player = q; turn = t; kind = kind }, rest)
+pub head_again : (version q t : ℕ) (kind : Kind) (rest : List (List ℕ)) → version < 2 ^ 32 → q ≤ GREATEST_PLAYER → t < 2 ^ 32 →
+    head_at version (head_lines version q t kind ++ rest) ≡ Ok (record { player = q; turn = t; kind = kind }, rest)
 unfolding head_at
-head_again q t kind rest player turn =
+head_again version q t kind rest small player turn =
     rw (
-      one_within-spelled (codes "evidence") 1 1 1 (omega arith) (omega arith) (omega arith),
+      one_within-spelled (codes "evidence") version version version (omega arith) (omega arith) (omega (arith, small)),
       one_within-spelled (codes "player") 0 GREATEST_PLAYER q (omega arith) player (omega (arith, player)),
       one_within-spelled (codes "turn") 0 4294967295 t (omega arith) (omega (arith, turn)) turn,
       kind_said-spelled kind,
@@ -46,17 +47,17 @@ unfolding said_by
 said_again x is =
     let some = is.some in
     let few = is.few in
-    rw (head_again x.player x.turn x.kind (frame_lines x.frames) is.player is.turn, frames_again 0 x.frames (omega arith) (omega arith) is.frames) refl
+    rw (head_again 1 x.player x.turn x.kind (frame_lines x.frames) (omega arith) is.player is.turn, frames_again 0 x.frames (omega arith) (omega arith) is.frames) refl
 
 -- ---- the lines of the text
 
-kind_is_line : (kind : Kind) → IsLine (kind_line kind)
+pub kind_is_line : (kind : Kind) → IsLine (kind_line kind)
 kind_is_line TwoCommits = bare_line (codes "kind two-commits") refl
 kind_is_line BadOpening = bare_line (codes "kind bad-opening") refl
 kind_is_line Collision = bare_line (codes "kind collision") refl
 kind_is_line Illegal = bare_line (codes "kind illegal") refl
 
-frame_is_line : (f : TurnFrame) → FitsText f → IsLine (frame_line f)
+pub frame_is_line : (f : TurnFrame) → FitsText f → IsLine (frame_line f)
 frame_is_line f fits = bare_line (codes "frame " ++ encode_lower (frame_bytes f)) (digits_plain (encode_lower (frame_bytes f)) (digits_lower (frame_bytes f) fits.1))
 
 frames_are_lines : (fs : List TurnFrame) → EachIs FitsText fs → AreLines (frame_lines fs)

@@ -19,7 +19,8 @@ use Rattle.text_fields.specs.declared.fault.TextFault.{TextFault}
 use Rattle.text_fields.specs.declared.fault.TextFault.TheVariants.{At}
 use Rattle.evidence.specs.declared.exhibit.Exhibit.{Exhibit}
 use Rattle.evidence.specs.Text.{FitsText, IsExhibit, exhibit_lines, frame_lines, head_lines}
-use Rattle.evidence.specs.Reading.{Head, exhibit_at, exhibit_fault, frame_at, frame_said, frames_at, head_at, is_end, kind_said, line_behind, said_by}
+use Rattle.evidence.specs.declared.head.Head.{Head}
+use Rattle.evidence.specs.Reading.{exhibit_at, exhibit_fault, frame_at, frame_said, frames_at, head_at, is_end, kind_said, line_behind, said_by}
 use Rattle.evidence.specs.Laws.{BeginsExhibit, IsFirstFault}
 use Rattle.evidence.proofs.Again.{ended_lines_of-exhibit_text, head_again, said_again}
 use Rattle.evidence.proofs.Steps.{frame_said-some}
@@ -119,7 +120,7 @@ first_of lines n w = go w.back refl
 -- ---- the lines before those of the frames
 
 -- a fault of the head is the text's
-head_fails : (lines : List (List ℕ)) (e : TextFault) → head_at lines ≡ Err e → said_by lines ≡ Err e
+head_fails : (lines : List (List ℕ)) (e : TextFault) → head_at 1 lines ≡ Err e → said_by lines ≡ Err e
 unfolding said_by
 head_fails lines e h = rw h refl
 
@@ -242,7 +243,7 @@ fourth_fails lines n a b c e f g h =
     tail : Exhibit → List (List ℕ)
     tail x = drop 3 (exhibit_lines x)
 
-head_behind : (lines : List (List ℕ)) (n : ℕ) → head_at lines ≡ Err (At n) → IsFaultBehind lines n
+head_behind : (lines : List (List ℕ)) (n : ℕ) → head_at 1 lines ≡ Err (At n) → IsFaultBehind lines n
 unfolding head_at
 head_behind lines n h =
     elim (bind_err (line_at (At 1) evidence_said lines) _ (At n) h) [
@@ -390,14 +391,14 @@ frames_behind count (line ∷ lines) n few h =
 
 -- ---- all lines
 
-frames_fault : (lines : List (List ℕ)) (n : ℕ) (h : Head × List (List ℕ)) → head_at lines ≡ Ok h → frames_at 0 h.1 ≡ Err (At n) → IsFaultBehind lines n
+frames_fault : (lines : List (List ℕ)) (n : ℕ) (h : Head × List (List ℕ)) → head_at 1 lines ≡ Ok h → frames_at 0 h.1 ≡ Err (At n) → IsFaultBehind lines n
 unfolding said_by
 frames_fault lines n h e fails =
-    let head = head_takes lines h e in
+    let head = head_takes 1 lines h e in
     let w = frames_behind 0 h.1 n (omega arith) fails in
     let q : ℕ = h.0.player in
     let t : ℕ = h.0.turn in
-    let first : List (List ℕ) = head_lines q t h.0.kind in
+    let first : List (List ℕ) = head_lines 1 q t h.0.kind in
     let x : Exhibit = record { player = q; turn = t; kind = h.0.kind; frames = w.frames } in
     let number = w.number in
     let some = w.some in
@@ -411,14 +412,14 @@ frames_fault lines n h e fails =
       number = omega arith;
       before = begins x (first ++ w.front) w.more is (ap (λ (ls : List (List ℕ)). first ++ ls) w.begun ∙ sym (append_assoc first w.front w.more));
       faulty = λ line others same rest.
-          let again : head_at (first ++ (w.front ++ line ∷ rest)) ≡ Ok (h.0, w.front ++ line ∷ rest) = head_again q t h.0.kind (w.front ++ line ∷ rest) head.player head.turn in
+          let again : head_at 1 (first ++ (w.front ++ line ∷ rest)) ≡ Ok (h.0, w.front ++ line ∷ rest) = head_again 1 q t h.0.kind (w.front ++ line ∷ rest) (omega arith) head.player head.turn in
           rw (append_assoc first w.front (line ∷ rest), again, w.faulty line others same rest) refl;
     }
 
 fault_behind : (lines : List (List ℕ)) (n : ℕ) → said_by lines ≡ Err (At n) → IsFaultBehind lines n
 unfolding said_by
 fault_behind lines n e =
-    elim (bind_err (head_at lines) _ (At n) e) [
+    elim (bind_err (head_at 1 lines) _ (At n) e) [
       | inl fails ↦ head_behind lines n fails
       | inr h ↦
           elim (bind_err (frames_at 0 h.0.1) _ (At n) h.2) [

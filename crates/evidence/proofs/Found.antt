@@ -21,16 +21,16 @@ use Rattle.evidence.proofs.Again.{said_again, ended_lines_of-exhibit_text}
 said_found : (lines : List (List ℕ)) (x : Exhibit) → said_by lines ≡ Ok x → IsExhibit x × (lines ≡ exhibit_lines x)
 unfolding said_by
 said_found lines x e =
-    let a = bind_ok (head_at lines) _ x e in
+    let a = bind_ok (head_at 1 lines) _ x e in
     let b = bind_ok (frames_at 0 a.0.1) _ x a.2 in
-    let head = head_takes lines a.0 a.1 in
+    let head = head_takes 1 lines a.0 a.1 in
     let frames = frames_take 0 a.0.1 b.0 (omega arith) b.1 in
     let made : Exhibit = record { player = a.0.0.player; turn = a.0.0.turn; kind = a.0.0.kind; frames = b.0 } in
     let some = frames.some in
     let few = frames.few in
     subst (λ (y : Exhibit). IsExhibit y × (lines ≡ exhibit_lines y)) {x = made} (ok_is {E = TextFault} made x b.2) (
       record { player = head.player; turn = head.turn; some = omega arith; few = omega arith; frames = frames.frames },
-      head.spelled ∙ ap (λ (ls : List (List ℕ)). head_lines a.0.0.player a.0.0.turn a.0.0.kind ++ ls) frames.spelled,
+      head.spelled ∙ ap (λ (ls : List (List ℕ)). head_lines 1 a.0.0.player a.0.0.turn a.0.0.kind ++ ls) frames.spelled,
     )
 
 -- what a text says is an exhibit of this text

@@ -15,11 +15,12 @@ use Rattle.text_fields.specs.declared.fault.TextFault.TheVariants.{At}
 use Rattle.plain_lemmas.proofs.Options.{when_some}
 use Rattle.plain_lemmas.proofs.Tests.{chosen}
 use Rattle.evidence.specs.Text.{FitsText, frame_line, end_line, head_lines, frame_lines, kind_line}
-use Rattle.evidence.specs.Reading.{Head, head_at, kind_said, line_behind, is_end, frame_said, frame_at, frames_at}
+use Rattle.evidence.specs.declared.head.Head.{Head}
+use Rattle.evidence.specs.Reading.{head_at, kind_said, line_behind, is_end, frame_said, frame_at, frames_at}
 use Rattle.evidence.proofs.Steps.{kind_said-some, frame_said-some}
 
-pub record TakesHead (lines : List (List ℕ)) (x : Head × List (List ℕ)) : Type 0 where
-  pub spelled : lines ≡ head_lines x.0.player x.0.turn x.0.kind ++ x.1
+pub record TakesHead (version : ℕ) (lines : List (List ℕ)) (x : Head × List (List ℕ)) : Type 0 where
+  pub spelled : lines ≡ head_lines version x.0.player x.0.turn x.0.kind ++ x.1
   pub player : x.0.player ≤ GREATEST_PLAYER
   pub turn : x.0.turn < 2 ^ 32
 
@@ -31,24 +32,24 @@ number_takes n name low high lines x e =
     let number = one_within-some name low high line.0 x.0 line.2 in
     (line.1 ∙ ap (λ (l : List ℕ). l ∷ x.1) number.0, number.1, number.2)
 
-pub head_takes : (lines : List (List ℕ)) (x : Head × List (List ℕ)) → head_at lines ≡ Ok x → TakesHead lines x
+pub head_takes : (version : ℕ) (lines : List (List ℕ)) (x : Head × List (List ℕ)) → head_at version lines ≡ Ok x → TakesHead version lines x
 unfolding head_at
-head_takes lines x e =
-    let a = bind_ok (line_at (At 1) (one_within (codes "evidence") 1 1) lines) _ x e in
+head_takes version lines x e =
+    let a = bind_ok (line_at (At 1) (one_within (codes "evidence") version version) lines) _ x e in
     let b = bind_ok (line_at (At 2) (one_within (codes "player") 0 GREATEST_PLAYER) a.0.1) _ x a.2 in
     let c = bind_ok (line_at (At 3) (one_within (codes "turn") 0 4294967295) b.0.1) _ x b.2 in
     let d = bind_ok (line_at (At 4) kind_said c.0.1) _ x c.2 in
-    let version = number_takes 1 (codes "evidence") 1 1 lines a.0 a.1 in
+    let said = number_takes 1 (codes "evidence") version version lines a.0 a.1 in
     let player = number_takes 2 (codes "player") 0 GREATEST_PLAYER a.0.1 b.0 b.1 in
     let turn = number_takes 3 (codes "turn") 0 4294967295 b.0.1 c.0 c.1 in
     let kind = line_at_spelled (At 4) kind_said kind_line c.0.1 d.0 kind_said-some d.1 in
-    let low = version.1 in
-    let high = version.2 in
-    let one : a.0.0 ≡ 1 = omega arith in
-    let first = version.0 ∙ ap (λ (n : ℕ). line_of (codes "evidence") (n ∷ []) ∷ a.0.1) one in
+    let low = said.1 in
+    let high = said.2 in
+    let one : a.0.0 ≡ version = omega arith in
+    let first = said.0 ∙ ap (λ (n : ℕ). line_of (codes "evidence") (n ∷ []) ∷ a.0.1) one in
     let head : Head = record { player = b.0.0; turn = c.0.0; kind = d.0.0 } in
     let most = turn.2 in
-    subst (λ (y : Head × List (List ℕ)). TakesHead lines y) {x = (head, d.0.1)} (ok_is {E = TextFault} (head, d.0.1) x d.2)
+    subst (λ (y : Head × List (List ℕ)). TakesHead version lines y) {x = (head, d.0.1)} (ok_is {E = TextFault} (head, d.0.1) x d.2)
     (record {
       spelled = behind_line lines a.0.1 _ _ first (behind_line a.0.1 b.0.1 _ _ player.0 (behind_line b.0.1 c.0.1 _ _ turn.0 kind));
       player = player.2;

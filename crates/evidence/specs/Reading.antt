@@ -12,6 +12,7 @@ use Rattle.text_fields.specs.declared.fault.TextFault.{TextFault}
 use Rattle.text_fields.specs.declared.fault.TextFault.TheVariants.{At}
 use Rattle.text_fields.specs.Hexes.{frame_of}
 use Rattle.evidence.specs.declared.exhibit.Exhibit.{Exhibit}
+use Rattle.evidence.specs.declared.head.Head.{Head}
 use Rattle.evidence.specs.Text.{kind_line}
 
 -- the kind that a line says
@@ -36,17 +37,15 @@ digits_said line = fronts.◌>>=◌ (behind (codes "frame ") line) (before (code
 unfoldable pub frame_said : List ℕ → Option TurnFrame
 frame_said line = fronts.◌>>=◌ (digits_said line) frame_of
 
--- what the lines before those of the frames say
-pub record Head : Type 0 where
-  pub player : ℕ
-  pub turn : ℕ
-  pub kind : Kind
+-- what the lines before those of the frames say of an exhibit
+abbrev pub head_of : Exhibit → Head
+head_of x = record { player = x.player; turn = x.turn; kind = x.kind }
 
--- lines 1 to 4: the version, the player, the turn and the kind, and the lines behind them
-unfoldable pub head_at : List (List ℕ) → Result (Head × List (List ℕ)) TextFault
-head_at lines = do
-  version ← line_at (At 1) (one_within (codes "evidence") 1 1) lines
-  player ← line_at (At 2) (one_within (codes "player") 0 GREATEST_PLAYER) version.1
+-- lines 1 to 4 of a text of this version: the version, the player, the turn and the kind, and the lines that follow
+unfoldable pub head_at : (version : ℕ) → List (List ℕ) → Result (Head × List (List ℕ)) TextFault
+head_at version lines = do
+  first ← line_at (At 1) (one_within (codes "evidence") version version) lines
+  player ← line_at (At 2) (one_within (codes "player") 0 GREATEST_PLAYER) first.1
   turn ← line_at (At 3) (one_within (codes "turn") 0 4294967295) player.1
   kind ← line_at (At 4) kind_said turn.1
   Ok (record { player = player.0; turn = turn.0; kind = kind.0 }, kind.1)
@@ -74,7 +73,7 @@ frames_at count (line ∷ lines) = if is_end count line then ends_at (At (line_b
 -- the exhibit that these lines say, or the first of them that is at fault
 unfoldable pub said_by : List (List ℕ) → Result Exhibit TextFault
 said_by lines = do
-  head ← head_at lines
+  head ← head_at 1 lines
   frames ← frames_at 0 head.1
   Ok (record { player = head.0.player; turn = head.0.turn; kind = head.0.kind; frames = frames })
 

@@ -21,16 +21,17 @@ frame_line f = codes "frame " ++ encode_lower (frame_bytes f) ++ codes "\n"
 abbrev pub end_line : List ℕ
 end_line = line_of (codes "end") []
 
--- the lines before those of the frames
-abbrev pub head_lines : (q t : ℕ) → Kind → List (List ℕ)
-head_lines q t kind = line_of (codes "evidence") (1 ∷ []) ∷ line_of (codes "player") (q ∷ []) ∷ line_of (codes "turn") (t ∷ []) ∷ kind_line kind ∷ []
+-- the lines before those of the frames, in a text of this version
+abbrev pub head_lines : (version q t : ℕ) → Kind → List (List ℕ)
+head_lines version q t kind =
+    line_of (codes "evidence") (version ∷ []) ∷ line_of (codes "player") (q ∷ []) ∷ line_of (codes "turn") (t ∷ []) ∷ kind_line kind ∷ []
 
 -- those of the frames, and `end`
 abbrev pub frame_lines : List TurnFrame → List (List ℕ)
 frame_lines fs = map frame_line fs ++ (end_line ∷ [])
 
 abbrev pub exhibit_lines : Exhibit → List (List ℕ)
-exhibit_lines x = head_lines x.player x.turn x.kind ++ frame_lines x.frames
+exhibit_lines x = head_lines 1 x.player x.turn x.kind ++ frame_lines x.frames
 
 unfoldable pub exhibit_text : Exhibit → List ℕ
 exhibit_text x = joined (exhibit_lines x)

@@ -12,6 +12,7 @@
 #![tactic(auto)]
 
 mod exhibit;
+mod head;
 mod judging;
 pub mod laws;
 mod printing;
@@ -19,7 +20,8 @@ mod reading;
 
 pub use definitions::{Kind, PlayerId, Turn, TurnFrame};
 pub use exhibit::{Exhibit, FrameList};
+pub use head::Head;
 pub use judging::judge;
-pub use printing::print_exhibit;
-pub use reading::read_exhibit;
+pub use printing::{print_exhibit, put_frame, put_head};
+pub use reading::{frame_of, read_exhibit, read_head};
 pub use text_fields::TextFault;

@@ -5,6 +5,7 @@ ghost use Rattle.text_lines.specs.Lines.{joined};
 ghost use Rattle.evidence.specs.Text.{exhibit_text, frame_line, head_lines, kind_line};
 
 use crate::exhibit::Exhibit;
+use crate::head::Head;
 use commitment::put_turn;
 use definitions::{Kind, TurnFrame};
 use hex::encode_to_slice;
@@ -28,8 +29,30 @@ fn put_kind(out: &mut Vec<u8>, kind: Kind) -> Result<(), AllocError>
     Ok(())
 }
 
-/// Writes the line of a frame.
-fn put_frame(out: &mut Vec<u8>, frame: &TurnFrame) -> Result<(), AllocError>
+/// Writes the lines that stand before those of the frames, in a text of this version, at the end of
+/// what `out` has.
+///
+/// An error comes only where memory runs out; of what `out` then has it says nothing.
+pub fn put_head(
+    alloc: Global,
+    out: &mut Vec<u8>,
+    version: u32,
+    head: Head,
+) -> Result<(), AllocError>
+    ensures { OnOk result (out.new.items ≡ out.old.items ++ joined (head_lines version head.player head.turn head.kind)) }
+{
+    put_line(alloc, out, b"evidence", &[version])?;
+    put_line(alloc, out, b"player", &[head.player.into()])?;
+    put_line(alloc, out, b"turn", &[head.turn])?;
+    put_kind(out, head.kind)?;
+    Ok(())
+}
+
+/// Writes the line of a frame, `frame HEX` and an LF, at the end of what `out` has. `HEX` spells the
+/// bytes of the frame.
+///
+/// An error comes only where memory runs out; of what `out` then has it says nothing.
+pub fn put_frame(out: &mut Vec<u8>, frame: &TurnFrame) -> Result<(), AllocError>
     ensures { OnOk result (out.new.items ≡ out.old.items ++ frame_line frame.now) }
 {
     let mut bytes = [0; FRAME_ROOM];
@@ -60,10 +83,7 @@ pub fn print_exhibit(alloc: Global, exhibit: &Exhibit) -> Result<Vec<u8>, AllocE
     ensures { IfOk result (λ text. text.items ≡ exhibit_text exhibit.now) }
 {
     let mut out = Vec::new(alloc);
-    put_line(alloc, &mut out, b"evidence", &[1])?;
-    put_line(alloc, &mut out, b"player", &[exhibit.player.into()])?;
-    put_line(alloc, &mut out, b"turn", &[exhibit.turn])?;
-    put_kind(&mut out, exhibit.kind)?;
+    put_head(alloc, &mut out, 1, exhibit.head())?;
     put_frames(&mut out, exhibit.frames.as_slice())?;
     put_line(alloc, &mut out, b"end", &[])?;
     Ok(out)

@@ -12,19 +12,12 @@ ghost use Rattle.evidence.specs.Reading.{digits_said, exhibit_at, exhibit_fault,
 ghost use Rattle.evidence.specs.Answers.{IsReadFrom};
 
 use crate::exhibit::{Exhibit, FrameList};
+use crate::head::Head;
 use definitions::limits::{GREATEST_PLAYER, LONGEST_LINE, MOST_EVIDENCE_FRAMES};
-use definitions::{Kind, PlayerId, Turn, TurnFrame};
+use definitions::{Kind, TurnFrame};
 use std::alloc::Global;
 use text_fields::{TextFault, read_frame};
 use text_lines::{is_last_line, one_within_at, take_line};
-
-/// What the lines before those of the frames say.
-#[derive(Clone, Copy)]
-struct Head {
-    player: PlayerId,
-    turn: Turn,
-    kind: Kind,
-}
 
 /// The kind that a line says.
 fn kind_of(line: &[u8]) -> Option<Kind>
@@ -54,12 +47,13 @@ fn kind_at(text: &[u8]) -> Result<(Kind, &[u8]), TextFault>
     }
 }
 
-/// What lines 1 to 4 say, and the text behind them.
+/// What lines 1 to 4 of a text of this version say, and the text that follows them. `At` names the
+/// first of them that is in another form, of another version, or missing.
 #[tactic(auto, unfolding(crate::specs::Reading::head_at))]
-fn read_head(text: &[u8]) -> Result<(Head, &[u8]), TextFault>
-    ensures { Says (λ x. (record { player = x.0.player; turn = x.0.turn; kind = x.0.kind }, ended_lines_of x.1.now)) result (head_at (ended_lines_of text.now)) }
+pub fn read_head(version: u32, text: &[u8]) -> Result<(Head, &[u8]), TextFault>
+    ensures { Says (λ x. (x.0, ended_lines_of x.1.now)) result (head_at version (ended_lines_of text.now)) }
 {
-    let (_version, rest) = one_within_at(TextFault::At(1), b"evidence", 1, 1, text)?;
+    let (_version, rest) = one_within_at(TextFault::At(1), b"evidence", version, version, text)?;
     let (player, rest) = one_within_at(
         TextFault::At(2),
         b"player",
@@ -84,9 +78,9 @@ fn digits_of(line: &[u8]) -> Option<&[u8]>
     line.strip_prefix(b"frame ")?.strip_suffix(b"\n")
 }
 
-/// The frame that a line says.
+/// The frame that a line says, if it is `frame`, the digits of one, and an LF.
 #[tactic(auto, unfolding(crate::specs::Reading::frame_said))]
-fn frame_of(line: &[u8]) -> Option<TurnFrame>
+pub fn frame_of(line: &[u8]) -> Option<TurnFrame>
     ensures { result ≡ frame_said line.now }
 {
     let digits = digits_of(line)?;
@@ -150,7 +144,7 @@ fn frames_of(alloc: Global, text: &[u8]) -> Result<Vec<TurnFrame>, TextFault>
 fn exhibit_of(alloc: Global, text: &[u8]) -> Result<Exhibit, TextFault>
     ensures { Gives is_memory (λ x. x) result (exhibit_at text.now) }
 {
-    let (head, rest) = read_head(text)?;
+    let (head, rest) = read_head(1, text)?;
     let frames = frames_of(alloc, rest)?;
     Ok(Exhibit {
         player: head.player,
