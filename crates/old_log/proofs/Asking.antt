@@ -16,7 +16,7 @@ use Rattle.session_log.specs.Writing.{going_on}
 use Rattle.session_log.proofs.GoneOn.{log_goes_on}
 use Rattle.session_log.proofs.Logs.{log_ends}
 use Rattle.old_log.specs.declared.reading.OldLog.{OldLog}
-use Rattle.old_log.specs.Old.{IsOld, fault_place, is_anothers, old_entries, place_said}
+use Rattle.old_log.specs.Old.{IsOld, fault_of, fault_said, is_anothers, old_entries}
 use Rattle.old_log.proofs.Owners.{own_entries}
 
 -- these entries and those behind them
@@ -93,11 +93,11 @@ next_said : (game : Game) (bytes : List ℕ) (r : LogReading) → IsSaid (next_s
 unfolding next_step
 next_said game bytes r = unless_said r.said r (step_by game r r.owner bytes) refl (by_said game r r.owner bytes)
 
--- the byte of the fault is that of what comes next
-place_same : (answer : Answer) (r : LogReading) → ((e : Entry) → answer ≡ Ok (Some e) → ⊥) → SaidSo answer r → fault_place answer ≡ place_said r.said
-place_same (Ok (Some e)) r none said = absurd (none e refl)
-place_same (Ok None) r none said = ap (λ (o : Option Ending). place_said o) (sym said)
-place_same (Err fault) r none said = ap (λ (o : Option Ending). place_said o) (sym said)
+-- the fault with which the log ended is what comes next
+fault_same : (answer : Answer) (r : LogReading) → ((e : Entry) → answer ≡ Ok (Some e) → ⊥) → SaidSo answer r → fault_of answer ≡ fault_said r.said
+fault_same (Ok (Some e)) r none said = absurd (none e refl)
+fault_same (Ok None) r none said = ap (λ (o : Option Ending). fault_said o) (sym said)
+fault_same (Err fault) r none said = ap (λ (o : Option Ending). fault_said o) (sym said)
 
 -- where no step is left, the log has ended
 record IsThrough (r : LogReading) : Type 0 where
@@ -167,8 +167,8 @@ ends_by game bytes entries answer r s (suc most) are all none a k =
 -- what the reader then has read is what the log has, where the rest is told so
 pub read_all : (game : Game) (me : ℕ) (bytes : List ℕ) (entries : List Entry) (answer : Answer) (r s : LogReading) (log : OldLog) → AreBytes bytes → IsReading game bytes entries r →
     ((e : Entry) → answer ≡ Ok (Some e) → ⊥) → answer ≡ (next_step game bytes r).answer → s ≡ (next_step game bytes r).reader →
-    log.entries.items ≡ entries → log.anothers ≡ is_anothers me s.owner entries → log.dropped ≡ fault_place answer → log.kept ≡ s.at → log.writer ≡ going_on s me → IsOld game me bytes log
-read_all game me bytes entries answer r s log are all none a k held others dropped kept writer =
+    log.entries.items ≡ entries → log.anothers ≡ is_anothers me s.owner entries → log.fault ≡ fault_of answer → log.kept ≡ s.at → log.writer ≡ going_on s me → IsOld game me bytes log
+read_all game me bytes entries answer r s log are all none a k held others fault kept writer =
     let here = ends_by game bytes entries answer r s (length bytes + 1 - length entries) are all none a k in
     let said : SaidSo answer s = subst (λ (x : Answer). SaidSo x s) (sym a) (subst (λ (q : LogReading). SaidSo (next_step game bytes r).answer q) (sym k) (next_said game bytes r)) in
     let l : ReadLog = read_log game bytes in
@@ -179,7 +179,7 @@ read_all game me bytes entries answer r s log are all none a k held others dropp
     record {
       entries_are = held ∙ given;
       others_is = is;
-      dropped_is = dropped ∙ place_same answer s none said ∙ ap (λ (q : LogReading). place_said q.said) reader;
+      fault_is = fault ∙ fault_same answer s none said ∙ ap (λ (q : LogReading). fault_said q.said) reader;
       kept_is = λ own. kept ∙ ap (λ (q : LogReading). q.at) reader ∙ (log_goes_on game bytes me are (own_entries game me bytes (sym is ∙ own))).used_is;
       writer_is = λ own. writer ∙ ap (λ (q : LogReading). going_on q me) reader ∙ (log_goes_on game bytes me are (own_entries game me bytes (sym is ∙ own))).writer_is;
     }

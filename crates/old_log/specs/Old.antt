@@ -1,5 +1,6 @@
 -- Old: what a log has before its first fault, and why a peer can't go on from it.
-use Rattle.std.specs.Prelude.{◌≡◌, ℕ, ◌+◌, Bool, false, not, ◌&&◌, ◌==◌, List, [], Option, Some, None, Result, Ok, Err, length, nat_lt, take, if◌then◌else◌}
+use Rattle.std.specs.Prelude.{◌≡◌, ℕ, ◌+◌, Bool, false, not, ◌&&◌, ◌==◌, List, [], Option, Some, None, Result, Ok, Err, length, nat_lt, option_map, take, if◌then◌else◌}
+use Rattle.std.specs.Option.{option_or}
 use Rattle.definitions.specs.declared.logs.Entry.{Entry}
 use Rattle.session_log.specs.declared.faults.LogFault.{LogFault}
 use Rattle.definitions.specs.declared.logs.LogWhy.TheVariants.{TooLong, NotReplayed}
@@ -20,15 +21,31 @@ old_owner game bytes = (read_log game bytes).reader.owner
 abbrev pub old_entries : Game → List ℕ → List Entry
 old_entries game bytes = (read_log game bytes).entries
 
+-- the fault with which a log ends, if it does
+abbrev pub fault_of : {A : Type 0} → Result A LogFault → Option LogFault
+fault_of (Ok whole) = None
+fault_of (Err fault) = Some fault
+
+-- the same of how a log ended, once it has
+abbrev pub fault_said : Option Ending → Option LogFault
+fault_said None = None
+fault_said (Some end) = fault_of end
+
 -- the byte where the fault begins, if there is one
 abbrev pub fault_place : {A : Type 0} → Result A LogFault → Option ℕ
-fault_place (Ok whole) = None
-fault_place (Err fault) = Some fault.at
+fault_place end = option_map (λ (fault : LogFault). fault.at) (fault_of end)
 
 -- the same of how a log ended, once it has
 abbrev pub place_said : Option Ending → Option ℕ
-place_said None = None
-place_said (Some end) = fault_place end
+place_said said = option_map (λ (fault : LogFault). fault.at) (fault_said said)
+
+-- the fault with which the log of these bytes ends, if it does
+abbrev pub end_fault : Game → List ℕ → Option LogFault
+end_fault game bytes = fault_said (read_log game bytes).reader.said
+
+-- the first fault of the bytes as a log, if they have one: that they are too many, or else the one with which they end
+abbrev pub log_fault : Game → List ℕ → Option LogFault
+log_fault game bytes = if nat_lt LONGEST_LOG (length bytes) then Some (fault_at LONGEST_LOG TooLong) else end_fault game bytes
 
 -- the byte from which on the log is dropped, if it has a fault
 abbrev pub dropped_at : Game → List ℕ → Option ℕ
@@ -45,7 +62,7 @@ is_anothers me (Some owner) entries = not (owner == me) && not (is_empty entries
 pub record IsOld (game : Game) (me : ℕ) (bytes : List ℕ) (log : OldLog) : Type 0 where
   pub entries_are : log.entries.items ≡ old_entries game bytes
   pub others_is : log.anothers ≡ is_anothers me (old_owner game bytes) (old_entries game bytes)
-  pub dropped_is : log.dropped ≡ dropped_at game bytes
+  pub fault_is : log.fault ≡ end_fault game bytes
   pub kept_is : log.anothers ≡ false → log.kept ≡ length (log_bytes game.id me (old_entries game bytes))
   pub writer_is : log.anothers ≡ false → log.writer ≡ all_after (fresh game.id me) (old_entries game bytes)
 
@@ -64,3 +81,8 @@ old_fault game me bytes =
     if nat_lt LONGEST_LOG (length bytes) then Some (fault_at LONGEST_LOG TooLong)
     else if is_anothers me (old_owner game bytes) (old_entries game bytes) then Some (fault_at 1 NotReplayed)
     else breach game me (old_entries game bytes) (first_not_replayed game me [] (old_entries game bytes))
+
+-- why the log isn't a whole one of which a peer for this player can be had, if there is a cause: its own first fault, or else the first cause that a
+-- peer can't go on from it
+abbrev pub whole_fault : Game → ℕ → List ℕ → Option LogFault
+whole_fault game me bytes = option_or (log_fault game bytes) (old_fault game me bytes)

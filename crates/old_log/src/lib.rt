@@ -12,9 +12,11 @@ mod files;
 mod places;
 mod reading;
 mod resuming;
+mod whole;
 
 pub use definitions::LogWhy;
 pub use files::{begin, open_peer};
 pub use peer_core::Peer;
 pub use resuming::{OldFault, Resumed, resume_from};
 pub use session_log::LogFault;
+pub use whole::resume_whole;

@@ -7,7 +7,7 @@ ghost use Rattle.old_log.specs.Old as O;
 use definitions::limits::LONGEST_LOG;
 use definitions::{Entry, PlayerId};
 use grid_world::Session;
-use session_log::{LogReader, LogWriter};
+use session_log::{LogFault, LogReader, LogWriter};
 use std::alloc::{AllocError, Global};
 
 /// A log before its first fault, where a player is to go on from it.
@@ -16,8 +16,8 @@ pub(crate) struct OldLog {
     pub(crate) entries: Vec<Entry>,
     /// Whether it has entries, and they are another player's.
     pub(crate) anothers: bool,
-    /// The byte where the fault begins, if it has one.
-    pub(crate) dropped: Option<u32>,
+    /// The fault with which it ends, if it has one.
+    pub(crate) fault: Option<LogFault>,
     /// Where the entries are the player's: how many bytes they have, and a writer behind them.
     pub(crate) kept: u32,
     pub(crate) writer: LogWriter,
@@ -34,10 +34,10 @@ fn is_anothers(me: PlayerId, owner: Option<PlayerId>, entries: &[Entry]) -> bool
 }
 
 /// What is known of a log for this player, whose entries a reader gave.
-fn old_of(me: PlayerId, reader: &LogReader, entries: Vec<Entry>, dropped: Option<u32>) -> OldLog
+fn old_of(me: PlayerId, reader: &LogReader, entries: Vec<Entry>, fault: Option<LogFault>) -> OldLog
     ensures entries { result.entries.items ≡ entries.items }
     ensures others { result.anothers ≡ O.is_anothers me reader.now.owner entries.items }
-    ensures dropped { result.dropped ≡ dropped }
+    ensures fault { result.fault ≡ fault }
     ensures kept { result.kept ≡ reader.now.at }
     ensures writer { result.writer ≡ going_on reader.now me }
 {
@@ -45,7 +45,7 @@ fn old_of(me: PlayerId, reader: &LogReader, entries: Vec<Entry>, dropped: Option
     OldLog {
         entries,
         anothers,
-        dropped,
+        fault,
         kept: reader.used(),
         writer: reader.writer(me),
     }
@@ -71,7 +71,7 @@ pub(crate) fn read_old(
                 return Ok(log);
             }
             Err(fault) => {
-                let log = old_of(me, &reader, entries, Some(fault.at));
+                let log = old_of(me, &reader, entries, Some(fault));
                 return Ok(log);
             }
         }

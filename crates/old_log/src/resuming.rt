@@ -1,6 +1,6 @@
 //! A peer from the bytes of a log.
 
-ghost use Rattle.std.specs.Prelude.{◌<◌, IfOk};
+ghost use Rattle.std.specs.Prelude.{◌≡◌, ◌<◌, IfOk, option_map};
 ghost use Rattle.definitions.specs.World.{players_of};
 ghost use Rattle.definitions.specs.Honest.{IsHonest};
 ghost use Rattle.old_log.specs.Resumed as R;
@@ -39,6 +39,14 @@ pub struct Resumed {
     pub writer: LogWriter,
 }
 
+/// The byte where the fault begins, if there is one.
+fn place_of(fault: Option<LogFault>) -> Option<u32>
+    ensures { result ≡ option_map (λ f. f.at) fault }
+{
+    let fault = fault?;
+    Some(fault.at)
+}
+
 /// A peer for this player of the session that goes on from the log with these bytes. The log's bytes from its first fault
 /// on are dropped, and the peer replays the entries before it; a log without a whole entry is gone on from as an empty one.
 ///
@@ -74,7 +82,7 @@ pub fn resume_from(
     match Peer::resume(alloc, session, me, entries) {
         Ok(peer) => Ok(Resumed {
             peer,
-            dropped: log.dropped,
+            dropped: place_of(log.fault),
             kept: log.kept,
             writer: log.writer,
         }),

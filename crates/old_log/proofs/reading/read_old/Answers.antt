@@ -36,11 +36,11 @@ returns-in-Ok-None c =
     let e = c.old_of-log.ensures in
     read_all c.args.session.now c.args.me c.args.bytes.now c.entries.entries.items (Ok None) c.entries.reader c.read.new.self c.old_of-log.result
     (are_bytes c.args.bytes.now c.type_inv.bytes) c.entries.invariant.reading none_comes (sym (c.in-Ok-None.is ∙ ap (λ (o : Option Entry). Ok o) c.in-Ok-None.field-0-is) ∙ c.read.ensures.answer) c.read.ensures.reader
-    e.entries e.others e.dropped e.kept e.writer
+    e.entries e.others e.fault e.kept e.writer
 
 pub returns-in-Err : goal.returns-in-Err
 returns-in-Err c =
     let e = c.old_of-log-in-Err.ensures in
     read_all c.args.session.now c.args.me c.args.bytes.now c.entries.entries.items (Err c.in-Err.fault) c.entries.reader c.read.new.self c.old_of-log-in-Err.result
     (are_bytes c.args.bytes.now c.type_inv.bytes) c.entries.invariant.reading (fault_comes c.in-Err.fault) (sym c.in-Err.is ∙ c.read.ensures.answer) c.read.ensures.reader
-    e.entries e.others e.dropped e.kept e.writer
+    e.entries e.others e.fault e.kept e.writer
