@@ -1,0 +1,10 @@
+pub mod Steps
+pub mod Loops
+pub mod Again
+pub mod Taken
+pub mod Found
+pub mod Short
+pub mod Printed
+pub mod Heads
+pub mod Faulty
+pub mod Worked

@@ -1,0 +1,5 @@
+pub mod Text
+pub mod Reading
+pub mod Answers
+pub mod Laws
+pub mod Cases
