@@ -15,17 +15,25 @@ use Rattle.auditor.specs.Taking.{Takes}
 use Rattle.auditor.proofs.Fed.{takes_more}
 use Rattle.sealed_files.specs.SealedFrames.{frame_len, sealed_ahead}
 use Rattle.accuser.specs.Accused.{entries_from, entries_in}
+use Rattle.accuser.specs.SealBooks.{Book, KeepsSeals}
+use Rattle.accuser.proofs.Noted.{both_kept, none_kept}
 
--- the frames before this byte were taken, and those behind it are left
-pub record HasTaken (game : Game) (roots : List (List ℕ)) (before now : AuditState) (file : ℕ) (bytes : List ℕ) (steps at : ℕ) : Type 0 where
+-- the frames before this byte were taken with their seals, and those after it are left
+pub record HasTaken (game : Game) (roots : List (List ℕ)) (before now : AuditState) (old new : Book) (file : ℕ) (bytes : List ℕ) (steps at : ℕ) : Type 0 where
   pub front : List Entry
   pub parts : entries_in game roots bytes ≡ front ++ entries_from game roots steps (drop at bytes)
   pub taken : Takes before now file front
+  pub kept : KeepsSeals game roots old new front
 
-pub none_taken : (game : Game) (roots : List (List ℕ)) (a : AuditState) (file : ℕ) (bytes : List ℕ) → HasTaken game roots a a file bytes (length bytes - 0) 0
-none_taken game roots a file bytes =
+-- all were
+pub record HasAll (game : Game) (roots : List (List ℕ)) (before now : AuditState) (old new : Book) (file : ℕ) (bytes : List ℕ) : Type 0 where
+  pub taken : Takes before now file (entries_in game roots bytes)
+  pub kept : KeepsSeals game roots old new (entries_in game roots bytes)
+
+pub none_taken : (game : Game) (roots : List (List ℕ)) (a : AuditState) (b : Book) (file : ℕ) (bytes : List ℕ) → HasTaken game roots a a b b file bytes (length bytes - 0) 0
+none_taken game roots a b file bytes =
     let all : length bytes - 0 ≡ length bytes = omega arith in
-    record { front = []; parts = ap (λ (n : ℕ). entries_from game roots n bytes) (sym all); taken = λ g logs w. w }
+    record { front = []; parts = ap (λ (n : ℕ). entries_from game roots n bytes) (sym all); taken = λ g logs w. w; kept = none_kept game roots b }
 
 from_none : (game : Game) (roots : List (List ℕ)) (bytes : List ℕ) → entries_from game roots 0 bytes ≡ []
 unfolding entries_from
@@ -45,31 +53,34 @@ from_more game roots (suc n) bytes f some e r =
     rw (e, r, same) refl
 
 -- nothing is left
-pub all_taken : (game : Game) (roots : List (List ℕ)) (a a' : AuditState) (file : ℕ) (bytes : List ℕ) (steps at : ℕ) → entries_from game roots steps (drop at bytes) ≡ [] →
-    HasTaken game roots a a' file bytes steps at → Takes a a' file (entries_in game roots bytes)
-all_taken game roots a a' file bytes steps at none has =
-    subst (Takes a a' file) (sym (has.parts ∙ ap (λ (es : List Entry). has.front ++ es) none ∙ append-nil has.front)) has.taken
+all_taken : (game : Game) (roots : List (List ℕ)) (a a' : AuditState) (b b' : Book) (file : ℕ) (bytes : List ℕ) (steps at : ℕ) → entries_from game roots steps (drop at bytes) ≡ [] →
+    HasTaken game roots a a' b b' file bytes steps at → HasAll game roots a a' b b' file bytes
+all_taken game roots a a' b b' file bytes steps at none has =
+    let same = sym (has.parts ∙ ap (λ (es : List Entry). has.front ++ es) none ∙ append-nil has.front) in
+    record { taken = subst (Takes a a' file) same has.taken; kept = subst (KeepsSeals game roots b b') same has.kept }
 
-pub taken_empty : (game : Game) (roots : List (List ℕ)) (a a' : AuditState) (file : ℕ) (bytes : List ℕ) (steps at : ℕ) → is_empty (drop at bytes) ≡ true →
-    HasTaken game roots a a' file bytes steps at → Takes a a' file (entries_in game roots bytes)
-taken_empty game roots a a' file bytes steps at e has = all_taken game roots a a' file bytes steps at (from_empty game roots steps (drop at bytes) e) has
+pub taken_empty : (game : Game) (roots : List (List ℕ)) (a a' : AuditState) (b b' : Book) (file : ℕ) (bytes : List ℕ) (steps at : ℕ) → is_empty (drop at bytes) ≡ true →
+    HasTaken game roots a a' b b' file bytes steps at → HasAll game roots a a' b b' file bytes
+taken_empty game roots a a' b b' file bytes steps at e has = all_taken game roots a a' b b' file bytes steps at (from_empty game roots steps (drop at bytes) e) has
 
-pub taken_out : (game : Game) (roots : List (List ℕ)) (a a' : AuditState) (file : ℕ) (bytes : List ℕ) (steps at : ℕ) → steps ≡ 0 →
-    HasTaken game roots a a' file bytes steps at → Takes a a' file (entries_in game roots bytes)
-taken_out game roots a a' file bytes steps at e has =
-    all_taken game roots a a' file bytes steps at (ap (λ (n : ℕ). entries_from game roots n (drop at bytes)) e ∙ from_none game roots (drop at bytes)) has
+pub taken_out : (game : Game) (roots : List (List ℕ)) (a a' : AuditState) (b b' : Book) (file : ℕ) (bytes : List ℕ) (steps at : ℕ) → steps ≡ 0 →
+    HasTaken game roots a a' b b' file bytes steps at → HasAll game roots a a' b b' file bytes
+taken_out game roots a a' b b' file bytes steps at e has =
+    all_taken game roots a a' b b' file bytes steps at (ap (λ (n : ℕ). entries_from game roots n (drop at bytes)) e ∙ from_none game roots (drop at bytes)) has
 
 -- one frame more
-pub one_taken : (game : Game) (roots : List (List ℕ)) (a b c : AuditState) (file : ℕ) (bytes : List ℕ) (steps left at next : ℕ) (f : TurnFrame) → 0 < steps → left ≡ steps - 1 →
+pub one_taken : (game : Game) (roots : List (List ℕ)) (a a' a'' : AuditState) (b b' b'' : Book) (file : ℕ) (bytes : List ℕ) (steps left at next : ℕ) (f : TurnFrame) → 0 < steps → left ≡ steps - 1 →
     is_empty (drop at bytes) ≡ false → sealed_ahead game roots (drop at bytes) ≡ Some f → drop (frame_len (drop at bytes) + seal_len game) (drop at bytes) ≡ drop next bytes →
-    Takes b c file (Got (player_of f) f ∷ []) → HasTaken game roots a b file bytes steps at → HasTaken game roots a c file bytes left next
-one_taken game roots a b c file bytes steps left at next f some less e r behind takes has = record {
+    Takes a' a'' file (Got (player_of f) f ∷ []) → KeepsSeals game roots b' b'' (Got (player_of f) f ∷ []) → HasTaken game roots a a' b b' file bytes steps at →
+    HasTaken game roots a a'' b b'' file bytes left next
+one_taken game roots a a' a'' b b' b'' file bytes steps left at next f some less e r after takes keeps has = record {
   front = has.front ++ Got (player_of f) f ∷ [];
   parts = has.parts ∙ ap (λ (es : List Entry). has.front ++ es) (from_more game roots steps (drop at bytes) f some e r
       ∙ ap (λ (n : ℕ). Got (player_of f) f ∷ entries_from game roots n (drop (frame_len (drop at bytes) + seal_len game) (drop at bytes))) (sym less)
-      ∙ ap (λ (xs : List ℕ). Got (player_of f) f ∷ entries_from game roots left xs) behind)
+      ∙ ap (λ (xs : List ℕ). Got (player_of f) f ∷ entries_from game roots left xs) after)
       ∙ sym (append_assoc has.front (Got (player_of f) f ∷ []) (entries_from game roots left (drop next bytes)));
-  taken = takes_more a b c file has.front (Got (player_of f) f ∷ []) has.taken takes;
+  taken = takes_more a a' a'' file has.front (Got (player_of f) f ∷ []) has.taken takes;
+  kept = both_kept game roots b b' b'' has.front (Got (player_of f) f ∷ []) has.kept keeps;
 }
 
 -- what holds where nothing failed

@@ -8,13 +8,15 @@ use Rattle.definitions.specs.Findings.{findings}
 use Rattle.definitions.specs.Lists.{is_empty}
 use Rattle.definitions.specs.World.{Game}
 use Rattle.definitions.specs.Logs.{player_of}
+use Rattle.definition_laws.specs.Members.{Has}
 use Rattle.seal_keys.specs.Seals.{seal_len}
 use Rattle.auditor.specs.Audits.{AuditState, StandsFor}
-use Rattle.auditor.specs.Reports.{Reported, found_in}
 use Rattle.auditor.specs.Taking.{Takes}
 use Rattle.sealed_files.specs.SealedFrames.{bad_from, first_bad, frame_len, sealed_ahead}
 use Rattle.accuser.specs.declared.accusing.AccuseFault.{AccuseFault}
 use Rattle.accuser.specs.declared.accusing.AccuseFault.TheVariants.{BadSeal, Memory}
+use Rattle.accuser.specs.SealBooks.{AreSound, Holds}
+use Rattle.accuser.specs.SealedReports.{SealedReported, found_in}
 
 -- the frame, if there is one, as one that was got of its player, and what follows
 abbrev pub entry_then : Option TurnFrame → List Entry → List Entry
@@ -73,7 +75,16 @@ pub record AreTaken (game : Game) (roots : List (List ℕ)) (a a' : AuditState) 
   pub stands : (owners : List (Option ℕ)) (logs : List (List Entry)) → length logs ≡ number → StandsFor game owners logs a →
       (more : List (Option ℕ)) × StandsFor game (owners ++ more) (logs ++ logs_of game roots files) a'
 
+-- the report has what its exhibits are made of: an auditor that stands for these logs, and of each
+-- frame that they got a seal that is valid for it
+pub record HasExhibits (game : Game) (roots : List (List ℕ)) (logs : List (List Entry)) (r : SealedReported) : Type 0 where
+  pub owners : List (Option ℕ)
+  pub stands : StandsFor game owners logs r.audit
+  pub sound : AreSound game roots r.seals
+  pub holds : (h : List Entry) (q : ℕ) (f : TurnFrame) → Has logs h → Has h (Got q f) → Holds r.seals f
+
 -- no file has a fault, and the report lists what logs show that got just these frames
-pub record Accuses (game : Game) (roots files : List (List ℕ)) (r : Reported) : Type 0 where
+pub record Accuses (game : Game) (roots files : List (List ℕ)) (r : SealedReported) : Type 0 where
   pub sound : first_fault game roots 0 files ≡ None
   pub found : found_in r ≡ findings game (logs_of game roots files)
+  pub exhibits : HasExhibits game roots (logs_of game roots files) r

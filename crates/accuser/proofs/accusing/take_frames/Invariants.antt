@@ -12,8 +12,9 @@ invariant-loop-step l = record {
   room : length l.seal ≡ seal_len l.session;
   same : R.bad_from l.session l.roots (length l.bytes) 0 l.bytes ≡ R.bad_from l.session l.roots (length l.bytes - l.step) l.at (drop l.at l.bytes);
   session : l.auditor.session ≡ l.initial.auditor.session;
+  book : l.seals.game ≡ l.initial.seals.game;
   counted : count_in l.auditor l.file ≡ l.step;
   others : LeavesOthers l.initial.auditor l.auditor l.file;
   owner : owner_in l.auditor l.file ≡ owner_in l.initial.auditor l.file;
-  taken : HasTaken l.session l.roots l.initial.auditor l.auditor l.file l.bytes (length l.bytes - l.step) l.at;
+  taken : HasTaken l.session l.roots l.initial.auditor l.auditor l.initial.seals l.seals l.file l.bytes (length l.bytes - l.step) l.at;
 }
