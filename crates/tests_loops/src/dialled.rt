@@ -2,10 +2,11 @@
 
 use crate::nets::frames::put;
 use crate::nets::greets::hello;
-use crate::nets::grounds::{NEAR, session_of};
-use crate::nets::setups::{STAY_0, alone, script_of};
+use crate::nets::grounds::NEAR;
+use crate::nets::setups::{STAY_0, alone};
 use crate::nets::sides::{NARROW, Player};
 use grid_world::Session;
+use match_sides::texts::{script_of, session_of};
 use pilots::ScriptPilot;
 use ready_loop::Spent;
 use socket_station::SocketId;

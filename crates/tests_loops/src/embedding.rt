@@ -3,15 +3,16 @@
 ghost use Rattle.std.specs.Prelude.{◌≡◌, None};
 ghost use Rattle.ready_loop.specs.Settling.{IsReady};
 ghost use Rattle.std.proofs.Props.{props};
-ghost use Rattle.tests_loops.specs.Props.{EachIs-prop, DiffersBy-prop};
+ghost use Rattle.match_sides.specs.Props.{EachIs-prop, DiffersBy-prop};
 
 use crate::engines::{Engine, Link};
-use crate::nets::audits::is_clean;
-use crate::nets::grounds::{FAR, roster_of, session_of};
-use crate::nets::setups::{STAY_0, STAY_9, script_of};
-use crate::nets::sides::{begin, loop_of, play_round};
+use crate::nets::grounds::FAR;
+use crate::nets::setups::{STAY_0, STAY_9};
 use definitions::PlayerId;
 use grid_world::Session;
+use match_sides::audits::is_clean;
+use match_sides::rounds::{begin, loop_of, play_round};
+use match_sides::texts::{roster_of, script_of, session_of};
 use peer_core::Peer;
 use pilots::{Pilot, generator_of};
 use rand_pcg::Pcg32;

@@ -1,12 +1,13 @@
 //! Whole matches, with every byte carried from station to station.
 
-use crate::nets::audits::{heard_truly, is_clean};
-use crate::nets::grounds::{FAR, FOUR, THREE, session_of};
+use crate::nets::grounds::{FAR, FOUR, THREE};
 use crate::nets::links::Net;
-use crate::nets::setups::{STAY_0, STAY_9, net_of, script_of};
+use crate::nets::setups::{STAY_0, STAY_9, net_of};
 use crate::nets::sides::{NARROW, Player, WIDE};
 use definitions::PlayerId;
 use grid_world::Session;
+use match_sides::audits::{heard_truly, is_clean};
+use match_sides::texts::{script_of, session_of};
 use peer_core::Peer;
 use pilots::BotPilot;
 use std::alloc::Global;

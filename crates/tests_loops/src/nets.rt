@@ -1,7 +1,6 @@
 //! Nets of loops over stations in memory: a side is a loop with its station, and a net carries
 //! what is given on one socket to the other side of it, as a network would.
 
-pub mod audits;
 pub mod frames;
 pub mod greets;
 pub mod grounds;

@@ -1,9 +1,9 @@
 //! What a harness itself says on a socket.
 
 use crate::nets::frames::put;
-use crate::nets::grounds::pass_of;
 use definitions::{Place, PlayerId};
 use grid_world::Session;
+use match_sides::texts::pass_of;
 use peer_core::Peer;
 use std::alloc::Global;
 use std::test::Fail;

@@ -1,9 +1,4 @@
-//! Sessions and rosters.
-
-use definitions::PlayerId;
-use grid_world::{Session, read_session};
-use std::alloc::Global;
-use std::test::Fail;
+//! The sessions of the matches.
 
 /// Two players nine cells apart, who can't meet before five turns are missed.
 pub const FAR: &[u8] =
@@ -24,55 +19,3 @@ pub const THREE: &[u8] =
 /// Four players on a grid of 32 by 32, for 50 turns.
 pub const FOUR: &[u8] =
     b"playout 1\ngrid 32 32\nrules 2 3 1\ncharge 1 4 2\nturns 50\nplayers 4\nplayer 0 10 10\nplayer 1 21 10\nplayer 2 10 21\nplayer 3 21 21\nwall 15 14\nwall 15 15\nwall 15 16\nend\n";
-
-pub fn session_of(alloc: Global, text: &[u8]) -> Result<Session, Fail> {
-    match read_session(alloc, text) {
-        Ok(session) => Ok(session),
-        Err(_) => Err("session".into()),
-    }
-}
-
-/// The last digit of a number.
-fn digit(number: u8) -> u8 {
-    b'0'.saturating_add(number % 10)
-}
-
-/// The digits of the pass that one player shows to another.
-fn put_pass(out: &mut Vec<u8>, from: PlayerId, to: PlayerId) -> Result<(), Fail> {
-    let first = digit(from);
-    let second = digit(to);
-    for _ in 0..16 {
-        out.push(first)?;
-        out.push(second)?;
-    }
-    Ok(())
-}
-
-fn put_link(alloc: Global, out: &mut Vec<u8>, me: PlayerId, other: PlayerId) -> Result<(), Fail> {
-    let line = format!(in alloc; "peer {other} 127.0.0.1 700{other} ")?;
-    out.extend_from_slice(line.as_bytes())?;
-    put_pass(out, me, other)?;
-    out.push(b' ')?;
-    put_pass(out, other, me)?;
-    out.push(b'\n')?;
-    Ok(())
-}
-
-/// The roster of a player among so many.
-pub fn roster_of(alloc: Global, me: PlayerId, players: PlayerId) -> Result<Vec<u8>, Fail> {
-    let mut out = Vec::new(alloc);
-    let head = format!(in alloc; "roster 1\nme 127.0.0.1 700{me}\n")?;
-    out.extend_from_slice(head.as_bytes())?;
-    for other in 0..players {
-        if other != me {
-            put_link(alloc, &mut out, me, other)?;
-        }
-    }
-    out.extend_from_slice(b"end\n")?;
-    Ok(out)
-}
-
-/// The pass that one player shows to another.
-pub fn pass_of(from: PlayerId, to: PlayerId) -> [u8; 16] {
-    [(from % 10).saturating_mul(16).saturating_add(to % 10); 16]
-}

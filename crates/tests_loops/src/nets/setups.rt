@@ -1,11 +1,10 @@
 //! The scripts, the sides and the network of a session's players.
 
-use crate::nets::grounds::roster_of;
 use crate::nets::links::Net;
 use crate::nets::sides::{Fails, Made, Player, Room};
 use definitions::PlayerId;
 use grid_world::Session;
-use pilots::ScriptPilot;
+use match_sides::texts::roster_of;
 use std::alloc::Global;
 use std::test::Fail;
 
@@ -13,13 +12,6 @@ use std::test::Fail;
 pub const STAY_0: &[u8] = b"0 0\n0 0\n0 0\n0 0\n0 0\n0 0\n0 0\n0 0\n";
 
 pub const STAY_9: &[u8] = b"9 0\n9 0\n9 0\n9 0\n9 0\n9 0\n9 0\n9 0\n";
-
-pub fn script_of(alloc: Global, text: &[u8], session: &Session) -> Result<ScriptPilot, Fail> {
-    match ScriptPilot::read(alloc, text, session) {
-        Ok(pilot) => Ok(pilot),
-        Err(_) => Err("moves".into()),
-    }
-}
 
 /// The side of a player, which begins.
 pub fn side_of(

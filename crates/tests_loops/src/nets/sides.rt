@@ -3,21 +3,20 @@
 ghost use Rattle.std.specs.Prelude.{◌≡◌, [], None, IfOk};
 ghost use Rattle.ready_loop.specs.Settling.{IsReady};
 ghost use Rattle.std.proofs.Props.{props};
-ghost use Rattle.tests_loops.specs.Props.{EachIs-prop, DiffersBy-prop};
-ghost use Rattle.ready_loop.specs.Beginning.{IsNew};
+ghost use Rattle.match_sides.specs.Props.{EachIs-prop, DiffersBy-prop};
 
 use crate::nets::heard::Heard;
 use bytes::Bytes;
 use definitions::PlayerId;
 use grid_world::Session;
+use match_sides::rounds::{begin, loop_of, play_round};
 use memory_station::MemoryStation;
 use old_log::resume_from;
 use peer_core::Peer;
 use pilots::{Pilot, generator_of};
 use rand_pcg::Pcg32;
-use ready_loop::{Begun, Ended, Loop, Round};
-use rosters::read_roster;
-use socket_station::{SocketId, Station};
+use ready_loop::{Ended, Loop};
+use socket_station::SocketId;
 use std::alloc::Global;
 use std::test::Fail;
 
@@ -81,41 +80,6 @@ pub struct Player {
     ghost ready: { ended ≡ None → IsReady station.inner.book.history it } by { Prim.hlevel (props, EachIs-prop, DiffersBy-prop) },
 }
 
-/// Plays a round, and says how the run ended, if it did.
-#[tactic(auto, using(crate::proofs::Ready::on_is_ready))]
-pub fn play_round<S: Station, P: Pilot>(
-    it: &mut Loop,
-    station: &mut S,
-    pilot: &mut P,
-    chance: &mut Pcg32,
-) -> Option<Ended>
-    requires { IsReady (S.history station.old) it.old }
-    ensures { result ≡ None → IsReady (S.history station.new) it.new }
-{
-    match it.round(station, pilot, chance) {
-        Round::On => None,
-        Round::Done => Some(Ended::Done),
-        Round::Caught(finding) => Some(Ended::Caught(finding)),
-        Round::PollFault => Some(Ended::PollFault),
-        Round::KeepFault => Some(Ended::KeepFault),
-        Round::OwnMove(turn, fault) => Some(Ended::OwnMove(turn, fault)),
-    }
-}
-
-/// Begins, and says how the run ended, if it did.
-#[tactic(auto, using(ready_loop::proofs::Began::begun_is_ready))]
-pub fn begin<S: Station>(it: &mut Loop, station: &mut S) -> Option<Ended>
-    requires new { IsNew it.old }
-    requires first { S.history station.old ≡ [] }
-    ensures { result ≡ None → IsReady (S.history station.new) it.new }
-{
-    match it.begin(station, b"log") {
-        Begun::Ready => None,
-        Begun::KeepFault => Some(Ended::KeepFault),
-        Begun::PollFault => Some(Ended::PollFault),
-    }
-}
-
 /// These calls of the station are to fail.
 fn let_fail(station: &mut MemoryStation, fails: Fails)
     requires { station.old.plan.named ≡ [] }
@@ -147,19 +111,6 @@ fn station_of(alloc: Global, made: &Made<'_>) -> Result<Heard, Fail>
     let_fail(&mut station, made.fails);
     let_give(&mut station, made.most);
     Ok(Heard::new(alloc, station))
-}
-
-/// A loop of the peer.
-#[tactic(auto, using(crate::proofs::Ready::read_links, crate::proofs::Ready::is_new))]
-pub fn loop_of(alloc: Global, peer: Peer, roster: &[u8]) -> Result<Loop, Fail>
-    ensures { IfOk result (λ l. IsNew l) }
-{
-    let me = peer.me();
-    let roster = match read_roster(alloc, roster, peer.session(), me) {
-        Ok(roster) => roster,
-        Err(_) => return Err("roster".into()),
-    };
-    Ok(Loop::new(alloc, peer, roster)?)
 }
 
 impl Player {

@@ -1,13 +1,14 @@
 //! One failing call at each place of a match of two, and all calls from a place on.
 
-use crate::nets::audits::{is_clean, replayed};
 use crate::nets::greets::{place_asked, put_made_from, reply};
-use crate::nets::grounds::{FAR, session_of};
+use crate::nets::grounds::FAR;
 use crate::nets::heard::{Call, Heard};
 use crate::nets::links::Net;
-use crate::nets::setups::{STAY_0, STAY_9, script_of, side_of};
+use crate::nets::setups::{STAY_0, STAY_9, side_of};
 use crate::nets::sides::{Fails, NARROW, Player};
 use grid_world::Session;
+use match_sides::audits::{is_clean, replayed};
+use match_sides::texts::{script_of, session_of};
 use peer_core::Peer;
 use ready_loop::Ended;
 use std::alloc::Global;

@@ -1,12 +1,13 @@
 //! Matches in which what is given comes at once or later, in each order up to a depth.
 
-use crate::nets::audits::heard_truly;
-use crate::nets::grounds::{SHORT, session_of};
+use crate::nets::grounds::SHORT;
 use crate::nets::links::Net;
-use crate::nets::setups::{net_of, script_of};
+use crate::nets::setups::net_of;
 use crate::nets::sides::{NARROW, Player};
 use definitions::PlayerId;
 use grid_world::Session;
+use match_sides::audits::heard_truly;
+use match_sides::texts::{script_of, session_of};
 use peer_core::Peer;
 use pilots::ScriptPilot;
 use std::alloc::Global;

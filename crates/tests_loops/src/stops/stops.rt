@@ -1,13 +1,14 @@
 //! Players that are stopped at each place of a match, and go on from what their disks have.
 
-use crate::nets::audits::{heard_truly, is_clean};
-use crate::nets::grounds::{FAR, roster_of, session_of};
+use crate::nets::grounds::FAR;
 use crate::nets::links::Net;
-use crate::nets::setups::{STAY_0, STAY_9, script_of};
+use crate::nets::setups::{STAY_0, STAY_9};
 use crate::nets::sides::{Fails, Made, NARROW, Player};
 use crate::stops::faults::{failing, has_given};
 use definitions::PlayerId;
 use grid_world::Session;
+use match_sides::audits::{heard_truly, is_clean};
+use match_sides::texts::{roster_of, script_of, session_of};
 use peer_core::Peer;
 use std::alloc::Global;
 use std::test::Fail;
