@@ -12,14 +12,18 @@ pub enum Name {
     Audit,
     /// A peer is driven by the input.
     Drive,
-    /// An exhibit is judged.
+    /// An exhibit is judged, by the players' roots where they are named.
     Judge,
     /// The match of a number is made.
     Make,
     /// A match is played over sockets.
     Peer,
+    /// The root of a player's keys is told.
+    Root,
     /// The honest peers of a match are stepped by the input.
     Schedule,
+    /// What a player made is sealed.
+    Seal,
     /// A session is printed in version 2.
     Upgrade,
 }
@@ -31,7 +35,9 @@ pub const ALL: &[Name] = &[
     Name::Judge,
     Name::Make,
     Name::Peer,
+    Name::Root,
     Name::Schedule,
+    Name::Seal,
     Name::Upgrade,
 ];
 
@@ -63,10 +69,12 @@ impl Name {
         match self {
             Name::Audit => Form::new("audit", 2, 1 + MOST_AUDITED),
             Name::Drive => Form::new("drive", 2, 3),
-            Name::Judge => Form::new("judge", 2, 2),
+            Name::Judge => Form::new("judge", 2, 3),
             Name::Make => Form::new("make", 1, 1),
             Name::Peer => Form::new("peer", 6, 7),
+            Name::Root => Form::new("root", 3, 3),
             Name::Schedule => Form::new("schedule", 1, 1),
+            Name::Seal => Form::new("seal", 4, 4),
             Name::Upgrade => Form::new("upgrade", 1, 1),
         }
     }

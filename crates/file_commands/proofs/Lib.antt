@@ -14,3 +14,5 @@ mod Upgraded
 pub mod AuditHolds
 pub mod JudgeHolds
 pub mod UpgradeHolds
+mod SealedOpened
+pub mod SealedHolds

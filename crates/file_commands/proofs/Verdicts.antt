@@ -10,10 +10,10 @@ use Rattle.evidence.proofs.Convicting.{shown_convict}
 use Rattle.file_commands.specs.Judge.{is_shown, verdict_answer}
 use Rattle.file_commands.specs.JudgeLaws.{SaysYes, TellsVerdict}
 
-not_yes : SaysYes (codes "no\n") → ⊥
+pub not_yes : SaysYes (codes "no\n") → ⊥
 not_yes e = cc
 
-not_shown : (b : Bool) → b ≡ false → b ≡ true → ⊥
+pub not_shown : (b : Bool) → b ≡ false → b ≡ true → ⊥
 not_shown b off on = cc
 
 pub verdict_tells : (game : Game) (x : Exhibit) → 1 ≤ game.ahead → TellsVerdict game x (verdict_answer (is_shown game x)).body

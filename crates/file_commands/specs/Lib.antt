@@ -16,3 +16,7 @@ pub mod Audits
 pub mod AuditLaw
 pub mod JudgeLaw
 pub mod UpgradeLaw
+pub mod SealedWords
+pub mod SealedCases
+pub mod SealedJudge
+pub mod SealedJudgeLaw

@@ -6,6 +6,8 @@ ghost use Rattle.file_commands.specs.AuditLaw.{audit_law};
 ghost use Rattle.file_commands.specs.AuditWords.{auditing_said};
 ghost use Rattle.file_commands.specs.JudgeLaw.{judge_law};
 ghost use Rattle.file_commands.specs.JudgeWords.{judging_said};
+ghost use Rattle.file_commands.specs.SealedJudgeLaw.{sealed_judge_law};
+ghost use Rattle.file_commands.specs.SealedWords.{sealed_judging_said};
 ghost use Rattle.file_commands.specs.UpgradeLaw.{upgrade_law};
 
 use crate::audit_words::AuditWords;
@@ -13,7 +15,9 @@ use crate::auditing::put_audit;
 use crate::audits::open_audit;
 use crate::exhibits::open_case;
 use crate::judge_words::JudgeWords;
-use crate::judging::judge_exhibit;
+use crate::judging::{judge_exhibit, judge_sealed_exhibit};
+use crate::sealed_cases::open_sealed_case;
+use crate::sealed_words::SealedJudgeWords;
 use crate::upgrading::upgrade;
 use run_frame::{Status, open_session};
 use station::{Shelf, Sink};
@@ -45,6 +49,22 @@ pub fn run_judge<O: Sink, H: Shelf>(
 {
     match open_case(alloc, shelf, words.session, words.evidence) {
         Ok(case) => judge_exhibit(alloc, &case.session, &case.exhibit, out),
+        Err(status) => status,
+    }
+}
+
+/// Judges the exhibit with seals of a file in the session of another by the roots of a third, but for
+/// the last line of a refusal.
+pub fn run_sealed_judge<O: Sink, H: Shelf>(
+    alloc: Global,
+    words: SealedJudgeWords<'_>,
+    out: &mut O,
+    shelf: &mut H,
+) -> Status
+    ensures { (rest : Outside) → Works (sealed_judge_law (sealed_judging_said words.entry)) (with_files rest (O.state out.old) (H.state shelf.old)) (with_files rest (O.state out.new) (H.state shelf.new)) result }
+{
+    match open_sealed_case(alloc, shelf, words) {
+        Ok(case) => judge_sealed_exhibit(alloc, &case, out),
         Err(status) => status,
     }
 }

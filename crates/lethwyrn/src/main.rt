@@ -2,8 +2,11 @@
 //! `peer_cli::exit_status`, whose contract says what is then written and with which status it ends,
 //! and ends with that. It reads files, the standard input, its words and random bytes of the machine,
 //! and writes to the standard output; its `peer` also opens sockets at the addresses of its roster
-//! and creates the one file of its log.
+//! and creates the one file of its log. Of a seed that others can read it says so on the error
+//! stream.
 #![tactic(auto)]
+
+mod seeds;
 
 use file_shelf::FileShelf;
 use machine_files::MachineFiles;
@@ -12,6 +15,7 @@ use peer_cli::exit_status;
 use rand_chacha::ChaCha20Rng;
 use rand_core::SeedableRng;
 use run_frame::{Status, refuse};
+use seeds::warn_of_open_seed;
 use station::{StdSink, StdSource, words_of};
 use station_mio::MioStation;
 use std::alloc::AllocError;
@@ -46,6 +50,7 @@ fn obey<W: io::Write>(
     let Some(mut chance) = chance_of(rt) else {
         return Ok(REFUSED);
     };
+    warn_of_open_seed(rt, words);
     let mut input = StdSource::new(rt.reader());
     let mut shelf = FileShelf::new(rt.alloc(), MachineFiles::new(rt));
     let status = exit_status(

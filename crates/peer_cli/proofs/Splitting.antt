@@ -34,7 +34,24 @@ judges_none : (words : List (List ℕ)) → takes N.Judge (length words) ≡ fal
 judges_none [] e = refl
 judges_none (a ∷ []) e = refl
 judges_none (a ∷ b ∷ []) e = absurd (false≢true (sym e))
-judges_none (a ∷ b ∷ c ∷ more) e = refl
+judges_none (a ∷ b ∷ c ∷ []) e = absurd (false≢true (sym e))
+judges_none (a ∷ b ∷ c ∷ d ∷ more) e = refl
+
+-- of a command that takes three words, or four
+roots_none : (words : List (List ℕ)) → takes N.Root (length words) ≡ false → command_in N.Root words ≡ None
+roots_none [] e = refl
+roots_none (a ∷ []) e = refl
+roots_none (a ∷ b ∷ []) e = refl
+roots_none (a ∷ b ∷ c ∷ []) e = absurd (false≢true (sym e))
+roots_none (a ∷ b ∷ c ∷ d ∷ more) e = refl
+
+seals_none : (words : List (List ℕ)) → takes N.Seal (length words) ≡ false → command_in N.Seal words ≡ None
+seals_none [] e = refl
+seals_none (a ∷ []) e = refl
+seals_none (a ∷ b ∷ []) e = refl
+seals_none (a ∷ b ∷ c ∷ []) e = refl
+seals_none (a ∷ b ∷ c ∷ d ∷ []) e = absurd (false≢true (sym e))
+seals_none (a ∷ b ∷ c ∷ d ∷ x ∷ more) e = refl
 
 peers_none : (words : List (List ℕ)) → takes N.Peer (length words) ≡ false → command_in N.Peer words ≡ None
 peers_none [] e = refl
@@ -77,7 +94,9 @@ untaken N.Drive words e = drives_none words e
 untaken N.Judge words e = judges_none words e
 untaken N.Make words e = one_none (command_in N.Make) words refl (λ a b more. refl) e
 untaken N.Peer words e = peers_none words e
+untaken N.Root words e = roots_none words e
 untaken N.Schedule words e = one_none (command_in N.Schedule) words refl (λ a b more. refl) e
+untaken N.Seal words e = seals_none words e
 untaken N.Upgrade words e = one_none (command_in N.Upgrade) words refl (λ a b more. refl) e
 
 -- by a name, or by none

@@ -1,6 +1,7 @@
 -- Commands: the commands that the program's words say, and the law of each.
 use Rattle.std.specs.Prelude.{◌≡◌, ℕ, false, List, [], ◌∷◌, Option, Some, None, option_and_then, option_map, if◌then◌else◌}
 use Rattle.std.specs.List.{list_all}
+use Rattle.std.specs.Option.{option_or}
 use Rattle.station.specs.Words.{is_word}
 use Rattle.command_names.specs.declared.names.Name.{Name}
 use Rattle.command_names.specs.declared.names.Name.TheVariants as N
@@ -16,8 +17,13 @@ use Rattle.file_commands.specs.AuditLaw.{audit_law}
 use Rattle.file_commands.specs.AuditWords.{Auditing, auditing_in, auditing_said}
 use Rattle.file_commands.specs.JudgeLaw.{judge_law}
 use Rattle.file_commands.specs.JudgeWords.{Judging, judging_in, judging_said}
+use Rattle.file_commands.specs.SealedJudgeLaw.{sealed_judge_law}
+use Rattle.file_commands.specs.SealedWords.{SealedJudging, sealed_judging_in, sealed_judging_said}
 use Rattle.file_commands.specs.UpgradeLaw.{upgrade_law}
 use Rattle.file_commands.specs.UpgradeWords.{upgrading_in}
+use Rattle.key_commands.specs.RootLaw.{root_law}
+use Rattle.key_commands.specs.SealLaw.{seal_law}
+use Rattle.key_commands.specs.Words.{Keying, Sealing, keying_in, keying_said, sealing_in, sealing_said}
 use Rattle.make_command.specs.MakeLaw.{make_law}
 use Rattle.make_command.specs.Words.{making_in}
 use Rattle.peer_command.specs.PeerLaw.{peer_law}
@@ -32,29 +38,41 @@ pub data Command : Type 0 where
   Drive : Driving → Command
   Upgrade : (session : List ℕ) → Command
   Judge : Judging → Command
+  SealedJudge : SealedJudging → Command
   Audit : Auditing → Command
   Schedule : (session : List ℕ) → Command
   Make : (number : ℕ) → Command
   Peer : Peering → Command
+  Root : Keying → Command
+  Seal : Sealing → Command
 
 -- the command that the words say
 abbrev pub command_said : CommandWords → Command
 command_said (said.Drive driving) = Drive (driving_said driving)
 command_said (said.Upgrade session) = Upgrade session.now
 command_said (said.Judge judging) = Judge (judging_said judging)
+command_said (said.SealedJudge judging) = SealedJudge (sealed_judging_said judging)
 command_said (said.Audit auditing) = Audit (auditing_said auditing)
 command_said (said.Schedule session) = Schedule session.now
 command_said (said.Make number) = Make number
 command_said (said.Peer peering) = Peer (peering_said peering)
+command_said (said.Root keying) = Root (keying_said keying)
+command_said (said.Seal sealing) = Seal (sealing_said sealing)
+
+-- the command to judge: without roots where two words say so, and with them where three do
+abbrev pub judge_in : List (List ℕ) → Option Command
+judge_in words = option_or (option_map Judge (judging_in words)) (option_map SealedJudge (sealed_judging_in words))
 
 -- the command of this name with these words
 abbrev pub command_in : Name → List (List ℕ) → Option Command
 command_in N.Audit words = option_map Audit (auditing_in words)
 command_in N.Drive words = option_map Drive (driving_in words)
-command_in N.Judge words = option_map Judge (judging_in words)
+command_in N.Judge words = judge_in words
 command_in N.Make words = option_map Make (making_in words)
 command_in N.Peer words = option_map Peer (peering_in words)
+command_in N.Root words = option_map Root (keying_in words)
 command_in N.Schedule words = option_map Schedule (scheduling_in words)
+command_in N.Seal words = option_map Seal (sealing_in words)
 command_in N.Upgrade words = option_map Upgrade (upgrading_in words)
 
 -- the command whose name is written so, with these words
@@ -90,7 +108,10 @@ law_of None = usage_law
 law_of (Some (Drive d)) = drive_law d
 law_of (Some (Upgrade session)) = upgrade_law session
 law_of (Some (Judge j)) = judge_law j
+law_of (Some (SealedJudge j)) = sealed_judge_law j
 law_of (Some (Audit a)) = audit_law a
 law_of (Some (Schedule session)) = schedule_law session
 law_of (Some (Make number)) = make_law number
 law_of (Some (Peer p)) = peer_law p
+law_of (Some (Root k)) = root_law k
+law_of (Some (Seal s)) = seal_law s

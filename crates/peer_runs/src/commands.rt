@@ -9,9 +9,11 @@ ghost use Rattle.peer_runs.specs.Commands.{command_said, law_of};
 use command_names::Name;
 use drive_command::{DriveWords, read_drive_words, run_drive};
 use file_commands::{
-    AuditWords, JudgeWords, read_audit_words, read_judge_words, read_upgrade_words, run_audit,
-    run_judge, run_upgrade,
+    AuditWords, JudgeWords, SealedJudgeWords, read_audit_words, read_judge_words,
+    read_sealed_judge_words, read_upgrade_words, run_audit, run_judge, run_sealed_judge,
+    run_upgrade,
 };
+use key_commands::{KeyWords, SealWords, read_root_words, read_seal_words, run_root, run_seal};
 use make_command::{read_make_words, run_make};
 use peer_command::{PeerWords, read_peer_words, run_peer};
 use rand_core::Rng;
@@ -30,6 +32,8 @@ pub enum Command<'a> {
     Upgrade(&'a [u8]),
     /// The exhibit of a file is judged.
     Judge(JudgeWords<'a>),
+    /// The exhibit of a file is judged with its seals, by the players' roots.
+    SealedJudge(SealedJudgeWords<'a>),
     /// What the logs of files show is printed.
     Audit(AuditWords<'a>),
     /// The honest peers of a match in the session of this file are stepped by the input.
@@ -38,6 +42,20 @@ pub enum Command<'a> {
     Make(u64),
     /// A player plays with others over sockets.
     Peer(PeerWords<'a>),
+    /// The root of a player's keys is told.
+    Root(KeyWords<'a>),
+    /// Each frame that a player made is written with its seal.
+    Seal(SealWords<'a>),
+}
+
+/// The command to judge that these words say: by roots where three words stand there.
+fn read_judging(words: &[Vec<u8>]) -> Option<Command<'_>>
+    ensures { option_map command_said result ≡ C.judge_in (map (λ w. w.items) words.now) }
+{
+    match read_judge_words(words) {
+        Some(words) => Some(Command::Judge(words)),
+        None => Some(Command::SealedJudge(read_sealed_judge_words(words)?)),
+    }
 }
 
 /// The command of this name with these words, if they are words of it.
@@ -47,10 +65,12 @@ pub fn read_in<'a>(name: Name, words: &'a [Vec<u8>]) -> Option<Command<'a>>
     match name {
         Name::Audit => Some(Command::Audit(read_audit_words(words)?)),
         Name::Drive => Some(Command::Drive(read_drive_words(words)?)),
-        Name::Judge => Some(Command::Judge(read_judge_words(words)?)),
+        Name::Judge => read_judging(words),
         Name::Make => Some(Command::Make(read_make_words(words)?)),
         Name::Peer => Some(Command::Peer(read_peer_words(words)?)),
+        Name::Root => Some(Command::Root(read_root_words(words)?)),
         Name::Schedule => Some(Command::Schedule(read_schedule_words(words)?)),
+        Name::Seal => Some(Command::Seal(read_seal_words(words)?)),
         Name::Upgrade => Some(Command::Upgrade(read_upgrade_words(words)?)),
     }
 }
@@ -85,10 +105,13 @@ pub fn obey<I: Source, O: Sink, H: Shelf, S: Station, R: Rng>(
         Command::Drive(words) => run_drive(alloc, words, input, out, shelf),
         Command::Upgrade(session) => run_upgrade(alloc, session, out, shelf),
         Command::Judge(words) => run_judge(alloc, words, out, shelf),
+        Command::SealedJudge(words) => run_sealed_judge(alloc, words, out, shelf),
         Command::Audit(words) => run_audit(alloc, words, out, shelf),
         Command::Schedule(session) => run_schedule(alloc, session, input, out, shelf),
         Command::Make(number) => run_make(alloc, number, out),
         Command::Peer(words) => run_peer(alloc, words, out, shelf, station, chance),
+        Command::Root(words) => run_root(alloc, words, out, shelf),
+        Command::Seal(words) => run_seal(alloc, words, out, shelf),
     }
 }
 

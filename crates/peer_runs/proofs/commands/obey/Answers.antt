@@ -22,3 +22,12 @@ returns-in-Make g c = rw c.in-Make.is (c.run_make.ensures (outside (g.I.Source.s
 
 pub returns-in-Peer : goal.returns-in-Peer
 returns-in-Peer g c = rw c.in-Peer.is (c.run_peer.ensures (outside (g.I.Source.state c.args.input.now) (g.O.Sink.state c.args.out.now) (g.H.Shelf.state c.args.shelf.now) (g.S.Station.history c.args.station.now) (g.R.Rng.stream c.args.chance.now)))
+
+pub returns-in-Root : goal.returns-in-Root
+returns-in-Root g c = rw c.in-Root.is (c.run_root.ensures (outside (g.I.Source.state c.args.input.now) (g.O.Sink.state c.args.out.now) (g.H.Shelf.state c.args.shelf.now) (g.S.Station.history c.args.station.now) (g.R.Rng.stream c.args.chance.now)))
+
+pub returns-in-Seal : goal.returns-in-Seal
+returns-in-Seal g c = rw c.in-Seal.is (c.run_seal.ensures (outside (g.I.Source.state c.args.input.now) (g.O.Sink.state c.args.out.now) (g.H.Shelf.state c.args.shelf.now) (g.S.Station.history c.args.station.now) (g.R.Rng.stream c.args.chance.now)))
+
+pub returns-in-SealedJudge : goal.returns-in-SealedJudge
+returns-in-SealedJudge g c = rw c.in-SealedJudge.is (c.run_sealed_judge.ensures (outside (g.I.Source.state c.args.input.now) (g.O.Sink.state c.args.out.now) (g.H.Shelf.state c.args.shelf.now) (g.S.Station.history c.args.station.now) (g.R.Rng.stream c.args.chance.now)))

@@ -1,0 +1,9 @@
+pub mod Words
+pub mod Seeds
+pub mod Opened
+pub mod Due
+pub mod Root
+pub mod RootLaw
+pub mod Seal
+pub mod Unused
+pub mod SealLaw
