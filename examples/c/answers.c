@@ -1,4 +1,4 @@
-/* The answers of each call, what it tells, that no call takes memory but lethwyrn_make and lethwyrn_resume, and that lethwyrn_free gives all of
+/* The answers of each call, what it tells, that no call takes memory but those that make something, and that the calls that free give all of
  * it back. It is linked with --wrap=malloc, --wrap=realloc and --wrap=free. */
 #define _DEFAULT_SOURCE
 #include "harness.h"
@@ -372,6 +372,109 @@ static void third_turn(void)
     for (unsigned p = 0; p < 2; p++) lethwyrn_free(&players[p].peer);
 }
 
+static int32_t keys_of(lethwyrn_seals *s, const char *session, uint8_t me)
+{
+    static const uint8_t seed[32] = { 5 };
+    why = (lethwyrn_refusal) { 91, 92, 93, 94, false };
+    return lethwyrn_seals_keys(s, (const uint8_t *)session, strlen(session), me, seed, &why);
+}
+
+static int32_t judge_of(lethwyrn_seals *s, const char *session)
+{
+    why = (lethwyrn_refusal) { 91, 92, 93, 94, false };
+    return lethwyrn_seals_make(s, (const uint8_t *)session, strlen(session), &why);
+}
+
+/* handles of seals are refused, and made */
+static void seal_refusals(void)
+{
+    lethwyrn_seals s = LETHWYRN_NONE;
+    want(judge_of(&s, ""), LETHWYRN_BAD_SESSION, "an empty text");
+    told(1, 1, 93, 94, false);
+    want(keys_of(&s, "playout 1\ngrid 257 1\n", 0), LETHWYRN_BAD_SESSION, "a grid that is too wide");
+    told(2, 3, 93, 94, false);
+    want(keys_of(&s, TEXT, 2), LETHWYRN_BAD_PLAYER, "a third of two players");
+    told(91, 92, 93, 94, false);
+    want(judge_of(&s, TEXT), LETHWYRN_OK, "seals_make");
+    told(91, 92, 93, 94, false);
+    want(judge_of(&s, ""), LETHWYRN_IN_USE, "seals_make twice");
+    want(keys_of(&s, "", 0), LETHWYRN_IN_USE, "keys for a handle that has a session");
+    told(91, 92, 93, 94, false);
+    lethwyrn_seals_free(&s);
+    lethwyrn_seals_free(&s);
+}
+
+/* what is sealed and judged without memory: it is that of the handle */
+static void seals_of(lethwyrn_seals *keys, lethwyrn_seals *judge)
+{
+    static uint8_t seal[LETHWYRN_SEAL_ROOM], blank[LETHWYRN_SEAL_ROOM];
+    uint8_t frame[40] = { 2, 0, 37, 0, 0, 0, 0, 5, 1 }, root[32] = { 9 };
+    want(lethwyrn_seal_len(judge, &len), LETHWYRN_OK, "seal_len");
+    want((int32_t)len, 16384 + 32 * 4, "for twelve places");
+    want(lethwyrn_root(judge, root), LETHWYRN_NO_KEYS, "the root of no keys");
+    want(root[0], 9, "the root");
+    want(lethwyrn_seal(judge, frame, 40, seal, sizeof seal, &len), LETHWYRN_NO_KEYS, "seal without keys");
+    want(lethwyrn_root(keys, root), LETHWYRN_OK, "root");
+    want(lethwyrn_seal(keys, frame, 39, seal, 0, &len), LETHWYRN_NO_FRAME, "a frame without its last byte");
+    want(lethwyrn_seal(keys, frame, 40, seal, 16511, &len), LETHWYRN_NO_ROOM, "room for all bytes but one");
+    frame[3] = 1;
+    want(lethwyrn_seal(keys, frame, 40, seal, 16511, &len), LETHWYRN_NO_ROOM, "the other player's frame without room");
+    want(lethwyrn_seal(keys, frame, 40, seal, 16512, &len), LETHWYRN_FOREIGN, "the other player's frame");
+    frame[3] = 0, frame[7] = 6;
+    want(lethwyrn_seal(keys, frame, 40, seal, 16512, &len), LETHWYRN_FOREIGN, "a turn that isn't played");
+    frame[7] = 5;
+    want((int32_t)len, 0, "bytes of a seal");
+    want(memcmp(seal, blank, sizeof seal), 0, "what was written");
+    want(lethwyrn_seal(keys, frame, 40, seal, sizeof seal, &len), LETHWYRN_OK, "seal");
+    want((int32_t)len, 16512, "its bytes");
+    want(memcmp(seal + len, blank, sizeof seal - len), 0, "what stands behind it");
+    want(lethwyrn_valid(judge, root, frame, 40, seal, len), LETHWYRN_OK, "valid");
+    want(lethwyrn_valid(keys, root, frame, 40, seal, len), LETHWYRN_OK, "valid for whoever has keys");
+    want(lethwyrn_valid(judge, root, frame, 40, seal, 0), LETHWYRN_NOT_VALID, "a seal of no bytes");
+    want(lethwyrn_valid(judge, root, frame, 41, seal, len), LETHWYRN_NO_FRAME, "a frame and a byte");
+    frame[8] = 2;
+    want(lethwyrn_valid(judge, root, frame, 40, seal, len), LETHWYRN_NOT_VALID, "another frame");
+    want(lethwyrn_seal(keys, frame, 40, seal, sizeof seal, &len), LETHWYRN_USED, "another frame of the turn");
+    frame[0] = 3;
+    want(lethwyrn_seal(keys, frame, 40, seal, sizeof seal, &len), LETHWYRN_NO_FRAME, "no frame");
+    frame[0] = 2, frame[8] = 1;
+    want(lethwyrn_valid(judge, root, frame, 40, seal, 16512), LETHWYRN_OK, "the seal is still there");
+}
+
+/* handles of seals without a session, wherever memory is wanting, and with one */
+static void seals(void)
+{
+    lethwyrn_seals s = LETHWYRN_NONE, judge = LETHWYRN_NONE;
+    int32_t code = LETHWYRN_NO_MEMORY;
+    uint8_t out[32] = { 0 };
+    seal_refusals();
+    len = 9;
+    want(lethwyrn_seal_len(&s, &len), LETHWYRN_NO_SEALS, "seal_len");
+    want((int32_t)len, 0, "the length");
+    want(lethwyrn_root(&s, out), LETHWYRN_NO_SEALS, "root");
+    want(lethwyrn_seal(&s, zero, 1, out, sizeof out, &len), LETHWYRN_NO_SEALS, "seal");
+    want(lethwyrn_valid(&s, zero, zero, 1, zero, 1), LETHWYRN_NO_SEALS, "valid");
+    for (int room = 0; code != LETHWYRN_OK; room++) {
+        left = room;
+        code = keys_of(&s, TEXT, 0);
+        told(91, 92, 93, 94, false);
+        if (code != LETHWYRN_OK) want(code, LETHWYRN_NO_MEMORY, "seals_keys");
+        if (code != LETHWYRN_OK) want(lethwyrn_seal_len(&s, &len), LETHWYRN_NO_SEALS, "a handle that was refused keys");
+    }
+    code = LETHWYRN_NO_MEMORY;
+    for (int room = 0; code != LETHWYRN_OK; room++) {
+        left = room;
+        code = judge_of(&judge, TEXT);
+        told(91, 92, 93, 94, false);
+        if (code != LETHWYRN_OK) want(code, LETHWYRN_NO_MEMORY, "seals_make");
+    }
+    left = 0;
+    seals_of(&s, &judge);
+    left = UNLIMITED;
+    lethwyrn_seals_free(&s);
+    lethwyrn_seals_free(&judge);
+}
+
 int main(void)
 {
     uint8_t frame[LETHWYRN_FRAME_ROOM];
@@ -408,6 +511,7 @@ int main(void)
     for (unsigned p = 0; p < 2; p++) lethwyrn_free(&players[p].peer);
     cheat();
     third_turn();
+    seals();
     want(taken, 0, "blocks that weren't given back");
     puts("all answers are as they are due");
     return 0;

@@ -88,7 +88,7 @@ static inline int hear(unsigned me)
     for (unsigned q = 0; q < count; q++) {
         queue *from = &players[me].from[q];
         while (from->at < from->len) {
-            size_t piece = from->len - from->at < PIECE ? from->len - from->at : PIECE, used;
+            size_t piece = from->len - from->at < PIECE ? from->len - from->at : (size_t)PIECE, used;
             lethwyrn_greeting greet;
             int32_t code = lethwyrn_hear(&players[me].peer, (uint8_t)q, from->bytes + from->at, piece, &used, &greet);
             if (code == LETHWYRN_HELLO) {

@@ -13,6 +13,7 @@ import sys
 # the names of the header's records in the crate
 RECORDS = {
     "lethwyrn": "Handle",
+    "lethwyrn_seals": "SealsHandle",
     "lethwyrn_refusal": "Refusal",
     "lethwyrn_track": "TrackView",
     "lethwyrn_wait": "NeedView",

@@ -5,14 +5,19 @@
  * A handle is one peer. Begin with LETHWYRN_NONE. Nobody but these calls writes its fields, and a handle that has a peer is never copied:
  * pass it by its address. A handle of zeros is recognized (LETHWYRN_NO_PEER); other bytes that no call wrote are not.
  *
+ * A handle of seals is a session, and perhaps one player's keys for it. By keys the player's frames
+ * are sealed. Whoever has the session and the player's root can judge a seal, without keys and
+ * without a peer. It is held as a peer's handle is (of zeros: LETHWYRN_NO_SEALS).
+ *
  * Pointers are valid for what they point to, and for as many bytes as the length behind them says. Nothing that a call writes overlaps
  * anything else that it is given. All else that comes in is tested when the call runs, and refused with a code.
  *
  * Threads: one call on a handle at a time, and a handle stays on the thread that made it. Calls on different handles have nothing to do
  * with each other. Don't call from a signal handler, or from the forked child of a process with threads.
  *
- * Memory: lethwyrn_make and lethwyrn_resume take all that the peer will need, lethwyrn_free gives it back, and no other call takes any. What is
- * handed out is written to memory of the caller. Where a call is refused, what it would have written is unchanged, but for the counts
+ * Memory: lethwyrn_make and lethwyrn_resume take all that the peer will need, and lethwyrn_free gives
+ * it back. lethwyrn_seals_make and lethwyrn_seals_keys take all that a handle of seals will need, and
+ * lethwyrn_seals_free gives it back. No other call takes any. What is handed out is written to memory of the caller. Where a call is refused, what it would have written is unchanged, but for the counts
  * `*count`, `*used` and `*made`, which are 0 then.
  *
  * Turns, places, entries and bytes are counted from 0, lines from 1. A place is a frame's number in the stream of its player: where players
@@ -28,27 +33,30 @@
 #define LETHWYRN_VERSION 1
 #define LETHWYRN_HAS_STORED 1   /* lethwyrn_stored: a frame waits for its own entries alone */
 #define LETHWYRN_HAS_EVIDENCE 1 /* lethwyrn_evidence */
+#define LETHWYRN_HAS_SEALS 1    /* handles of seals */
 
 #define LETHWYRN_MOST_PLAYERS 64
 #define LETHWYRN_LOG_ROOM 96    /* bytes of room for an entry of the log */
 #define LETHWYRN_FRAME_ROOM 64  /* bytes of room for a frame */
 #define LETHWYRN_EVIDENCE_ROOM 512 /* bytes of room for the text of two frames that convict */
+#define LETHWYRN_SEAL_ROOM 16832 /* bytes of room for a seal, whatever the session */
 
 #ifdef __cplusplus
 extern "C" {
 #endif
 
 typedef struct lethwyrn { void *at; bool live; } lethwyrn;
-#define LETHWYRN_NONE { 0, false }
+typedef struct lethwyrn_seals { void *at; bool live; } lethwyrn_seals;
+#define LETHWYRN_NONE { 0, false } /* of both kinds */
 
 enum lethwyrn_code {
     LETHWYRN_OK = 0,
     LETHWYRN_NO_PEER = 1,        /* the handle has no peer */
-    LETHWYRN_NO_MEMORY = 2,      /* make and resume: memory is wanting, and nothing was made */
+    LETHWYRN_NO_MEMORY = 2,      /* the calls that make: memory is wanting, and nothing was made */
     LETHWYRN_BAD_SESSION = 3,    /* why.line, and why.rule: 1 .. 12 */
     LETHWYRN_BAD_PLAYER = 4,     /* the session has no such player */
     LETHWYRN_BAD_LOG = 5,        /* why.at: the byte from which on the log can't be used; why.why: 1 too long, 5 an entry that this player's peer can't have logged there */
-    LETHWYRN_IN_USE = 6,         /* make and resume: the handle has a peer already */
+    LETHWYRN_IN_USE = 6,         /* the calls that make: the handle has a peer or a session already */
     LETHWYRN_NOTHING = 7,        /* no entry, frame, need or finding (left) */
     LETHWYRN_STORE_FIRST = 8,    /* take_frame: the log's entries up to the frame aren't named as stored */
     LETHWYRN_TOO_MANY = 9,       /* hear: 2^32 bytes or more at once, or 2^63 in all */
@@ -59,8 +67,13 @@ enum lethwyrn_code {
     LETHWYRN_STRIKE_OUTSIDE = 14,/* choose: the cell struck is outside the grid */
     LETHWYRN_STRIKE_FAR = 15,    /* .. is past the player's reach */
     LETHWYRN_NO_CHARGE = 16,     /* choose: the charge is below the cost of a strike */
-    LETHWYRN_NO_ROOM = 17,       /* evidence: the text is longer than the room for it */
+    LETHWYRN_NO_ROOM = 17,       /* evidence, seal: the text or seal is longer than its room */
     LETHWYRN_WHOLE_LOG = 18,     /* evidence: an illegal move, of which no text is given: the log shows it */
+    LETHWYRN_NO_SEALS = 19,      /* the handle of seals has no session */
+    LETHWYRN_NO_KEYS = 20,       /* root and seal: the handle of seals has no keys */
+    LETHWYRN_NO_FRAME = 21,      /* seal and valid: the bytes aren't one whole commitment or reveal */
+    LETHWYRN_USED = 22,          /* seal: another frame was sealed at its place */
+    LETHWYRN_NOT_VALID = 23,     /* valid: the seal isn't one of this frame under this root */
     /* hear */
     LETHWYRN_MORE = 30,          /* all bytes are used, and they end no frame */
     LETHWYRN_HELLO = 31,         /* a hello came: greet says whose, whether it names this session, its pass, and the place wanted next */
@@ -70,7 +83,8 @@ enum lethwyrn_code {
     LETHWYRN_STASHED = 41,       /* frames before it are missing; it is in the log and counts once they come */
     LETHWYRN_SAME = 42,          /* the log has it already */
     LETHWYRN_FAR = 43,           /* its place is past the player's window: ask for the missing frames */
-    LETHWYRN_FOREIGN = 44,       /* no frame of the player over whose link it came */
+    LETHWYRN_FOREIGN = 44,       /* no frame of the player over whose link it came; seal: .. of the
+                                    player of the keys. A turn that isn't played has no frames */
     LETHWYRN_CLOSED = 45,        /* the log had a finding before, and takes nothing more */
     /* hear and advance */
     LETHWYRN_CAUGHT = 46,        /* the log has a finding: see lethwyrn_finding */
@@ -160,6 +174,38 @@ int32_t lethwyrn_score(lethwyrn *h, lethwyrn_hits *out);
 
 /* Gives the peer's memory back. A handle without a peer stays so. */
 void lethwyrn_free(lethwyrn *h);
+
+/* Reads the session with this text, and makes room for a seal: the handle then judges seals, and
+   has no keys. OK, NO_MEMORY, BAD_SESSION, IN_USE. */
+int32_t lethwyrn_seals_make(lethwyrn_seals *s, const uint8_t *text, size_t text_len, lethwyrn_refusal *why);
+
+/* The same, with the keys of this player by this seed. The seed is 32 fresh bytes of a cryptographic
+   source, for one player of one session, and nobody else may know it. All keys are made at once,
+   which takes some 10 seconds in the longest sessions, and at most 2 MB. What was sealed is forgotten
+   with the handle: keys that are made anew of the same seed don't know of it. OK, NO_MEMORY,
+   BAD_SESSION, BAD_PLAYER, IN_USE. */
+int32_t lethwyrn_seals_keys(lethwyrn_seals *s, const uint8_t *text, size_t text_len, uint8_t player, const uint8_t seed[32], lethwyrn_refusal *why);
+
+/* How many bytes a seal of the session has: 16,384, and 32 for each height of the tree of keys. OK. */
+int32_t lethwyrn_seal_len(lethwyrn_seals *s, size_t *count);
+
+/* The root of the player's keys, which the others have to know before the match. OK, NO_KEYS. */
+int32_t lethwyrn_root(lethwyrn_seals *s, uint8_t out[32]);
+
+/* Seals the frame that these bytes spell, as lethwyrn_take_frame hands it out, and writes its seal to
+   the front of `out`. A handle never seals two frames at one place; the same frame it seals again, with the
+   same bytes. Whether the frame is a legal one isn't asked. Where several codes are due, the
+   first of these is answered: NO_KEYS, NO_FRAME, NO_ROOM, FOREIGN, USED, OK. */
+int32_t lethwyrn_seal(lethwyrn_seals *s, const uint8_t *frame, size_t frame_len, uint8_t *out, size_t room, size_t *count);
+
+/* Whether the seal is valid under this root for the frame that these bytes spell: it has the length
+   of the session's seals, the frame's turn is played, and the seal leads to the root. Take the root of
+   the player that the frame names: whose frame it is isn't asked. OK where it is valid, else
+   NOT_VALID; NO_FRAME. */
+int32_t lethwyrn_valid(lethwyrn_seals *s, const uint8_t root[32], const uint8_t *frame, size_t frame_len, const uint8_t *seal, size_t seal_len);
+
+/* Gives the memory of the session and the keys back. A handle without them stays so. */
+void lethwyrn_seals_free(lethwyrn_seals *s);
 
 #ifdef __cplusplus
 }

@@ -1,9 +1,12 @@
 pub mod Values
 pub mod Handles
+pub mod SealsHandles
 pub mod Fronts
 pub mod Marks
 pub mod Runs
 pub mod Fair
 pub mod Kept
 pub mod Storing
+pub mod Sealed
 pub mod Convicting
+pub mod Agreeing

@@ -44,13 +44,13 @@ abbrev pub code_or : (Standing → ℕ) → Option Standing → ℕ
 code_or f None = 1
 code_or f (Some s) = f s
 
--- what it writes: nothing where there is no peer
-abbrev pub told_or : {X : Type 0} → (Standing → X → X) → Option Standing → X → X
+-- what it writes: nothing where nothing stands behind the handle
+abbrev pub told_or : {S X : Type 0} → (S → X → X) → Option S → X → X
 told_or f None old = old
 told_or f (Some s) old = f s old
 
 -- what stands behind the handle then
-abbrev pub then_or : (Standing → Standing) → Option Standing → Option Standing
+abbrev pub then_or : {S : Type 0} → (S → S) → Option S → Option S
 then_or f None = None
 then_or f (Some s) = Some (f s)
 
@@ -60,12 +60,13 @@ Behind R None t = ⊥
 Behind R (Some s) None = ⊥
 Behind R (Some s) (Some t) = R s t
 
-abbrev pub IsThere : (Standing → Type 0) → Option Standing → Type 0
+abbrev pub IsThere : {S : Type 0} → (S → Type 0) → Option S → Type 0
 IsThere P None = ⊥
 IsThere P (Some s) = P s
 
--- this is the code that is due, or want of memory came in its place; a handle that has a peer is refused without taking any
-abbrev pub IsDue : Option Standing → ℕ → ℤ → Type 0
+-- this is the code that is due, or want of memory came in its place; a handle that is in use is
+-- refused without taking any
+abbrev pub IsDue : {S : Type 0} → Option S → ℕ → ℤ → Type 0
 IsDue None due code = (code ≡ pos due) ⊎ (code ≡ pos 2)
 IsDue (Some s) due code = code ≡ pos 6
 

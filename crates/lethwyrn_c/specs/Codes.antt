@@ -16,6 +16,8 @@ use Rattle.definitions.specs.declared.frames.What.{What}
 use Rattle.definitions.specs.declared.frames.What.TheVariants as W
 use Rattle.definitions.specs.declared.logs.LogWhy.{LogWhy}
 use Rattle.definitions.specs.declared.logs.LogWhy.TheVariants as L
+use Rattle.seal_keys.specs.declared.answer.SealAnswer.{SealAnswer}
+use Rattle.seal_keys.specs.declared.answer.SealAnswer.TheVariants as A
 
 -- why a move isn't legal
 abbrev pub code_of_move : MoveFault → ℕ
@@ -91,3 +93,9 @@ code_of_log L.Torn = 2
 code_of_log L.BadChain = 3
 code_of_log L.BadEntry = 4
 code_of_log L.NotReplayed = 5
+
+-- what became of the wish to seal a frame
+abbrev pub code_of_seal : SealAnswer → ℕ
+code_of_seal A.Done = 0
+code_of_seal A.Used = 22
+code_of_seal A.Foreign = 44

@@ -1,3 +1,4 @@
+pub mod Agreeing
 pub mod Calls
 pub mod Codes
 pub mod Convicting
@@ -6,6 +7,8 @@ pub mod Heard
 pub mod Holding
 pub mod Marks
 pub mod Runs
+pub mod Sealers
+pub mod Sealing
 pub mod Sending
 pub mod Showing
 pub mod Standings

@@ -31,6 +31,16 @@ pub(crate) const NO_ROOM: i32 = 17;
 
 pub(crate) const WHOLE_LOG: i32 = 18;
 
+pub(crate) const NO_SEALS: i32 = 19;
+
+pub(crate) const NO_KEYS: i32 = 20;
+
+pub(crate) const NO_FRAME: i32 = 21;
+
+pub(crate) const USED: i32 = 22;
+
+pub(crate) const NOT_VALID: i32 = 23;
+
 pub(crate) const MORE: i32 = 30;
 
 pub(crate) const HELLO: i32 = 31;
@@ -38,6 +48,8 @@ pub(crate) const HELLO: i32 = 31;
 pub(crate) const WANT: i32 = 32;
 
 pub(crate) const BAD_BYTE: i32 = 33;
+
+pub(crate) const FOREIGN: i32 = 44;
 
 pub(crate) const CAUGHT: i32 = 46;
 
@@ -74,7 +86,7 @@ pub(crate) fn of_answer(answer: &GotAnswer) -> i32
         GotAnswer::Stashed => 41,
         GotAnswer::Same => 42,
         GotAnswer::Far => 43,
-        GotAnswer::Foreign => 44,
+        GotAnswer::Foreign => FOREIGN,
         GotAnswer::Closed => 45,
         GotAnswer::Caught(_) => CAUGHT,
     }

@@ -23,7 +23,7 @@ use peer_core::Peer;
 use std::alloc::Global;
 
 /// Reads a session's text, or says why it is refused.
-fn read(alloc: Global, text: &[u8], why: &mut Refusal) -> Result<Session, i32>
+pub(crate) fn read(alloc: Global, text: &[u8], why: &mut Refusal) -> Result<Session, i32>
     ensures read { IfOk result (λ s. IsReadFrom s text.now × (game_at text.now ≡ Ok s) × (why.new ≡ why.old)) }
     ensures code { IfErr result (λ code. C.IsUnread text.now why.old why.new code) }
 {

@@ -1,5 +1,6 @@
 //! Laws of what C has by its calls: functions that do nothing, whose clauses are proved.
 
+ghost use Rattle.lethwyrn_c.specs.Agreeing.{SealsAreTaken};
 ghost use Rattle.lethwyrn_c.specs.Convicting.{EvidenceConvicts};
 ghost use Rattle.lethwyrn_c.specs.Runs.{RunsAreFair, RunsAreTold, FramesWaitForTheirEntries};
 
@@ -25,4 +26,10 @@ pub fn logs_are_fair()
 /// and no log. It is there for each finding but an illegal move.
 pub fn evidence_convicts()
     ensures { EvidenceConvicts }
+{}
+
+/// Whatever calls were made on a handle with keys: the seal that it writes of a frame is valid under
+/// the root that it tells, for every handle of the session with the same text.
+pub fn seals_are_taken()
+    ensures { SealsAreTaken }
 {}
