@@ -1,6 +1,6 @@
 mod Players
 mod Reported
-mod Printed
+pub mod Printed
 pub mod Told
 pub mod Alike
 pub mod Tells
@@ -15,4 +15,5 @@ pub mod AuditHolds
 pub mod JudgeHolds
 pub mod UpgradeHolds
 mod SealedOpened
+mod SealedFrom
 pub mod SealedHolds

@@ -7,7 +7,7 @@ use Rattle.line_io.specs.Files.{Contents}
 use Rattle.line_io.specs.Inputs.{Input}
 use Rattle.line_io.proofs.Unread.{none_at}
 use Rattle.sealed_evidence.specs.Judging.{are_sealed}
-use Rattle.sealed_evidence.proofs.Judged.{judged}
+use Rattle.sealed_evidence.proofs.Transferred.{transferable}
 use Rattle.definitions.specs.Exhibits.{shows}
 use Rattle.run_frame.specs.Law.{HasCause}
 use Rattle.run_frame.specs.declared.statuses.Status.{Status}
@@ -19,6 +19,7 @@ use Rattle.file_commands.specs.SealedCases.{SealedCase, sealed_case_for}
 use Rattle.file_commands.specs.SealedJudge.{AreSealed, IsVerdict, SealedCause, TellsSealedVerdict, is_shown_sealed, sealed_answer}
 use Rattle.file_commands.specs.SealedJudgeLaw.{sealed_judge_law}
 use Rattle.file_commands.specs.SealedWords.{SealedJudging}
+use Rattle.file_commands.proofs.SealedFrom.{IsOfTexts, of_texts}
 use Rattle.file_commands.proofs.Verdicts.{not_shown, not_yes}
 
 verdict_cause : (j : SealedJudging) (contents : Contents) (input : Input) (c : SealedCase) → sealed_case_for contents ≡ Ok c → (b : Bool) → is_shown_sealed c ≡ b →
@@ -33,8 +34,8 @@ caused_so j contents input (Err InputFault) e = tt
 caused_so j contents input (Err OutputFault) e = tt
 caused_so j contents input (Err status) e = inl e
 
-verdict_tells : (c : SealedCase) → TellsSealedVerdict c (sealed_answer (Ok c)).body
-verdict_tells c = go (is_shown_sealed c) refl
+verdict_tells : (c : SealedCase) → IsOfTexts c → TellsSealedVerdict c (sealed_answer (Ok c)).body
+verdict_tells c is = go (is_shown_sealed c) refl
   where
     shown : Bool
     shown = shows c.game c.sealed.exhibit.player c.sealed.exhibit.turn c.sealed.exhibit.kind c.sealed.exhibit.frames
@@ -47,13 +48,13 @@ verdict_tells c = go (is_shown_sealed c) refl
       shows = λ said. (and_parts shown sealed e).0;
       sealed = λ said. (and_parts shown sealed e).1;
       told = λ s v. refl;
-      valid = judged;
+      transferable = λ said. transferable c.game c.roots c.sealed is.session is.fit e;
     }
     go false e = record {
       shows = λ said. absurd (not_yes said);
       sealed = λ said. absurd (not_yes said);
       told = λ s v. absurd (not_shown _ e (and_from shown sealed s v));
-      valid = judged;
+      transferable = λ said. absurd (not_yes said);
     }
 
 pub sealed_holds : (j : SealedJudging) → Holds (sealed_judge_law j)
@@ -61,7 +62,7 @@ sealed_holds j = record {
   caused = λ contents input ends. caused_so j contents input (sealed_case_for contents) refl;
   done = λ contents input answered ends good.
       inl (ap (λ (r : Result SealedCase Status). (sealed_answer r).status) good.1 ∙ ap (λ (b : Bool). (verdict_answer b).status) good.2);
-  meant = λ contents input c e. subst (λ (r : Result SealedCase Status). TellsSealedVerdict c (sealed_answer r).body) (sym e) (verdict_tells c);
+  meant = λ contents input c e. subst (λ (r : Result SealedCase Status). TellsSealedVerdict c (sealed_answer r).body) (sym e) (verdict_tells c (of_texts contents c e));
   unread = λ shelf contents h n. inl (none_at (j.session ∷ j.evidence ∷ j.roots ∷ []) n);
   unremembered = λ ended. tt;
   cut = λ ended. tt;

@@ -48,7 +48,7 @@ all_fit : (logs : List (List Entry)) → AllFitText logs → AllFit logs
 all_fit logs all = each_Has (λ h. EachIs GotFits h) logs (λ h m. each_Has GotFits h (λ e n. got_fits e (Has_each GotFitsText h e (Has_each (λ h. EachIs GotFitsText h) logs h all m) n)))
 
 -- the frames by which a finding is shown fit a text
-frames_fit : (game : Game) (logs : List (List Entry)) (f : Finding) → AllFitText logs → Has (findings game logs) f → EachIs FitsText (frames_of_finding game logs f)
+pub frames_fit : (game : Game) (logs : List (List Entry)) (f : Finding) → AllFitText logs → Has (findings game logs) f → EachIs FitsText (frames_of_finding game logs f)
 frames_fit game logs f all m =
     let fs = frames_of_finding game logs f in
     each_Has FitsText fs (λ x n.

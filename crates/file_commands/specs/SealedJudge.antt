@@ -1,7 +1,7 @@
 -- SealedJudge: the answer where sealed frames are judged, why a run ends as it does, and what is behind a verdict.
 use Rattle.std.specs.Prelude.{◌≡◌, ◌⊎◌, ℕ, Bool, true, false, List, Result, Ok, Err, IsTrue}
 use Rattle.sealed_evidence.specs.Judging.{are_sealed, shows_sealed}
-use Rattle.sealed_evidence.specs.Laws.{JudgedSealsAreValid}
+use Rattle.sealed_evidence.specs.Transferable.{IsTransferable}
 use Rattle.run_frame.specs.Frame.{Answer, bare_answer}
 use Rattle.run_frame.specs.declared.statuses.Status.{Status}
 use Rattle.run_frame.specs.declared.statuses.Status.TheVariants.{Caught, Done}
@@ -40,5 +40,6 @@ pub record TellsSealedVerdict (c : SealedCase) (text : List ℕ) : Type 0 where
   pub sealed : SaysYes text → AreSealed c
   -- and wherever both is so
   pub told : IsShownBy c.game c.sealed.exhibit → AreSealed c → SaysYes text
-  -- which is what the accused player is to show something by, where it made only frames of fair play
-  pub valid : JudgedSealsAreValid
+  -- so where the player plays fair, whoever's log they stand in, they hold a secret that its seals never disclosed, or
+  -- give two byte strings with one digest
+  pub transferable : SaysYes text → IsTransferable c.game c.roots c.sealed

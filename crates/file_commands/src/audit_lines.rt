@@ -34,7 +34,7 @@ fn spot_text(spot: Spot) -> ArrayVec<u8, SPOT_ROOM>
 
 /// The line of a finding.
 #[tactic(auto, unfolding(crate::specs::AuditLines::finding_line))]
-pub(crate) fn finding_line(finding: &Finding) -> AuditLine
+pub fn finding_line(finding: &Finding) -> AuditLine
     ensures { result.items ≡ L.finding_line finding.now }
 {
     let mut line = ArrayVec::new();

@@ -37,12 +37,14 @@ pub mod upgrade_laws;
 pub mod upgrade_words;
 pub mod upgrading;
 
+pub use audit_lines::finding_line;
 pub use audit_reading::read_audit_words;
 pub use audit_words::AuditWords;
 pub use auditing::put_audit;
 pub use commands::{run_audit, run_judge, run_sealed_judge, run_upgrade};
 pub use judge_words::{JudgeWords, read_judge_words};
 pub use judging::judge_exhibit;
+pub use sealed_cases::open_roots;
 pub use sealed_words::{SealedJudgeWords, read_sealed_judge_words};
 pub use upgrade_words::read_upgrade_words;
 pub use upgrading::upgrade;

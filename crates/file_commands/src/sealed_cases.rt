@@ -65,7 +65,7 @@ fn roots_of(alloc: Global, session: &Session, text: &[u8]) -> Result<Roots, Stat
 }
 
 /// The roots of a file.
-fn open_roots<H: Shelf>(
+pub fn open_roots<H: Shelf>(
     alloc: Global,
     shelf: &mut H,
     session: &Session,

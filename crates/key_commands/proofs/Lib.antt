@@ -4,4 +4,6 @@ pub mod SealedSo
 pub mod Roots
 pub mod Opened
 pub mod RootHolds
+pub mod Filed
+pub mod SealedFrom
 pub mod SealHolds

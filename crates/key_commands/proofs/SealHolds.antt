@@ -4,7 +4,6 @@ use Rattle.std.specs.Prelude.{Result, Ok, Err}
 use Rattle.line_io.specs.Files.{Contents}
 use Rattle.line_io.specs.Inputs.{Input}
 use Rattle.line_io.proofs.Unread.{none_at}
-use Rattle.seal_blame.proofs.Honestly.{made_so}
 use Rattle.run_frame.specs.Law.{HasCause}
 use Rattle.run_frame.specs.declared.statuses.Status.{Status}
 use Rattle.run_frame.specs.declared.statuses.Status.TheVariants.{InputFault, NoMemory, OutputFault}
@@ -13,7 +12,7 @@ use Rattle.key_commands.specs.Opened.{Sealed, sealed_for}
 use Rattle.key_commands.specs.Seal.{seal_answer}
 use Rattle.key_commands.specs.SealLaw.{seal_law}
 use Rattle.key_commands.specs.Words.{Sealing}
-use Rattle.key_commands.proofs.Roots.{seals_valid}
+use Rattle.key_commands.proofs.SealedFrom.{seals_told}
 
 caused_so : (s : Sealing) (contents : Contents) (input : Input) (r : Result Sealed Status) → sealed_for s contents ≡ r → HasCause (seal_law s) contents input (seal_answer r).status
 caused_so s contents input (Ok sealed) e = inr ((sealed, e), tt)
@@ -26,7 +25,7 @@ pub seal_holds : (s : Sealing) → Holds (seal_law s)
 seal_holds s = record {
   caused = λ contents input ends. caused_so s contents input (sealed_for s contents) refl;
   done = λ contents input answered ends good. inl (ap (λ (r : Result Sealed Status). (seal_answer r).status) good.1);
-  meant = λ contents input. record { made = made_so; seals = seals_valid };
+  meant = λ contents input sealed e. seals_told s contents sealed e;
   unread = λ shelf contents h n. inl (none_at (s.keys.session ∷ s.keys.seed ∷ s.log ∷ []) n);
   unremembered = λ ended. tt;
   cut = λ ended. tt;

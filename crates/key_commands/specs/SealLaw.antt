@@ -1,12 +1,12 @@
 -- SealLaw: what is promised of `seal`: each frame that a player made by the log of a file is written with its seal.
-use Rattle.std.specs.Prelude.{◌≡◌, ◌⊎◌, ℕ, [], ◌∷◌, Err}
+use Rattle.std.specs.Prelude.{◌≡◌, ◌⊎◌, ℕ, [], ◌∷◌, Ok, Err}
 use Rattle.definitions.specs.Lists.{item_or}
 use Rattle.line_io.specs.Files.{AreContents, Contents}
 use Rattle.run_frame.specs.Frame.{EndCause}
 use Rattle.run_frame.specs.Law.{Law, law_without_input}
 use Rattle.run_frame.specs.Opening.{Found}
 use Rattle.run_frame.specs.declared.statuses.Status.{Status}
-use Rattle.key_commands.specs.Opened.{MayReadEach, sealed_for}
+use Rattle.key_commands.specs.Opened.{MayReadEach, Sealed, sealed_for}
 use Rattle.key_commands.specs.Seal.{TellsSeals, seal_answer}
 use Rattle.key_commands.specs.Words.{Sealing}
 
@@ -21,4 +21,4 @@ seal_law s = law_without_input (s.keys.session ∷ s.keys.seed ∷ s.log ∷ [])
     (λ contents. seal_answer (sealed_for s contents))
     (seal_cause s)
     (λ contents. Found (sealed_for s contents))
-    (λ contents. TellsSeals)
+    (λ contents. (sealed : Sealed) → sealed_for s contents ≡ Ok sealed → TellsSeals s.keys.player sealed)

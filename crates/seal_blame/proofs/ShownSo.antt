@@ -36,8 +36,7 @@ pub record IsNewFrame (keys : Keys) (made : List TurnFrame) (f : TurnFrame) (s :
   pub sealed : IsTrue (is_valid keys.game (root_of keys.game keys.seed) f s)
   pub few : keys.game.turns ≤ 8192
   pub place : place_of keys.game f < places keys.game
-  pub fits : FitsFrame f
-  pub own_fits : (own : TurnFrame) → slice_get made (place_of keys.game f) ≡ Some own → FitsFrame own
+  pub own_spelled : (own : TurnFrame) → slice_get made (place_of keys.game f) ≡ Some own → frame_bytes own ≡ frame_bytes f → own ≡ f
 
 message_hashed : (game : Game) (f g : TurnFrame) → message game f ≡ message game g → sha256 (game.id ++ frame_bytes f) ≡ sha256 (game.id ++ frame_bytes g)
 unfolding message
@@ -52,7 +51,7 @@ unfolding message
 message_bytes game f = sha256_bytes _
 
 -- frames with one spelling are the same
-one_spelling : (f g : TurnFrame) → FitsFrame f → FitsFrame g → frame_bytes f ≡ frame_bytes g → f ≡ g
+pub one_spelling : (f g : TurnFrame) → FitsFrame f → FitsFrame g → frame_bytes f ≡ frame_bytes g → f ≡ g
 one_spelling f g a b e = same_Some f g (sym (spelled_read f a) ∙ ap turn_frame_of e ∙ spelled_read g b)
 
 one_message : (keys : Keys) (made : List TurnFrame) (f : TurnFrame) (s : List ℕ) (own : TurnFrame) → IsNewFrame keys made f s → slice_get made (place_of keys.game f) ≡ Some own →
@@ -62,7 +61,7 @@ one_message keys made f s own is at same = record {
   is_made = at;
   strings = record {
     differ = λ e.
-        let frames = one_spelling own f (is.own_fits own at) is.fits (append_cancel_left keys.game.id (frame_bytes own) (frame_bytes f) e) in
+        let frames = is.own_spelled own at (append_cancel_left keys.game.id (frame_bytes own) (frame_bytes f) e) in
         is.is_new (subst (Has made) frames (slice_get_Has made (place_of keys.game f) own at));
     one_digest = message_hashed keys.game own f same;
   };

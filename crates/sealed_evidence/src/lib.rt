@@ -5,8 +5,9 @@
 //! frame's player: whoever has the session and the roots can judge, and needs to trust no log.
 //! [`blame`] is the answer of a player that plays fair: it names the first frame that the player
 //! didn't make, and shows a secret that the player's seals never disclosed, or two byte strings
-//! with one SHA-256 digest. That the roots are the players' own is the caller's to see to. The
-//! crate takes no memory and touches nothing outside.
+//! with one SHA-256 digest. A law says that each exhibit with a yes holds such an answer for
+//! whoever has the keys ([`laws::judged_evidence_is_transferable`]). That the roots are the
+//! players' own is the caller's to see to. The crate takes no memory and touches nothing outside.
 #![tactic(auto)]
 
 mod blaming;
