@@ -1,9 +1,9 @@
 //! The seals of frames, one for each different frame.
 
-ghost use Rattle.std.specs.Prelude.{◌≡◌, None, length, IfOk, OnOk};
+ghost use Rattle.std.specs.Prelude.{◌≡◌, [], ◌∷◌, None, length, IfOk, OnOk};
 ghost use Rattle.definitions.specs.declared.frames.TurnFrame.{TurnFrame};
 ghost use Rattle.seal_keys.specs.Seals.{seal_len};
-ghost use Rattle.accuser.specs.SealBooks.{IsNoted, seal_in};
+ghost use Rattle.accuser.specs.SealBooks.{KeepsSeals, seal_in};
 
 use crate::frame_key::{FrameKey, key_of};
 use definitions::TurnFrame;
@@ -61,7 +61,7 @@ impl SealBook {
     /// book's allocator has no memory for a new one.
     pub(crate) fn note(&mut self, frame: &TurnFrame, seal: &Seal) -> Result<(), AllocError>
         requires { length seal.now ≡ seal_len self.old.game }
-        ensures noted { OnOk result (IsNoted self.old self.new frame.now seal.now) }
+        ensures noted { OnOk result (KeepsSeals self.old self.new (record { frame = frame.now; seal = seal.now } ∷ [])) }
         ensures game { self.new.game ≡ self.old.game }
     {
         let key = key_of(frame);

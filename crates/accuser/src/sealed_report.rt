@@ -3,11 +3,12 @@
 ghost use Rattle.std.specs.Prelude.{◌≡◌, IfOk, filter_map};
 ghost use Rattle.definition_laws.specs.Members.{Has};
 ghost use Rattle.accuser.specs.SealBooks.{seal_in};
-ghost use Rattle.accuser.specs.SealedReports.{found_in};
+ghost use Rattle.accuser.specs.SealedReports.{IsReportOn, found_in};
 ghost use Rattle.accuser.specs.SealedShows as S;
 
 use crate::seal_book::SealBook;
-use auditor::{Auditor, Finding, Report};
+use crate::taker::Taker;
+use auditor::{Finding, Report};
 use definitions::TurnFrame;
 use evidence::laws::findings_are_shown;
 use seal_keys::Seal;
@@ -18,10 +19,8 @@ use std::marker::Model;
 /// What the frames of files show, with the seals by which a judge believes it.
 #[derive(Drop)]
 pub struct SealedReport {
-    // it took the frames
-    auditor: Auditor,
-    // of each of them a seal
-    seals: SealBook,
+    // it took the frames, and keeps a seal of each
+    taker: Taker,
     report: Report,
 }
 
@@ -30,7 +29,7 @@ impl Model for SealedReport {
 
     ghost Value = { SealedReported };
 
-    ghost view = { λ r. record { audit = r.auditor; seals = r.seals; report = r.report } };
+    ghost view = { λ r. record { audit = r.taker.auditor; seals = r.taker.seals; report = r.report } };
 }
 
 /// The seals that are kept of these frames, in the order of the frames.
@@ -47,15 +46,12 @@ fn seals_of(alloc: Global, book: &SealBook, frames: &[TurnFrame]) -> Result<Vec<
 }
 
 impl SealedReport {
-    /// The report of this auditor on frames of which the book has the seals.
-    pub(crate) fn new(auditor: Auditor, seals: SealBook, report: Report) -> SealedReport
-        ensures { result ≡ record { audit = auditor; seals = seals; report = report } }
+    /// The report on what was taken. An error comes where `alloc` has no memory.
+    pub(crate) fn of(alloc: Global, taker: Taker) -> Result<SealedReport, AllocError>
+        ensures { IfOk result (IsReportOn taker) }
     {
-        SealedReport {
-            auditor,
-            seals,
-            report,
-        }
+        let report = taker.auditor.report(alloc)?;
+        Ok(SealedReport { taker, report })
     }
 
     /// The findings, by player, turn and kind, each with its least pair of spots.
@@ -66,18 +62,18 @@ impl SealedReport {
     }
 
     /// What shows a finding of the report to whoever has the session and the roots: the frames of
-    /// its exhibit, each with a seal that is valid for it. The judge says yes.
+    /// its exhibit, each with the seal with which it stands first in the files. The judge says yes.
     ///
     /// The finding is one of those that the report lists, of any kind. The files aren't needed any
     /// more. An error comes only where `alloc` has no memory.
     pub fn sealed(&self, alloc: Global, finding: &Finding) -> Result<SealedExhibit, AllocError>
         requires { Has (found_in self.now) finding.now }
-        ensures frames { IfOk result (S.HasFramesOf self.now finding.now) }
+        ensures exact { IfOk result (S.IsSealedOf self.now finding.now) }
         ensures shows { IfOk result (S.IsJudgedTrue self.now) }
     {
         findings_are_shown();
-        let exhibit = self.auditor.exhibit(alloc, finding)?;
-        let seals = seals_of(alloc, &self.seals, exhibit.frames.as_slice())?;
+        let exhibit = self.taker.auditor.exhibit(alloc, finding)?;
+        let seals = seals_of(alloc, &self.taker.seals, exhibit.frames.as_slice())?;
         Ok(SealedExhibit {
             exhibit,
             seals: SealList::new(seals),

@@ -1,2 +1,3 @@
 pub mod SealedFrames
+pub mod Beginnings
 pub mod Laws

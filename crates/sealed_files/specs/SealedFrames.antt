@@ -1,5 +1,5 @@
 -- SealedFrames: a frame's spelling with its seal behind it, and files of such.
-use Rattle.std.specs.Prelude.{ℕ, zero, suc, ◌+◌, List, length, take, drop, Option, Some, None, is_some, nat_lt, slice_index, if◌then◌else◌}
+use Rattle.std.specs.Prelude.{ℕ, zero, suc, ◌+◌, Bool, List, [], ◌∷◌, length, take, drop, Option, Some, None, is_some, nat_le, nat_lt, slice_index, if◌then◌else◌}
 use Rattle.definitions.specs.declared.limits.TheConstants.{LONGEST_LOG}
 use Rattle.definitions.specs.Lists.{is_empty}
 use Rattle.definitions.specs.declared.frames.TurnFrame.{TurnFrame}
@@ -42,3 +42,31 @@ bad_from game roots (suc n) at bytes =
 -- the first byte of a file at which no sealed frame stands, and the limit where the file is longer
 unfoldable pub first_bad : Game → List (List ℕ) → List ℕ → Option ℕ
 first_bad game roots bytes = if nat_lt LONGEST_LOG (length bytes) then Some LONGEST_LOG else bad_from game roots (length bytes) 0 bytes
+
+-- a frame with its seal
+pub record SealedFrame : Type 0 where
+  pub frame : TurnFrame
+  pub seal : List ℕ
+
+-- what follows the sealed frame at the front
+abbrev pub behind_sealed : Game → List ℕ → List ℕ
+behind_sealed game bytes = drop (frame_len bytes + seal_len game) bytes
+
+-- the bytes are at least as many as a sealed frame at their front would have
+abbrev pub is_whole : Game → List ℕ → Bool
+is_whole game bytes = nat_le (frame_len bytes + seal_len game) (length bytes)
+
+-- the sealed frame at the front, if there is one, and then those that follow
+abbrev pub sealed_then : Game → List ℕ → Option TurnFrame → List SealedFrame → List SealedFrame
+sealed_then game bytes None rest = []
+sealed_then game bytes (Some f) rest = record { frame = f; seal = seal_ahead game bytes } ∷ rest
+
+-- the sealed frames from the front of the bytes on, as far as one follows the other, but not more
+-- than so many
+unfoldable pub sealed_from : Game → List (List ℕ) → (steps : ℕ) → List ℕ → List SealedFrame
+sealed_from game roots zero bytes = []
+sealed_from game roots (suc n) bytes = sealed_then game bytes (sealed_ahead game roots bytes) (sealed_from game roots n (behind_sealed game bytes))
+
+-- the sealed frames of a file, up to its first byte at which none stands
+abbrev pub sealed_in : Game → List (List ℕ) → List ℕ → List SealedFrame
+sealed_in game roots bytes = sealed_from game roots (length bytes) bytes

@@ -11,4 +11,4 @@
 pub mod laws;
 mod reading;
 
-pub use reading::{first_bad, sealed_ahead, sealed_len};
+pub use reading::{first_bad, is_whole, sealed_ahead, sealed_len};

@@ -41,6 +41,15 @@ pub fn sealed_len(bytes: &[u8], seal: &Seal) -> usize
     frame_len(bytes) + seal.bytes().len()
 }
 
+/// Whether the bytes are at least as many as a sealed frame at their front would have, with a seal
+/// as long as this one. Where they are, what stands at the front doesn't change by what follows.
+pub fn is_whole(session: &Session, bytes: &[u8], seal: &Seal) -> bool
+    requires { length seal.now ≡ seal_len session.now }
+    ensures { result ≡ F.is_whole session.now bytes.now }
+{
+    sealed_len(bytes, seal) <= bytes.len()
+}
+
 /// Whether a seal that is valid for the frame stands behind the frame at the front. It is written
 /// to `seal`; what stands there otherwise is left open.
 fn take_seal(

@@ -1,7 +1,7 @@
-use Rattle.std.proofs.Common.{length, ap, sym, subst, ◌∙◌}
+use Rattle.std.proofs.Common.{[], ◌∷◌, length, ap, sym, subst, ◌∙◌}
 use Rattle.seal_keys.specs.Seals.{seal_len}
-use Rattle.accuser.specs.SealBooks.{Book, IsNoted}
-use Rattle.accuser.proofs.Noted.{long_more, noted_under}
+use Rattle.accuser.specs.SealBooks.{Book, KeepsSeals}
+use Rattle.accuser.proofs.Noted.{long_more, noted_under, with_seal}
 use Rattle.accuser.proofs.seal_book.SealBook.note.Goals as goal
 
 pub invariant_of-self-2 : goal.invariant_of-self-2
@@ -13,6 +13,6 @@ pub returns-clause-noted : goal.returns-clause-noted
 returns-clause-noted c =
     let old : Book = record { game = c.self.inside.session; entries = c.self.inside.seals.entries } in
     let new : Book = record { game = c.self.inside.session; entries = c.insert.new.self.entries } in
-    subst (λ (b : Book). IsNoted b new c.args.frame.now c.args.seal.now) c.self.view_is
+    subst (λ (b : Book). KeepsSeals b new (with_seal c.args.frame.now c.args.seal.now ∷ [])) c.self.view_is
     (noted_under old new c.args.frame.now c.args.seal.now c.key_of-key.result c.in_ok-copy.copy c.key_of-key.ensures c.in_ok-copy.ensures
     (sym c.contains_key.ensures ∙ c.if-contains_key.false) c.in_ok-insert.ensures.updates.0 c.in_ok-insert.ensures.updates.1)
