@@ -8,7 +8,7 @@ use Rattle.command_names.specs.declared.names.Name.TheVariants as N
 
 -- all the names, in the order in which clap has their commands
 abbrev pub all_names : List Name
-all_names = N.Audit ∷ N.Drive ∷ N.Judge ∷ N.Make ∷ N.Peer ∷ N.Root ∷ N.Schedule ∷ N.Seal ∷ N.Upgrade ∷ []
+all_names = N.Accuse ∷ N.Audit ∷ N.Drive ∷ N.Judge ∷ N.Make ∷ N.Peer ∷ N.Root ∷ N.Schedule ∷ N.Seal ∷ N.Upgrade ∷ []
 
 -- how a name is written, and how many words stand after it at least and at most
 pub record Form : Type 0 where
@@ -23,8 +23,9 @@ written text least most = record { text = text; least = least; most = most }
 abbrev pub form_said : FormWritten → Form
 form_said form = written form.text.now form.least form.most
 
--- the form of each name: `audit` takes a session and logs
+-- the form of each name: `accuse` takes a session, roots and files, and `audit` a session and logs
 abbrev pub form_of : Name → Form
+form_of N.Accuse = written (codes "accuse") 3 (2 + MOST_AUDITED)
 form_of N.Audit = written (codes "audit") 2 (1 + MOST_AUDITED)
 form_of N.Drive = written (codes "drive") 2 3
 form_of N.Judge = written (codes "judge") 2 3

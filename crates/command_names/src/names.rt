@@ -8,6 +8,8 @@ use definitions::limits::MOST_AUDITED;
 /// The commands of the program.
 #[derive(Clone, Copy, Debug, PartialEq, Eq)]
 pub enum Name {
+    /// What files of sealed frames show is printed.
+    Accuse,
     /// What the logs of a session show is printed.
     Audit,
     /// A peer is driven by the input.
@@ -30,6 +32,7 @@ pub enum Name {
 
 /// All the names, each once, in the order in which clap has their commands.
 pub const ALL: &[Name] = &[
+    Name::Accuse,
     Name::Audit,
     Name::Drive,
     Name::Judge,
@@ -67,6 +70,7 @@ impl Name {
         ensures { N.form_said result ≡ N.form_of self }
     {
         match self {
+            Name::Accuse => Form::new("accuse", 3, 2 + MOST_AUDITED),
             Name::Audit => Form::new("audit", 2, 1 + MOST_AUDITED),
             Name::Drive => Form::new("drive", 2, 3),
             Name::Judge => Form::new("judge", 2, 3),

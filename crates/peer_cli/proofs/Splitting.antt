@@ -10,8 +10,9 @@ use Rattle.command_names.specs.Names.{named, takes}
 use Rattle.command_line.specs.Lines.{Line, line_of_words, line_with, split_of}
 use Rattle.station.specs.Words.{is_word}
 use Rattle.definitions.specs.declared.limits.TheConstants.{MOST_AUDITED}
+use Rattle.accuse_command.specs.AccuseWords.{Accusing, accusing_in}
 use Rattle.file_commands.specs.AuditWords.{Auditing, are_few, auditing_in}
-use Rattle.peer_runs.specs.Commands.{Audit, command_in, command_named, command_of, command_read}
+use Rattle.peer_runs.specs.Commands.{Accuse, Audit, command_in, command_named, command_of, command_read}
 use Rattle.peer_cli.specs.Lines.{command_on}
 
 -- ---- fewer words or more than a command takes say nothing
@@ -82,6 +83,25 @@ audits_none (session ∷ logs) e = go (are_few logs) refl
     go true few = absurd (false≢true (sym e ∙ few_taken session logs few))
     go false few = refl
 
+-- an accusation takes as many files as the command line has room for
+files_taken : (session roots : List ℕ) (files : List (List ℕ)) → are_few files ≡ true → takes N.Accuse (length (session ∷ roots ∷ files)) ≡ true
+files_taken session roots [] e = absurd (false≢true e)
+files_taken session roots (file ∷ files) e =
+    let most : length (file ∷ files) ≤ MOST_AUDITED = leb-true (length (file ∷ files)) MOST_AUDITED (and_parts (not (is_empty (file ∷ files))) (nat_le (length (file ∷ files)) MOST_AUDITED) e).1 in
+    and_from _ _ (le-leb 3 (length (session ∷ roots ∷ file ∷ files)) (omega arith)) (le-leb (length (session ∷ roots ∷ file ∷ files)) (2 + MOST_AUDITED) (omega (arith, most)))
+
+abbrev accused_if : Bool → Accusing → Option Accusing
+accused_if b a = if b then Some a else None
+
+accuses_none : (words : List (List ℕ)) → takes N.Accuse (length words) ≡ false → accusing_in words ≡ None
+accuses_none [] e = refl
+accuses_none (session ∷ []) e = refl
+accuses_none (session ∷ roots ∷ files) e = go (are_few files) refl
+  where
+    go : (b : Bool) → are_few files ≡ b → accused_if b (record { session = session; roots = roots; files = files }) ≡ None
+    go true few = absurd (false≢true (sym e ∙ files_taken session roots files few))
+    go false few = refl
+
 abbrev line_if : Bool → Line → Option Line
 line_if b line = if b then Some line else None
 
@@ -89,6 +109,7 @@ line_if b line = if b then Some line else None
 
 -- a command with fewer words or more than it takes is none
 untaken : (name : Name) (words : List (List ℕ)) → takes name (length words) ≡ false → command_in name words ≡ None
+untaken N.Accuse words e = ap (option_map Accuse) (accuses_none words e)
 untaken N.Audit words e = ap (option_map Audit) (audits_none words e)
 untaken N.Drive words e = drives_none words e
 untaken N.Judge words e = judges_none words e

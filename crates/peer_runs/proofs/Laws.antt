@@ -4,6 +4,7 @@ use Rattle.run_frame.specs.Outside.{Outside}
 use Rattle.run_frame.specs.Runs.{Works}
 use Rattle.run_frame.specs.declared.statuses.Status.TheVariants.{NoMemory}
 use Rattle.run_frame.proofs.Working.{unremembered}
+use Rattle.accuse_command.proofs.AccuseHolds.{accuse_holds}
 use Rattle.drive_command.proofs.DriveHolds.{drive_holds}
 use Rattle.file_commands.proofs.AuditHolds.{audit_holds}
 use Rattle.file_commands.proofs.JudgeHolds.{judge_holds}
@@ -23,6 +24,7 @@ no_memory (C.Upgrade session) outside = unremembered _ (upgrade_holds session) r
 no_memory (C.Judge j) outside = unremembered _ (judge_holds j) refl outside
 no_memory (C.SealedJudge j) outside = unremembered _ (sealed_holds j) refl outside
 no_memory (C.Audit a) outside = unremembered _ (audit_holds a) refl outside
+no_memory (C.Accuse a) outside = unremembered _ (accuse_holds a) refl outside
 no_memory (C.Schedule session) outside = unremembered _ (schedule_holds session) refl outside
 no_memory (C.Make number) outside = unremembered _ (make_holds number) refl outside
 no_memory (C.Peer p) outside = unremembered _ (peer_holds p) refl outside

@@ -11,6 +11,8 @@ use Rattle.run_frame.specs.Frame.{bare_answer}
 use Rattle.run_frame.specs.Law.{Law, law_without_input}
 use Rattle.run_frame.specs.declared.statuses.Status.{Status}
 use Rattle.run_frame.specs.declared.statuses.Status.TheVariants.{Usage}
+use Rattle.accuse_command.specs.AccuseLaw.{accuse_law}
+use Rattle.accuse_command.specs.AccuseWords.{Accusing, accusing_in, accusing_said}
 use Rattle.drive_command.specs.DriveLaw.{drive_law}
 use Rattle.drive_command.specs.Words.{Driving, driving_in, driving_said}
 use Rattle.file_commands.specs.AuditLaw.{audit_law}
@@ -40,6 +42,7 @@ pub data Command : Type 0 where
   Judge : Judging → Command
   SealedJudge : SealedJudging → Command
   Audit : Auditing → Command
+  Accuse : Accusing → Command
   Schedule : (session : List ℕ) → Command
   Make : (number : ℕ) → Command
   Peer : Peering → Command
@@ -53,6 +56,7 @@ command_said (said.Upgrade session) = Upgrade session.now
 command_said (said.Judge judging) = Judge (judging_said judging)
 command_said (said.SealedJudge judging) = SealedJudge (sealed_judging_said judging)
 command_said (said.Audit auditing) = Audit (auditing_said auditing)
+command_said (said.Accuse accusing) = Accuse (accusing_said accusing)
 command_said (said.Schedule session) = Schedule session.now
 command_said (said.Make number) = Make number
 command_said (said.Peer peering) = Peer (peering_said peering)
@@ -65,6 +69,7 @@ judge_in words = option_or (option_map Judge (judging_in words)) (option_map Sea
 
 -- the command of this name with these words
 abbrev pub command_in : Name → List (List ℕ) → Option Command
+command_in N.Accuse words = option_map Accuse (accusing_in words)
 command_in N.Audit words = option_map Audit (auditing_in words)
 command_in N.Drive words = option_map Drive (driving_in words)
 command_in N.Judge words = judge_in words
@@ -110,6 +115,7 @@ law_of (Some (Upgrade session)) = upgrade_law session
 law_of (Some (Judge j)) = judge_law j
 law_of (Some (SealedJudge j)) = sealed_judge_law j
 law_of (Some (Audit a)) = audit_law a
+law_of (Some (Accuse a)) = accuse_law a
 law_of (Some (Schedule session)) = schedule_law session
 law_of (Some (Make number)) = make_law number
 law_of (Some (Peer p)) = peer_law p

@@ -6,6 +6,7 @@ ghost use Rattle.run_frame.specs.Runs.{Works};
 ghost use Rattle.peer_runs.specs.Commands as C;
 ghost use Rattle.peer_runs.specs.Commands.{command_said, law_of};
 
+use accuse_command::{AccuseWords, read_accuse_words, run_accuse};
 use command_names::Name;
 use drive_command::{DriveWords, read_drive_words, run_drive};
 use file_commands::{
@@ -36,6 +37,8 @@ pub enum Command<'a> {
     SealedJudge(SealedJudgeWords<'a>),
     /// What the logs of files show is printed.
     Audit(AuditWords<'a>),
+    /// What files of sealed frames show is printed.
+    Accuse(AccuseWords<'a>),
     /// The honest peers of a match in the session of this file are stepped by the input.
     Schedule(&'a [u8]),
     /// The match of this number is made.
@@ -63,6 +66,7 @@ pub fn read_in<'a>(name: Name, words: &'a [Vec<u8>]) -> Option<Command<'a>>
     ensures { option_map command_said result ≡ C.command_in name (map (λ w. w.items) words.now) }
 {
     match name {
+        Name::Accuse => Some(Command::Accuse(read_accuse_words(words)?)),
         Name::Audit => Some(Command::Audit(read_audit_words(words)?)),
         Name::Drive => Some(Command::Drive(read_drive_words(words)?)),
         Name::Judge => read_judging(words),
@@ -107,6 +111,7 @@ pub fn obey<I: Source, O: Sink, H: Shelf, S: Station, R: Rng>(
         Command::Judge(words) => run_judge(alloc, words, out, shelf),
         Command::SealedJudge(words) => run_sealed_judge(alloc, words, out, shelf),
         Command::Audit(words) => run_audit(alloc, words, out, shelf),
+        Command::Accuse(words) => run_accuse(alloc, words, out, shelf),
         Command::Schedule(session) => run_schedule(alloc, session, input, out, shelf),
         Command::Make(number) => run_make(alloc, number, out),
         Command::Peer(words) => run_peer(alloc, words, out, shelf, station, chance),

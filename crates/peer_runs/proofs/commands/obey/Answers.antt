@@ -14,6 +14,9 @@ returns-in-Judge g c = rw c.in-Judge.is (c.run_judge.ensures (outside (g.I.Sourc
 pub returns-in-Audit : goal.returns-in-Audit
 returns-in-Audit g c = rw c.in-Audit.is (c.run_audit.ensures (outside (g.I.Source.state c.args.input.now) (g.O.Sink.state c.args.out.now) (g.H.Shelf.state c.args.shelf.now) (g.S.Station.history c.args.station.now) (g.R.Rng.stream c.args.chance.now)))
 
+pub returns-in-Accuse : goal.returns-in-Accuse
+returns-in-Accuse g c = rw c.in-Accuse.is (c.run_accuse.ensures (outside (g.I.Source.state c.args.input.now) (g.O.Sink.state c.args.out.now) (g.H.Shelf.state c.args.shelf.now) (g.S.Station.history c.args.station.now) (g.R.Rng.stream c.args.chance.now)))
+
 pub returns-in-Schedule : goal.returns-in-Schedule
 returns-in-Schedule g c = rw c.in-Schedule.is (c.run_schedule.ensures (outside (g.I.Source.state c.args.input.now) (g.O.Sink.state c.args.out.now) (g.H.Shelf.state c.args.shelf.now) (g.S.Station.history c.args.station.now) (g.R.Rng.stream c.args.chance.now)))
 

@@ -1,0 +1,5 @@
+mod Opened
+mod Printed
+mod Fitting
+mod Meant
+pub mod AccuseHolds
