@@ -14,7 +14,7 @@ use Rattle.session_log.specs.Laws as L
 use Rattle.session_log.proofs.ReadSo.{got_frames_fit, read_is_log, read_well_formed}
 use Rattle.evidence.specs.Laws.{IsLogOf}
 use Rattle.auditor.specs.Agreed.{AreOwned}
-use Rattle.log_files.specs.Logs.{entries_in}
+use Rattle.log_streams.specs.Streams.{entries_in}
 use Rattle.log_files.specs.Several.{first_bytes, logs_in, owners_in}
 use Rattle.file_commands.specs.AuditLaws.{AllFitText, GotFitsText, TellsTwoFaces}
 use Rattle.file_commands.proofs.Told.{different_told}

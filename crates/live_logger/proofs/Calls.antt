@@ -13,15 +13,15 @@ use Rattle.socket_lines.specs.declared.line.Line.{Line}
 use Rattle.socket_lines.specs.Lines.{closed}
 use Rattle.loop_rules.specs.Hearing.{ousted}
 use Rattle.loop_rules.proofs.Alike.{Alike, Same, alike_at, alike_map, ousted_same}
-use Rattle.socket_table.proofs.Counting.{length_alike}
+use Rattle.socket_list.proofs.Counting.{length_alike}
 use Rattle.frame_index.proofs.Growing.{on_ok}
 use Rattle.socket_list.specs.Sockets.{Sockets, IsAt, at_line, with_name_free}
-use Rattle.watch_rules.specs.Views.{View}
+use Rattle.watch_rules.specs.Views.{View, start}
 use Rattle.watch_rules.specs.Hearing.{room_by, room_on}
 use Rattle.watch_rules.specs.After.{on_line}
 use Rattle.watch_rules.specs.Licence.{asks_shut}
 use Rattle.watch_rules.specs.Rules.{wants_read, wants_write}
-use Rattle.watch_rules.specs.Histories.{IsHistory}
+use Rattle.watch_rules.specs.Histories.{AreTold}
 use Rattle.live_logger.specs.declared.watch.TheConstants.{MOST_TAKEN}
 use Rattle.live_logger.specs.States.{WatchState, IsWatching, with_view}
 use Rattle.live_logger.specs.Reading.{Reads, WantsAt, WantsNone, read_by}
@@ -89,7 +89,7 @@ read_one items after i w m k s room most read buf post old r e ready at wants is
     on_ok r (λ (state : m ≡ with_view (read_by w.view at.0 s read (take most (buf ++ post))) w). read_state items after w m k s at read buf ready (wants at.0 at.1) within (omega (arith, here, size, long, few)) on (state ∙ ap (λ (b : List ℕ). with_view (read_by w.view at.0 s read b) w) same)) done
 
 pub read_history : (items after : List Item) (i w : WatchState) (k s room most : ℕ) (read : SocketRead) (buf old : List ℕ) → i ≡ w → IsWatching items w → IsAt w.view.sockets k s → WantsAt w.view k →
-    AtPart i k (λ l. room ≡ room_on i.view l) → most ≡ min MOST_TAKEN room → length buf ≡ length (take most old) → length old ≡ MOST_TAKEN → after ≡ items ++ read_item s read buf ∷ [] → TakesWithin read buf → IsHistory w.view.setting after
+    AtPart i k (λ l. room ≡ room_on i.view l) → most ≡ min MOST_TAKEN room → length buf ≡ length (take most old) → length old ≡ MOST_TAKEN → after ≡ items ++ read_item s read buf ∷ [] → TakesWithin read buf → AreTold (start w.view.setting) [] after
 read_history items after i w k s room most read buf old e ready at wants is few long all on within =
     let size = length-take-le most old (omega (arith, few, all)) in
     let here : room ≡ room_on w.view at.0 = (subst (λ (x : WatchState). AtPart x k (λ l. room ≡ room_on x.view l)) e is) at.0 at.1 in

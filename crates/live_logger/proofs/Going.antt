@@ -4,13 +4,13 @@ use Rattle.socket_station.specs.declared.answers.Standing.TheVariants.{Open}
 use Rattle.socket_station.specs.Items.{Item}
 use Rattle.socket_station.specs.Standings.{OpensNew, standing_in}
 use Rattle.loop_rules.specs.Told.{LineStands}
-use Rattle.socket_table.proofs.Changed.{each_at}
+use Rattle.socket_list.proofs.Lists.{each_at}
 use Rattle.socket_list.specs.Sockets.{IsAt}
 use Rattle.watch_rules.specs.declared.phases.WatchPhase.TheVariants.{Running}
-use Rattle.watch_rules.specs.Views.{Setting, View}
+use Rattle.watch_rules.specs.Views.{Setting, View, start}
 use Rattle.watch_rules.specs.After as A
 use Rattle.watch_rules.specs.Rules.{is_allowed}
-use Rattle.watch_rules.specs.Histories.{IsHistory}
+use Rattle.watch_rules.specs.Histories.{AreTold}
 use Rattle.watch_rules.specs.Told.{IsTold}
 use Rattle.watch_rules.proofs.Told.{setting_after, told_goes_on}
 use Rattle.live_logger.specs.States.{WatchState, IsWatching, with_view}
@@ -47,9 +47,9 @@ goes_one before after item w m k new may none on state running = subst (λ (x : 
 })
 
 -- what was told up to an item that is allowed is a history, whatever became of it
-pub history_on : (before after : List Item) (v : View) (item : Item) → IsTold before v → OpensNew before item → is_allowed v item ≡ true → after ≡ before ++ item ∷ [] → IsHistory v.setting after
+pub history_on : (before after : List Item) (v : View) (item : Item) → IsTold before v → OpensNew before item → is_allowed v item ≡ true → after ≡ before ++ item ∷ [] → AreTold (start v.setting) [] after
 history_on before after v item told new may on =
-    subst (λ (s : Setting). IsHistory s after) (setting_after v item) (told_on before after v item told new may on).allowed
+    subst (λ (s : Setting). AreTold (start s) [] after) (setting_after v item) (told_on before after v item told new may on).told
 
 -- an open line's socket is open
 pub stands_open : (items : List Item) (v : View) (k s : ℕ) (at : IsAt v.sockets k s) → IsTold items v → (at.0).is_open ≡ true → standing_in items s ≡ Open

@@ -5,7 +5,7 @@ use Rattle.std.proofs.lemmas.Option.{slice_get_within}
 use Rattle.socket_lines.specs.declared.line.Line.{Line}
 use Rattle.loop_rules.specs.Told.{Differ}
 use Rattle.loop_rules.proofs.Alike.{Same, Alike}
-use Rattle.socket_table.proofs.Keys.{put_at, found_at}
+use Rattle.socket_list.proofs.Keys.{put_at, found_at}
 use Rattle.log_books.proofs.Lists.{set_beside, set_here}
 use Rattle.socket_list.specs.Sockets.{Sockets, IsAt, at_line, line_of}
 

@@ -14,8 +14,8 @@ use Rattle.loop_rules.specs.Licence.{is_read}
 use Rattle.loop_rules.specs.Told.{LineStands}
 use Rattle.loop_rules.proofs.Told.{not_in_fresh}
 use Rattle.loop_rules.proofs.Alike.{Alike}
-use Rattle.socket_table.specs.Opening.{AreNewTo}
-use Rattle.socket_table.proofs.Counting.{length_alike}
+use Rattle.socket_list.specs.Opening.{AreNewTo}
+use Rattle.socket_list.proofs.Counting.{length_alike}
 use Rattle.socket_list.specs.Sockets.{polled_on}
 use Rattle.socket_list.specs.Sound.{none_wrong}
 use Rattle.log_books.specs.Books.{is_agreed}

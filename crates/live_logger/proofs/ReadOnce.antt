@@ -13,12 +13,12 @@ use Rattle.socket_lines.specs.Lines.{closed, quieted}
 use Rattle.loop_rules.proofs.Alike.{Alike, alike, alike_at, alike_then, quieted_same, closed_same}
 use Rattle.socket_list.specs.Sockets.{IsAt, line_of}
 use Rattle.watch_rules.specs.declared.phases.WatchPhase.TheVariants.{Running}
-use Rattle.watch_rules.specs.Views.{View}
+use Rattle.watch_rules.specs.Views.{View, start}
 use Rattle.watch_rules.specs.Hearing.{room_on, took_with}
 use Rattle.watch_rules.specs.After as A
 use Rattle.watch_rules.specs.Licence.{is_running, asks_shut}
 use Rattle.watch_rules.specs.Rules.{is_allowed, is_within, may_read_line, wants_read}
-use Rattle.watch_rules.specs.Histories.{IsHistory}
+use Rattle.watch_rules.specs.Histories.{AreTold}
 use Rattle.watch_rules.proofs.Told.{by_keeps}
 use Rattle.live_logger.specs.States.{WatchState, IsWatching, with_view}
 use Rattle.live_logger.specs.Going.{Goes, poll_count}
@@ -124,7 +124,7 @@ read_state before after w m k s at read buf ready wants within few on state = su
 
 -- what was told is a history, also where memory ran out after the read
 pub read_told : (before after : List Item) (w : WatchState) (k s : ℕ) (at : IsAt w.view.sockets k s) (read : SocketRead) (buf : List ℕ) → IsWatching before w → wants_read w.view at.0 ≡ true → TakesWithin read buf → length buf ≤ room_on w.view at.0 →
-    after ≡ before ++ read_item s read buf ∷ [] → IsHistory w.view.setting after
+    after ≡ before ++ read_item s read buf ∷ [] → AreTold (start w.view.setting) [] after
 read_told before after w k s at read buf ready wants within few on =
     history_on before after w.view (read_item s read buf) ready.told (read_opens before s read buf) (read_may before w k s at read buf ready wants within few) on
 

@@ -2,7 +2,7 @@
 use Rattle.std.proofs.Common.{◌≡◌, ℕ, zero, suc, ◌<◌, ◌≤◌, sym, ap, List, [], ◌∷◌, arith, length}
 use Rattle.std.specs.Prelude.{slice_get}
 use Rattle.std.proofs.lemmas.Option.{slice_get_past}
-use Rattle.watch_rules.specs.Streams.{Stream, room_at}
+use Rattle.log_streams.specs.Streams.{Stream, room_at}
 
 pub no_room : (ss : List Stream) (q n : ℕ) → length ss ≡ n → n ≤ q → 0 ≡ room_at (slice_get ss q)
 no_room ss q n e le = sym (ap room_at (slice_get_past ss q (omega (arith, e, le))))

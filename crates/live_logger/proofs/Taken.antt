@@ -15,16 +15,16 @@ use Rattle.socket_lines.specs.Lines.{doomed, is_named, unnamed_room}
 use Rattle.loop_rules.specs.Hearing.{ousted}
 use Rattle.loop_rules.specs.Told.{Differ}
 use Rattle.loop_rules.proofs.Alike.{Alike, alike_at, alike_map, differ_alike, ousted_same}
-use Rattle.socket_table.proofs.TablePairs.{map_at}
+use Rattle.socket_list.proofs.Pairs.{map_at}
 use Rattle.socket_list.specs.Sockets.{Sockets, IsAt, at_line, fed_line, greeted_line, with_name_free}
-use Rattle.watch_rules.specs.Streams.{Stream, count_of, gone_on, is_others, room_at, room_of, took, took_of, with_stream}
+use Rattle.log_streams.specs.Streams.{Stream, count_of, gone_on, is_others, room_at, room_of, took, took_of, with_stream}
 use Rattle.watch_rules.specs.Views.{View}
 use Rattle.watch_rules.specs.Hearing.{answer_to, greeted, heard, heard_first, logged, named, names, room_by, room_on, to_shut, took_by, with_sockets}
 use Rattle.watch_rules.specs.After.{on_line}
 use Rattle.watch_rules.specs.Rules.{wants_read}
 use Rattle.watch_rules.proofs.Told.{fed_same, heard_keeps}
 use Rattle.log_books.proofs.Lists.{same_get, set_beside, set_here}
-use Rattle.watch_rules.proofs.Streams.{count_more}
+use Rattle.log_streams.proofs.Streams.{count_more}
 use Rattle.live_logger.specs.Reading.{NoMoreReads, left_at, left_by, more_unnamed}
 use Rattle.live_logger.proofs.Places.{alike_back, at_alike, at_beside, at_here}
 

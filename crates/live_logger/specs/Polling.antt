@@ -4,10 +4,10 @@ use Rattle.socket_station.specs.declared.answers.Ready.{Ready}
 use Rattle.socket_station.specs.Items.{Item, Failed, PollCall, Polled}
 use Rattle.log_books.specs.Books.{is_agreed}
 use Rattle.watch_rules.specs.declared.phases.WatchPhase.TheVariants as P
-use Rattle.watch_rules.specs.Views.{View}
+use Rattle.watch_rules.specs.Views.{View, start}
 use Rattle.watch_rules.specs.Licence.{is_licensed}
 use Rattle.watch_rules.specs.Told.{IsTold}
-use Rattle.watch_rules.specs.Histories.{IsHistory}
+use Rattle.watch_rules.specs.Histories.{AreTold}
 use Rattle.live_logger.specs.declared.polling.WatchRound.{WatchRound}
 use Rattle.live_logger.specs.declared.polling.WatchRound.TheVariants.{On, Agreed, PollFault, NoMemory}
 use Rattle.live_logger.specs.States.{WatchState, IsWatching}
@@ -46,9 +46,10 @@ pub record Polls (done : Bool) (before after : List Item) (w m : WatchState) : T
 
 -- How a round ended. A poll was made at its end, which is licensed since the history allows it,
 -- and not every turn is agreed; or each is, all that is there was handled, and none was made; or a
--- poll failed at its end; or memory ran out, and what was told so far is a history all the same.
+-- poll failed at its end; or memory ran out, and what was told so far is told by the rules
+-- all the same.
 abbrev pub Rounds : WatchRound → (before after : List Item) → (w m : WatchState) → Type 0
 Rounds On before after w m = GoesBy 1 before after w m × IsWatching after m × (all_agreed m.view ≡ false) × LastIsPoll after
 Rounds Agreed before after w m = Goes before after w m × (all_agreed m.view ≡ true) × (is_licensed m.view ≡ true)
 Rounds PollFault before after w m = GoesBy 0 before after w m × (m.view.phase ≡ P.PollFault) × (all_agreed m.view ≡ false) × LastPollFailed after
-Rounds NoMemory before after w m = IsHistory w.view.setting after
+Rounds NoMemory before after w m = AreTold (start w.view.setting) [] after

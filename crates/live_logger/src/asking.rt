@@ -2,7 +2,7 @@
 
 ghost use Rattle.std.specs.Prelude.{◌≡◌, ◌<◌, false, Some, length, slice_get};
 ghost use Rattle.socket_lines.specs.declared.line.Line.{Line};
-ghost use Rattle.watch_rules.specs.Streams.{room_at};
+ghost use Rattle.log_streams.specs.Streams.{room_at};
 ghost use Rattle.watch_rules.specs.Hearing as H;
 ghost use Rattle.watch_rules.specs.Licence as L;
 ghost use Rattle.watch_rules.specs.Rules as R;

@@ -5,7 +5,7 @@ ghost use Rattle.std.specs.Prelude.{◌≡◌, ◌≤◌, false, true, Some, len
 ghost use Rattle.definitions.specs.World.{players_of};
 ghost use Rattle.socket_lines.specs.declared.line.Line.{Line};
 ghost use Rattle.socket_lines.specs.Lines.{closed, quieted, blocked, doomed};
-ghost use Rattle.socket_table.specs.Opening.{AreNewTo};
+ghost use Rattle.socket_list.specs.Opening.{AreNewTo};
 ghost use Rattle.socket_list.specs.Sockets.{IsAt, gave_line, polled_on};
 ghost use Rattle.watch_rules.specs.declared.phases.WatchPhase.TheVariants.{Running, PollFault};
 ghost use Rattle.watch_rules.specs.Hearing.{with_sockets};

@@ -6,7 +6,7 @@ ghost use Rattle.wire_frames.specs.Reading.{fed_step};
 ghost use Rattle.socket_lines.specs.declared.line.Line.{Line};
 ghost use Rattle.socket_lines.specs.Lines.{unnamed_room};
 ghost use Rattle.socket_list.specs.Sockets.{IsAt};
-ghost use Rattle.watch_rules.specs.Streams.{room_at};
+ghost use Rattle.log_streams.specs.Streams.{room_at};
 ghost use Rattle.watch_rules.specs.Hearing as H;
 ghost use Rattle.live_logger.specs.States.{with_view};
 

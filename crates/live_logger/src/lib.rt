@@ -21,7 +21,7 @@ mod shutting;
 mod watch;
 mod writing;
 
-pub use auditor::{Exhibit, Report};
+pub use auditor::{Auditor, Exhibit, Report};
 pub use polling::WatchRound;
 pub use rosters::Roster;
 pub use watch::Watch;

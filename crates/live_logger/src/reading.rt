@@ -1,11 +1,12 @@
 //! Sockets are read.
 
-ghost use Rattle.std.specs.Prelude.{◌≡◌, ◌≤◌, ◌<◌, false, true, Some, length, slice_get, OnOk, OnErr};
+ghost use Rattle.std.specs.Prelude.{◌≡◌, ◌≤◌, ◌<◌, [], false, true, Some, length, slice_get, OnOk, OnErr};
 ghost use Rattle.socket_lines.specs.declared.line.Line.{Line};
 ghost use Rattle.socket_station.specs.Withins.{TakesWithin};
 ghost use Rattle.socket_list.specs.Sockets.{IsAt};
 ghost use Rattle.watch_rules.specs.Hearing.{room_on};
-ghost use Rattle.watch_rules.specs.Histories.{IsHistory};
+ghost use Rattle.watch_rules.specs.Histories.{AreTold};
+ghost use Rattle.watch_rules.specs.Views.{start};
 ghost use Rattle.live_logger.specs.States.{IsWatching, with_view};
 ghost use Rattle.live_logger.specs.Reading as R;
 
@@ -59,7 +60,7 @@ impl Watch {
         requires ready { IsWatching (S.history station.old) self.old }
         requires wants { R.WantsAt self.old.view place }
         ensures all { OnOk result (R.Reads place (S.history station.old) (S.history station.new) self.old self.new) }
-        ensures memory { OnErr result (IsHistory self.old.view.setting (S.history station.new)) }
+        ensures memory { OnErr result (AreTold (start self.old.view.setting) [] (S.history station.new)) }
     {
         let most = MOST_TAKEN.min(self.board.room(place) as usize);
         let read = station.read(socket, &mut self.buffer[..most]);
@@ -76,7 +77,7 @@ impl Watch {
         requires at { IsAt self.old.view.sockets place socket }
         requires ready { IsWatching (S.history station.old) self.old }
         ensures all { OnOk result (R.ReadsOut place (S.history station.old) (S.history station.new) self.old self.new) }
-        ensures memory { OnErr result (IsHistory self.old.view.setting (S.history station.new)) }
+        ensures memory { OnErr result (AreTold (start self.old.view.setting) [] (S.history station.new)) }
     {
         while self.board.wants_read(place) {
             self.read(station, place, socket)?;
@@ -88,7 +89,7 @@ impl Watch {
     pub(crate) fn read_all<S: Station>(&mut self, station: &mut S) -> Result<(), AllocError>
         requires ready { IsWatching (S.history station.old) self.old }
         ensures all { OnOk result (R.ReadsAll (length self.new.view.sockets.lines) (S.history station.old) (S.history station.new) self.old self.new) }
-        ensures memory { OnErr result (IsHistory self.old.view.setting (S.history station.new)) }
+        ensures memory { OnErr result (AreTold (start self.old.view.setting) [] (S.history station.new)) }
     {
         for place in 0..self.board.count() {
             let socket = self.board.socket_at(place);

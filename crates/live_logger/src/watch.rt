@@ -1,13 +1,14 @@
 //! A live logger.
 
-ghost use Rattle.std.specs.Prelude.{◌≡◌, IfOk};
+ghost use Rattle.std.specs.Prelude.{◌≡◌, false, IfOk};
 ghost use Rattle.auditor.specs.Agreed.{AreOwned};
-ghost use Rattle.watch_rules.specs.Streams.{lists_of, owners_of};
+ghost use Rattle.auditor.specs.Audits.{StandsFor};
+ghost use Rattle.log_streams.specs.Streams.{lists_of, owners_of};
 ghost use Rattle.live_logger.specs.States.{LinksAll, new_watch};
 ghost use Rattle.live_logger.specs.Reports.{ReportsNow, ReportsTold, ExhibitsNow};
 
 use crate::board::Board;
-use auditor::{Exhibit, Report};
+use auditor::{Auditor, Exhibit, Report};
 use definitions::Finding;
 use grid_world::Session;
 use rosters::Roster;
@@ -50,6 +51,24 @@ impl Watch {
             buffer: [0; MOST_TAKEN],
             ready: ReadyList::new(),
         })
+    }
+
+    /// The session.
+    pub fn session(&self) -> &Session
+        ensures { result.now ≡ self.now.view.setting.game }
+    {
+        self.board.books.session()
+    }
+
+    /// The auditor that took what came, for whoever prints what it shows. It stands for the lists that
+    /// the history gives.
+    pub fn auditor(&self) -> &Auditor
+        ensures now { self.now.is_out_of_memory ≡ false → StandsFor self.now.view.setting.game (owners_of self.now.view.setting.game self.now.view.streams) (lists_of self.now.view.setting.game self.now.view.streams) result.now }
+
+        // So the counts of agreed turns are those of the definitions.
+        ensures owned { AreOwned self.now.view.setting.game (owners_of self.now.view.setting.game self.now.view.streams) (lists_of self.now.view.setting.game self.now.view.streams) }
+    {
+        self.board.books.auditor()
     }
 
     /// The report on the logs as far as they came: that on the lists that the history gives, as if

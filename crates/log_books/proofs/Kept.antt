@@ -9,7 +9,7 @@ use Rattle.definitions.specs.World.{Game, players_of}
 use Rattle.definition_laws.proofs.Nexts.{some_at}
 use Rattle.auditor.specs.Audits.{AuditState}
 use Rattle.auditor.specs.Taking.{IsFeeding}
-use Rattle.watch_rules.specs.Streams.{Stream, count_at, count_of, feeding_of, no_streams, room_at, room_of, took, took_of, with_stream}
+use Rattle.log_streams.specs.Streams.{Stream, count_at, count_of, feeding_of, no_streams, room_at, room_of, took, took_of, with_stream}
 use Rattle.log_books.specs.declared.pages.Page.{Page}
 use Rattle.log_books.specs.Pages.{GoesOn, IsPageOf}
 use Rattle.log_books.specs.Books.{StandFor, StandIfWhole, BooksState, streams_by, with_note}

@@ -12,7 +12,7 @@ use Rattle.evidence.proofs.Showing.{item_there}
 use Rattle.session_log.proofs.ReadSo.{read_well_formed}
 use Rattle.auditor.specs.Agreed.{AreOwned}
 use Rattle.auditor.specs.Reports.{IsReportOf, Reported, agreed_by}
-use Rattle.watch_rules.specs.Streams.{Stream, bytes_of, entries_of, lists_of, owner_of, owners_of}
+use Rattle.log_streams.specs.Streams.{Stream, bytes_of, entries_of, lists_of, owner_of, owners_of}
 use Rattle.log_books.specs.Books.{is_agreed, is_agreed_by, is_agreed_of, is_whole_by}
 use Rattle.log_books.proofs.Lists.{all_as, same_get}
 

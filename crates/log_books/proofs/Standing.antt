@@ -14,12 +14,12 @@ use Rattle.frame_index.specs.declared.limits.TheConstants.{MOST_LOGS}
 use Rattle.frame_index.specs.Appended.{with_entry}
 use Rattle.auditor.specs.Audits.{AuditState, IsAuditOf, count_in, owner_in, padded}
 use Rattle.auditor.specs.Taking.{with_entries}
-use Rattle.watch_rules.specs.Streams.{Stream, entries_of, lists_of, no_stream, no_streams, owner_of, owners_of}
+use Rattle.log_streams.specs.Streams.{Stream, entries_of, lists_of, no_stream, no_streams, owner_of, owners_of}
 use Rattle.log_books.specs.declared.pages.Page.{Page}
 use Rattle.log_books.specs.Pages.{GoesOn, IsPageOf}
 use Rattle.log_books.specs.Books.{AreNew, IsNewPage, StandFor}
 use Rattle.log_books.proofs.Lists.{item_beside, repeated_is, repeated_item, repeated_map, same_get, set_beside, set_here, set_same}
-use Rattle.watch_rules.proofs.Streams.{none_of}
+use Rattle.log_streams.proofs.Pieces.{nothing_read}
 
 -- ---- entries at the end of one of several logs
 
@@ -114,7 +114,7 @@ pub stand_new : (game : Game) (a : AuditState) (pages : List Page) → AreNew ga
 stand_new game a pages new audit counts owners =
     let few = new.few in
     let n : ℕ = players_of game in
-    let lists : lists_of game (no_streams game) ≡ replicate n [] = repeated_map (entries_of game) n no_stream ∙ ap (replicate n) (none_of game) in
+    let lists : lists_of game (no_streams game) ≡ replicate n [] = repeated_map (entries_of game) n no_stream ∙ ap (replicate n) (nothing_read game) in
     let long : length (lists_of game (no_streams game)) ≡ n = ap (λ (x : List (List Entry)). length x) lists ∙ length-replicate n (let nil : List Entry = [] in nil) in
     let all : n + (MOST_LOGS - n) ≡ MOST_LOGS = omega (arith, few) in
     record {

@@ -8,10 +8,10 @@ use Rattle.session_log.specs.Fed.{IsFeedOf}
 use Rattle.session_log.specs.Feeding.{LogFeeding, given_of}
 use Rattle.auditor.specs.Audits.{AuditState, owner_in}
 use Rattle.auditor.specs.Taking.{IsFeeding, LeavesOthers, TakesAll}
-use Rattle.watch_rules.specs.Streams.{Stream, count_of, entries_of, feeding_of, gone_on, is_others, took}
+use Rattle.log_streams.specs.Streams.{Stream, count_of, entries_of, feeding_of, gone_on, is_others, took}
 use Rattle.log_books.specs.declared.pages.Page.{Page}
 use Rattle.log_books.specs.Pages.{GoesOn, IsPageOf, begins_others}
-use Rattle.watch_rules.proofs.Streams.{count_more, entries_more, feeding_more, owner_is}
+use Rattle.log_streams.proofs.Streams.{count_more, entries_more, feeding_more, owner_is}
 
 others_test : (game : Game) (a : AuditState) (q : ℕ) (s : Stream) (p : Page) (bytes : List ℕ) → IsPageOf game a q s p → begins_others p q bytes ≡ ((count_of s == 0) && is_others q bytes)
 others_test game a q s p bytes w = ap (λ (n : ℕ). (n == 0) && is_others q bytes) w.count

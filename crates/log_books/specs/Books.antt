@@ -13,7 +13,7 @@ use Rattle.auditor.specs.Agreed.{agreed_count}
 use Rattle.auditor.specs.Exhibits.{IsExhibitOf}
 use Rattle.auditor.specs.Reports.{IsReportOf, Reported, agreed_by}
 use Rattle.auditor.specs.Audits.{AuditState, StandsFor, count_in}
-use Rattle.watch_rules.specs.Streams.{Stream, lists_of, no_stream, no_streams, owners_of, took_of}
+use Rattle.log_streams.specs.Streams.{Stream, lists_of, no_stream, no_streams, owners_of, took_of}
 use Rattle.log_books.specs.declared.pages.Page.{Page}
 use Rattle.log_books.specs.Pages.{IsPageOf}
 

@@ -6,7 +6,7 @@ use Rattle.definitions.specs.World.{Game}
 use Rattle.session_log.specs.Fed.{IsFeedOf}
 use Rattle.auditor.specs.Audits.{AuditState, count_in, owner_in}
 use Rattle.auditor.specs.Taking.{LeavesOthers, Takes}
-use Rattle.watch_rules.specs.Streams.{Stream, count_of, entries_of, feeding_of, is_others, owner_of}
+use Rattle.log_streams.specs.Streams.{Stream, count_of, entries_of, feeding_of, is_others, owner_of}
 use Rattle.log_books.specs.declared.pages.Page.{Page}
 
 -- these are the first bytes of the log, and of another player

@@ -2,8 +2,9 @@
 
 ghost use Rattle.std.specs.Prelude.{◌≡◌, ◌≤◌, ◌<◌, false, true, length, slice_get, IfOk, OnOk, OnErr};
 ghost use Rattle.definitions.specs.World.{players_of};
+ghost use Rattle.auditor.specs.Audits.{StandsFor};
 ghost use Rattle.log_books.specs.Books as B;
-ghost use Rattle.watch_rules.specs.Streams.{count_at, no_streams, room_at, took_of};
+ghost use Rattle.log_streams.specs.Streams.{count_at, lists_of, no_streams, owners_of, room_at, took_of};
 
 use crate::pages::{Page, take};
 use auditor::{Auditor, Exhibit, Report};
@@ -119,6 +120,13 @@ impl Books {
         );
         self.is_out_of_memory = taken.is_err();
         taken
+    }
+
+    /// The auditor that took the entries, which stands for the lists that the streams give.
+    pub fn auditor(&self) -> &Auditor
+        ensures { self.now.is_out_of_memory ≡ false → StandsFor self.now.game (owners_of self.now.game self.now.streams) (lists_of self.now.game self.now.streams) result.now }
+    {
+        &self.auditor
     }
 
     /// What the logs show together, as far as they came. It takes memory from `alloc`, and an

@@ -4,7 +4,7 @@ ghost use Rattle.std.specs.Prelude.{◌≡◌, ℕ, ◌≤◌, ◌<◌, ◌+◌,
 ghost use Rattle.definitions.specs.World.{Game};
 ghost use Rattle.auditor.specs.Audits.{AuditState, count_in};
 ghost use Rattle.auditor.specs.Taking.{IsFeeding};
-ghost use Rattle.watch_rules.specs.Streams.{Stream, no_stream, room_of, took};
+ghost use Rattle.log_streams.specs.Streams.{Stream, no_stream, room_of, took};
 ghost use Rattle.log_books.specs.Pages as P;
 
 use auditor::{Auditor, MOST_LOGS};

@@ -17,6 +17,7 @@ use Rattle.session_log.specs.Fed.{Fed, IsFeedOf}
 use Rattle.session_log.specs.Feeding.{LogFeeding, finished, given_of}
 use Rattle.session_log.specs.Laws as L
 use Rattle.session_log.specs.Reading.{Ending, fault_at, read_log}
+use Rattle.log_streams.specs.Streams.{entries_in}
 use Rattle.auditor.specs.Audits.{AuditState, owner_in}
 use Rattle.auditor.specs.Taking.{LeavesOthers, Takes, TakesSome}
 use Rattle.auditor.proofs.Fed.{takes_more}
@@ -24,7 +25,7 @@ use Rattle.log_files.specs.declared.faults.FileFault.{FileFault}
 use Rattle.log_files.specs.declared.faults.FileFault.TheVariants.{Bad, Failed, Memory}
 use Rattle.log_files.specs.declared.taking.LogTaken.{LogTaken}
 use Rattle.log_files.specs.declared.taking.LogTaken.TheVariants as became
-use Rattle.log_files.specs.Logs.{entries_in, fault_of, fault_said, log_fault, taken_by, taken_of}
+use Rattle.log_files.specs.Logs.{fault_of, fault_said, log_fault, taken_by, taken_of}
 use Rattle.log_files.specs.Pieces.{TakesPiece}
 use Rattle.log_files.specs.Taken.{IsAnswer, IsTakenInPart, TakesLog, file_entries, is_failed}
 use Rattle.log_files.proofs.Calls.{calls_entries, calls_read, entries_front, entries_none, given_by_calls}

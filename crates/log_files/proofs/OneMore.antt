@@ -18,12 +18,13 @@ use Rattle.line_io.specs.Files.{AreContents, AreReadings, Calls, Contents, Reads
 use Rattle.line_io.proofs.Unread.{behind_are, none_at, none_in_turn, none_read, none_readings}
 use Rattle.frame_index.specs.declared.limits.TheConstants.{MOST_LOGS}
 use Rattle.session_log.specs.Laws as L
+use Rattle.log_streams.specs.Streams.{entries_in}
 use Rattle.auditor.specs.Audits.{AuditState, IsAuditOf, StandsFor, owner_in, padded}
 use Rattle.auditor.specs.Taking.{LeavesOthers, Takes, with_entries}
 use Rattle.auditor.proofs.Behind.{item_last, item_more, next_log}
 use Rattle.log_files.specs.declared.faults.FileFault.{FileFault}
 use Rattle.log_files.specs.declared.faults.FileFault.TheVariants as file
-use Rattle.log_files.specs.Logs.{entries_in, log_fault, taken_of}
+use Rattle.log_files.specs.Logs.{log_fault, taken_of}
 use Rattle.log_files.specs.Taken.{IsAnswer, IsTaken, IsThere, TakesLog, is_failed}
 use Rattle.log_files.specs.Several.{AreAnswered, FaultyLog, TakesFiles, TakesLogs, first_bytes, first_fault, is_shelf_failed, logs_in, of_log, owners_in, stopped_by}
 use Rattle.log_files.specs.declared.taking.LogTaken.{LogTaken}

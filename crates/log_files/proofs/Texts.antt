@@ -19,12 +19,13 @@ use Rattle.session_log.specs.Laws as L
 use Rattle.session_log.specs.Reading.{Ending, fault_at, read_log}
 use Rattle.session_log.proofs.Pieces.{log_pieces_same}
 use Rattle.session_log.proofs.ReadSo.{read_is_log, read_well_formed}
+use Rattle.log_streams.specs.Streams.{entries_in}
 use Rattle.evidence.specs.Laws.{IsLogOf}
 use Rattle.auditor.specs.Agreed.{AreOwned}
 use Rattle.auditor.specs.Audits.{AuditState, StandsFor, owner_in}
 use Rattle.auditor.specs.Reports.{IsReportOf, Reported, found_in}
 use Rattle.auditor.specs.Taking.{LeavesOthers, Takes, TakesAll}
-use Rattle.log_files.specs.Logs.{entries_in, fault_of, log_fault}
+use Rattle.log_files.specs.Logs.{fault_of, log_fault}
 use Rattle.log_files.specs.Several.{FaultyLog, of_log}
 use Rattle.log_files.specs.Taken.{IsTaken, IsUntaken}
 use Rattle.log_files.proofs.Ended.{fault_short}

@@ -7,10 +7,11 @@ use Rattle.definitions.specs.Findings.{findings}
 use Rattle.session_log.specs.declared.faults.LogFault.{LogFault}
 use Rattle.session_log.specs.Laws as L
 use Rattle.session_log.specs.Reading.{fault_at}
+use Rattle.log_streams.specs.Streams.{entries_in}
 use Rattle.auditor.specs.Agreed.{agreed_count, world}
 use Rattle.auditor.specs.Audits.{AuditState, StandsFor}
 use Rattle.auditor.specs.Reports.{Reported, agreed_by, found_in, world_by}
-use Rattle.log_files.specs.Logs.{entries_in, log_fault}
+use Rattle.log_files.specs.Logs.{log_fault}
 use Rattle.log_files.specs.Several.{FaultyLog, of_log}
 use Rattle.log_files.specs.declared.audits.AuditFault.{AuditFault}
 use Rattle.log_files.specs.declared.audits.AuditFault.TheVariants.{BadLog, Memory}

@@ -1,7 +1,6 @@
 -- Logs: what bytes are as a log of a session, and what is answered of them.
 use Rattle.std.specs.Prelude.{ℕ, List, Option, None, Some, Result, Ok, Err, length, nat_lt, if◌then◌else◌}
 use Rattle.definitions.specs.declared.limits.TheConstants.{LONGEST_LOG}
-use Rattle.definitions.specs.declared.logs.Entry.{Entry}
 use Rattle.definitions.specs.declared.logs.LogWhy.TheVariants.{TooLong}
 use Rattle.definitions.specs.World.{Game}
 use Rattle.session_log.specs.declared.faults.LogFault.{LogFault}
@@ -10,10 +9,6 @@ use Rattle.log_files.specs.declared.faults.FileFault.{FileFault}
 use Rattle.log_files.specs.declared.faults.FileFault.TheVariants as file
 use Rattle.log_files.specs.declared.taking.LogTaken.{LogTaken}
 use Rattle.log_files.specs.declared.taking.LogTaken.TheVariants.{Whole, Bad, Failed, Memory}
-
--- the entries before the first fault
-abbrev pub entries_in : Game → List ℕ → List Entry
-entries_in game bytes = (read_log game bytes).entries
 
 -- the fault with which a log ends, if it does
 abbrev pub fault_of : Ending → Option LogFault

@@ -9,8 +9,9 @@ use Rattle.station.specs.Shelves.{ShelfState}
 use Rattle.line_io.specs.Files.{AreContents, Calls, Contents, ReadsFiles, behind_first}
 use Rattle.session_log.specs.declared.faults.LogFault.{LogFault}
 use Rattle.session_log.specs.Laws as L
+use Rattle.log_streams.specs.Streams.{entries_in}
 use Rattle.auditor.specs.Audits.{AuditState, StandsFor}
-use Rattle.log_files.specs.Logs.{entries_in, log_fault}
+use Rattle.log_files.specs.Logs.{log_fault}
 use Rattle.log_files.specs.declared.faults.FileFault.{FileFault}
 use Rattle.log_files.specs.declared.faults.FileFault.TheVariants as file
 use Rattle.log_files.specs.declared.several.LogsTaken.{LogsTaken}

@@ -10,9 +10,10 @@ use Rattle.station.specs.Since.{since}
 use Rattle.line_io.specs.Fronts.{Fetched, bytes_read}
 use Rattle.session_log.specs.Laws as L
 use Rattle.session_log.specs.Reading.{fault_at}
+use Rattle.log_streams.specs.Streams.{entries_in}
 use Rattle.auditor.specs.Audits.{AuditState, count_in, owner_in}
 use Rattle.auditor.specs.Taking.{LeavesOthers, Takes}
-use Rattle.log_files.specs.Logs.{entries_in, log_fault}
+use Rattle.log_files.specs.Logs.{log_fault}
 use Rattle.log_files.specs.declared.taking.LogTaken.{LogTaken}
 use Rattle.log_files.specs.declared.taking.LogTaken.TheVariants.{Whole, Bad, Failed, Memory}
 

@@ -52,7 +52,7 @@ use Rattle.ready_loop.proofs.ReadOnce.{ReadsAt, read_goes, reads_once}
 use Rattle.socket_table.specs.Finding.{IsAt}
 use Rattle.ready_loop.proofs.Heard.{next_few, pass_hears}
 use Rattle.ready_loop.proofs.Fits.{fit_grown, fit_table}
-use Rattle.socket_table.proofs.Changed.{each_at}
+use Rattle.socket_list.proofs.Lists.{each_at}
 
 pub no_fault : (p : Phase) → p ≡ Running → p ≡ KeepFault → ⊥
 no_fault p e f = (let q : Running ≡ KeepFault = sym e ∙ f in cc)

@@ -22,8 +22,8 @@ use Rattle.loop_rules.specs.Rules.{is_allowed, may_dial_at, wants_dial}
 use Rattle.loop_rules.specs.After as A
 use Rattle.loop_rules.specs.Told.{DiffersBy, IsNotIn, IsTold}
 use Rattle.loop_rules.proofs.Told.{not_in_fresh}
-use Rattle.socket_table.proofs.Keys.{found_at}
-use Rattle.socket_table.proofs.TablePairs.{count_cons}
+use Rattle.socket_list.proofs.Keys.{found_at}
+use Rattle.socket_list.proofs.Pairs.{count_cons}
 use Rattle.ready_loop.specs.States.{LoopState, base_of, view_of}
 use Rattle.ready_loop.specs.Steps.{with_table}
 use Rattle.ready_loop.specs.Going.{IsIdle, poll_count, undialled}

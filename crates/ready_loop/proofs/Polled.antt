@@ -21,7 +21,7 @@ use Rattle.loop_rules.specs.After.{listed, rested, polled_on}
 use Rattle.loop_rules.specs.Told.{DiffersBy, LineStands, IsTold}
 use Rattle.loop_rules.proofs.Told.{told_goes_on, not_in_fresh}
 use Rattle.loop_rules.specs.Handling.{IsOfOther}
-use Rattle.socket_table.specs.Opening.{AreNewTo}
+use Rattle.socket_list.specs.Opening.{AreNewTo}
 use Rattle.ready_loop.specs.States.{LoopState, IsFit, IsOthers, base_of, view_of}
 use Rattle.session_log.specs.Writing.{Writing}
 use Rattle.ready_loop.proofs.Fits.{fit_put}

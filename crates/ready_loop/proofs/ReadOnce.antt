@@ -27,8 +27,8 @@ use Rattle.socket_table.specs.Staying.{left_on, SeatsSame, more_unnamed}
 use Rattle.socket_table.proofs.Seats.{took_seats, seats_same, same_undialled}
 use Rattle.socket_table.proofs.ReadingRooms.{took_calm}
 use Rattle.socket_table.proofs.Rooms.{took_left}
-use Rattle.socket_table.proofs.TablePairs.{map_at}
-use Rattle.socket_table.proofs.Keys.{found_at}
+use Rattle.socket_list.proofs.Pairs.{map_at}
+use Rattle.socket_list.proofs.Keys.{found_at}
 use Rattle.ready_loop.proofs.Places.{sockets_same}
 use Rattle.ready_loop.specs.declared.stops.Stop.{Stop}
 use Rattle.ready_loop.specs.States.{LoopState, base_of, view_of}

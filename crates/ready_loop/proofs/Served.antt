@@ -16,8 +16,8 @@ use Rattle.loop_rules.specs.Told.{Differ, LineStands, IsTold}
 use Rattle.loop_rules.proofs.Told.{told_goes_on}
 use Rattle.socket_table.specs.Finding.{IsAt}
 use Rattle.socket_table.specs.Staying.{Milder}
-use Rattle.socket_table.proofs.Keys.{found_at}
-use Rattle.socket_table.proofs.TablePairs.{map_at}
+use Rattle.socket_list.proofs.Keys.{found_at}
+use Rattle.socket_list.proofs.Pairs.{map_at}
 use Rattle.socket_table.proofs.Milder.{milder, milder_then, closed_milder}
 use Rattle.ready_loop.specs.States.{LoopState, base_of, view_of}
 use Rattle.ready_loop.specs.Steps.{with_table}
@@ -26,7 +26,7 @@ use Rattle.ready_loop.specs.Serving.{IsServing, Serves, Shuts, ShutsAll}
 use Rattle.ready_loop.proofs.Going.{goes_one, goes_still, goes_then}
 use Rattle.ready_loop.proofs.Idle.{still_view, idle_view, serves_on}
 use Rattle.ready_loop.proofs.Places.{all_places}
-use Rattle.socket_table.proofs.Changed.{each_at}
+use Rattle.socket_list.proofs.Lists.{each_at}
 
 -- one call was made that the rules allow, and the table is this one behind it
 pub record OneCall (before : List Item) (item : Item) (l : LoopState) (u : Table) : Type 0 where

@@ -31,7 +31,7 @@ use Rattle.loop_rules.specs.Views.{safe_frames}
 use Rattle.loop_rules.specs.After as A
 use Rattle.loop_rules.specs.Told.{Differ, DiffersBy}
 use Rattle.socket_table.specs.Staying.{Milder, SeatsSame, work_on}
-use Rattle.socket_table.proofs.TablePairs.{map_at}
+use Rattle.socket_list.proofs.Pairs.{map_at}
 use Rattle.socket_table.proofs.Seats.{gave_seats, seats_same, same_undialled}
 use Rattle.socket_table.proofs.Milder.{gave_milder, closed_milder, blocked_milder}
 use Rattle.socket_table.proofs.Work.{due_few, gave_less, gave_desk}

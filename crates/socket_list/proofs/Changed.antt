@@ -4,18 +4,19 @@ use Rattle.std.specs.Prelude.{Some, ◌&&◌, drop, map, not, take, slice_get}
 use Rattle.std.proofs.lemmas.Bool.{and_parts, false≢true}
 use Rattle.std.proofs.lemmas.Option.{get_or_from_slice_get}
 use Rattle.std.proofs.lemmas.List.{length-map}
-use Rattle.plain_lemmas.proofs.Each.{each_kept, each_map, each_set}
+use Rattle.plain_lemmas.proofs.Each.{each_set}
 use Rattle.plain_lemmas.proofs.Tests.{of_chosen}
 use Rattle.definitions.specs.Lists.{EachIs}
 use Rattle.socket_lines.specs.declared.line.Line.{Line}
 use Rattle.socket_lines.specs.Lines.{doomed, is_named}
 use Rattle.loop_rules.specs.Hearing.{ousted}
 use Rattle.loop_rules.proofs.Alike.{Same, Alike, alike_map, differ_alike}
-use Rattle.socket_table.proofs.Changed.{alike_set, each_at, whole_written}
-use Rattle.socket_table.proofs.Counting.{count_alike, length_alike}
-use Rattle.socket_table.proofs.Keys.{put_at}
-use Rattle.socket_list.specs.Sockets.{Sockets, IsAt, at_line, with_name_free}
+use Rattle.socket_list.specs.Sockets.{Sockets, IsAt, at_line}
 use Rattle.socket_list.specs.Sound.{IsFit, IsSound, is_fine}
+use Rattle.socket_list.proofs.Lists.{each_at, each_mapped, whole_written}
+use Rattle.socket_list.proofs.Keys.{put_at}
+use Rattle.socket_list.proofs.Counting.{count_alike, length_alike}
+use Rattle.socket_list.proofs.OneLine.{alike_set}
 
 -- ---- how many are fine
 
@@ -68,14 +69,11 @@ line_fits t v room k l e s g = each_at IsFit t.lines k l s.fit (ap (λ (w : Sock
 
 -- ---- all lines, written over in their list
 
-each_mapped : (f : Line → Line) → ((l : Line) → IsFit l → IsFit (f l)) → (ls : List Line) → EachIs IsFit ls → EachIs IsFit (map f ls)
-each_mapped f k ls e = (each_map IsFit f ls).1 (each_kept IsFit (λ l. IsFit (f l)) ls k e)
-
 pub all_changed : (t v : Sockets) (room : ℕ) (f : Line → Line) (ms : List Line) (n : ℕ) → t ≡ v → IsSound t room → ((l : Line) → Same l (f l)) → ((l : Line) → IsFit l → IsFit (f l)) → ms ≡ map f t.lines → n ≡ length t.lines →
     IsSound (record t { lines = take n (ms ++ drop (length ms) t.lines) }) room × (record t { lines = take n (ms ++ drop (length ms) t.lines) } ≡ record v { lines = map f v.lines })
 all_changed t v room f ms n e s kind fit m k =
     let whole = whole_written t.lines ms n (ap (λ (x : List Line). length x) m ∙ length-map t.lines f) k ∙ m in (
-      subst (λ (x : List Line). IsSound (record t { lines = x }) room) (sym whole) (sound_alike t room (map f t.lines) (alike_map f kind t.lines) (each_mapped f fit t.lines s.fit) s),
+      subst (λ (x : List Line). IsSound (record t { lines = x }) room) (sym whole) (sound_alike t room (map f t.lines) (alike_map f kind t.lines) (each_mapped IsFit f fit t.lines s.fit) s),
       ap (λ (x : List Line). record t { lines = x }) whole ∙ ap (λ (w : Sockets). record w { lines = map f w.lines }) e,
     )
 

@@ -1,13 +1,12 @@
 -- Opened: sockets that open, and what a poll does to a list of them.
 use Rattle.std.proofs.Common.{◌≡◌, ℕ, ◌+◌, ◌<◌, ◌≤◌, Bool, true, false, refl, sym, ap, subst, ◌∙◌, List, [], ◌∷◌, ◌++◌, arith, length, get_or}
-use Rattle.std.specs.Prelude.{◌==◌, ◌&&◌, ◌||◌, cond, drop, filter, nat_lt, not, if◌then◌else◌}
+use Rattle.std.specs.Prelude.{◌==◌, ◌&&◌, cond, drop, filter, nat_lt, not, if◌then◌else◌}
 use Rattle.std.specs.List.{count_by, fold, list_all}
 use Rattle.std.proofs.lemmas.Bool.{and_parts, false≢true}
 use Rattle.std.proofs.lemmas.List.{drop_more}
 use Rattle.std.proofs.lemmas.List.Sums.{length-filter, count_by-le-length}
 use Rattle.plain_lemmas.proofs.Each.{each_push}
 use Rattle.plain_lemmas.proofs.Tests.{of_chosen}
-use Rattle.definitions.specs.Lists.{EachIs}
 use Rattle.socket_station.specs.declared.answers.Ready.{Ready}
 use Rattle.socket_station.specs.declared.answers.Ready.TheVariants.{Opened, Socket as Seems}
 use Rattle.socket_station.specs.declared.ready_list.TheConstants.{MOST_READY}
@@ -18,14 +17,14 @@ use Rattle.loop_rules.specs.Tables.{in_lines}
 use Rattle.loop_rules.specs.Told.{IsNotIn}
 use Rattle.loop_rules.proofs.Told.{kept_open, differ_open, differ_last}
 use Rattle.loop_rules.proofs.Alike.{alike_map}
-use Rattle.socket_table.specs.Opening.{AreNewTo}
-use Rattle.socket_table.proofs.Counting.{length_alike, length_more}
-use Rattle.socket_table.proofs.Opened.{count_last, woken_same}
-use Rattle.socket_table.proofs.Staying.{new_first, new_to_alike, new_to_more, new_to_open}
-use Rattle.socket_table.proofs.TablePairs.{count_cons}
 use Rattle.socket_list.specs.declared.sockets.TheConstants.{MOST_SOCKETS}
+use Rattle.socket_list.specs.Opening.{AreNewTo}
 use Rattle.socket_list.specs.Sockets.{Sockets, at_line, listed, opened_on, rested}
 use Rattle.socket_list.specs.Sound.{IsFit, IsSound, is_fine, none_wrong}
+use Rattle.socket_list.proofs.Pairs.{count_cons}
+use Rattle.socket_list.proofs.Counting.{count_last, count_open, length_alike, length_more}
+use Rattle.socket_list.proofs.OneLine.{woken_same}
+use Rattle.socket_list.proofs.Listed.{new_first, new_to_alike, new_to_more, new_to_open}
 
 -- ---- a socket that was listed
 
@@ -57,17 +56,6 @@ sound_open t room cap s wrong n ms w more new few e low most one = subst (λ (ls
         omega (arith, m, old, more_one)
 
 -- ---- closed ones go
-
-count_open : (p : Line → Bool) (ls : List Line) → count_by p (filter (λ l. l.is_open) ls) ≤ count_by p ls
-count_open p [] = omega arith
-count_open p (l ∷ ls) = go l.is_open (count_open p ls)
-  where
-    go : (b : Bool) → count_by p (filter (λ m. m.is_open) ls) ≤ count_by p ls → count_by p (if b then l ∷ filter (λ m. m.is_open) ls else filter (λ m. m.is_open) ls) ≤ count_by p (l ∷ ls)
-    go true r =
-        let a = count_cons p l (filter (λ m. m.is_open) ls) in
-        let b = count_cons p l ls in
-        omega (arith, a, b, r)
-    go false r = let b = count_cons p l ls in omega (arith, b, r)
 
 -- those that stay are fine, where none is left to be shut
 all_fine : (ls : List Line) → list_all (λ l. not (l.is_open && l.is_wrong)) ls ≡ true → count_by (λ l. l.is_open) ls ≤ count_by is_fine ls

@@ -1,12 +1,12 @@
 //! A first frame comes on a socket, which gets its name by it.
 
-ghost use Rattle.std.specs.Prelude.{◌≡◌, ◌≤◌, ◌<◌, ◌+◌, ◌^◌, Some, length, map, slice_get};
+ghost use Rattle.std.specs.Prelude.{◌≡◌, ◌≤◌, ◌<◌, ◌+◌, ◌^◌, Some, length, slice_get};
 ghost use Rattle.wire_frames.specs.Reading.{fed_step};
 ghost use Rattle.socket_lines.specs.declared.line.Line.{Line};
 ghost use Rattle.socket_lines.specs.Lines.{unnamed_room};
-ghost use Rattle.loop_rules.specs.Hearing.{ousted};
 ghost use Rattle.socket_list.specs.Sockets.{IsAt, at_line, fed_line, greeted_line, with_name_free};
 
+use crate::lines::oust_all;
 use crate::sockets::Sockets;
 use definitions::PlayerId;
 use socket_lines::Line;
@@ -31,24 +31,6 @@ fn greet_line(line: &mut Line, player: PlayerId, frame: &Frame)
 {
     line.name = Some(player);
     line.unsent.put(frame);
-}
-
-/// The socket is to be shut, if it has the player's name.
-fn oust(line: &mut Line, player: PlayerId)
-    ensures { line.new ≡ ousted player line.old }
-{
-    if line.is_named(player) {
-        line.doom();
-    }
-}
-
-/// Those that have the player's name are to be shut.
-fn oust_all(lines: &mut [Line], player: PlayerId)
-    ensures { lines.new ≡ map (ousted player) lines.old }
-{
-    for line in lines.iter_mut() {
-        oust(line, player);
-    }
 }
 
 impl Sockets {

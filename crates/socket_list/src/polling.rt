@@ -1,60 +1,18 @@
 //! A poll is made, and sockets open.
 
-ghost use Rattle.std.specs.Prelude.{◌≡◌, ◌≤◌, ◌<◌, ◌∷◌, [], ◌++◌, ◌==◌, if◌then◌else◌, true, filter, length, vec_capacity, vec_len};
+ghost use Rattle.std.specs.Prelude.{◌≡◌, ◌≤◌, ◌<◌, ◌∷◌, [], true, length};
 ghost use Rattle.socket_lines.specs.Lines.{woken};
-ghost use Rattle.loop_rules.specs.Tables.{in_lines};
 ghost use Rattle.loop_rules.specs.Told.{IsNotIn};
-ghost use Rattle.socket_table.specs.Opening.{AreNewTo};
 ghost use Rattle.socket_list.specs.declared.sockets.TheConstants.{MOST_SOCKETS};
+ghost use Rattle.socket_list.specs.Opening.{AreNewTo};
 ghost use Rattle.socket_list.specs.Sockets.{at_line, opened_on, listed, rested, polled_on};
 ghost use Rattle.socket_list.specs.Sound.{none_wrong};
 
+use crate::lines::{add, drop_closed, wake_all};
 use crate::sockets::Sockets;
 use socket_lines::{Line, MOST_ACCEPTED};
 use socket_station::ready_list::MOST_READY;
 use socket_station::{Ready, SocketId};
-
-/// Adds the line at the end, for which there is room.
-fn add(list: &mut Vec<Line>, line: Line)
-    requires { vec_len list.old < vec_capacity list.old }
-    ensures items { list.new.items ≡ list.old.items ++ line ∷ [] }
-    ensures capacity { vec_capacity list.old ≤ vec_capacity list.new }
-{
-    list.push(line).unwrap();
-}
-
-/// A socket that was listed may be read and written again.
-fn wake(line: &mut Line, socket: SocketId)
-    ensures { line.new ≡ (if line.old.socket == socket then woken line.old else line.old) }
-{
-    if line.socket == socket {
-        line.wake();
-    }
-}
-
-/// The same of all lines.
-fn wake_all(lines: &mut [Line], socket: SocketId)
-    ensures { lines.new ≡ in_lines socket woken lines.old }
-{
-    for line in lines.iter_mut() {
-        wake(line, socket);
-    }
-}
-
-/// Closed sockets go.
-fn drop_closed(lines: &mut Vec<Line>)
-    ensures items { lines.new.items ≡ filter (λ l. l.is_open) lines.old.items }
-    ensures capacity { vec_capacity lines.new ≡ vec_capacity lines.old }
-{
-    let mut at = 0;
-    while at < lines.len() {
-        if lines[at].is_open {
-            at += 1;
-        } else {
-            lines.remove(at);
-        }
-    }
-}
 
 impl Sockets {
     /// A socket that was listed may be read and written again.

@@ -4,36 +4,29 @@ use Rattle.std.specs.Prelude.{Option, Some, None, ◌==◌, cond, drop, find, is
 use Rattle.std.specs.List.{count_by}
 use Rattle.std.proofs.lemmas.Bool.{false≢true, ltb-true}
 use Rattle.std.proofs.lemmas.Option.{get_or_from_slice_get}
-use Rattle.std.proofs.Math.Seq.{take-append_seam}
-use Rattle.std.proofs.lemmas.List.{length-set}
+use Rattle.std.proofs.lemmas.List.{length-map, length-set}
 use Rattle.plain_lemmas.proofs.Each.{each_set}
+use Rattle.plain_lemmas.proofs.Tests.{of_chosen}
 use Rattle.definitions.specs.Lists.{EachIs}
 use Rattle.socket_lines.specs.Lines.{doomed, named_line, is_named, moved_to, unnamed_room}
 use Rattle.socket_lines.specs.Asks.{is_asked}
 use Rattle.socket_lines.specs.Seats as S
 use Rattle.wire_frames.specs.Streams.{Given}
-use Rattle.loop_rules.specs.Hearing.{ousted, with_name_free, counted_on, read_on}
+use Rattle.loop_rules.specs.Hearing.{ousted, counted_on, read_on}
 use Rattle.socket_table.specs.Finding.{IsAt, IsSeatAt}
 use Rattle.socket_lines.specs.declared.limits.TheConstants.{MOST_BYTES, HELLO_BYTES}
 use Rattle.socket_lines.specs.declared.line.Line.{Line}
 use Rattle.socket_lines.specs.declared.seat.Seat.{Seat}
 use Rattle.loop_rules.specs.Tables.{Table, at_line, at_seat}
 use Rattle.loop_rules.specs.Told.{HasNone, DiffersBy}
-use Rattle.loop_rules.proofs.Alike.{Same, same, Alike, alike, alike_map, differ_alike, ousted_same}
+use Rattle.loop_rules.proofs.Alike.{Same, Alike, alike_map, differ_alike}
 use Rattle.socket_table.specs.Sound.{IsFitLine, IsFitSeat, HasLineRoom, IsSound, is_fine, is_dialled_for, spent_by, spent_of}
-use Rattle.socket_table.proofs.Keys.{put_at}
-use Rattle.socket_table.proofs.TablePairs.{count_cons}
-use Rattle.socket_table.proofs.Counting.{count_alike, fine_before, dialled_before, length_alike}
-
-pub alike_set : (ls : List Line) (k : ℕ) (l m : Line) → slice_get ls k ≡ Some l → Same l m → Alike ls (slice_set ls k m)
-alike_set [] k l m g s = tt
-alike_set (x ∷ xs) zero l m g s = (subst (λ (y : Line). Same y m) (let e : l ≡ x = cc in e) s, alike xs)
-alike_set (x ∷ xs) (suc k) l m g s = (same x, alike_set xs k l m g s)
-
-pub each_at : {X : Type 0} (P : X → Type 0) (xs : List X) (k : ℕ) (x : X) → EachIs P xs → slice_get xs k ≡ Some x → P x
-each_at P [] k x e g = absurd (cc)
-each_at P (y ∷ ys) zero x e g = subst P (let q : y ≡ x = cc in q) e.0
-each_at P (y ∷ ys) (suc k) x e g = each_at P ys k x e.1 g
+use Rattle.socket_list.proofs.Lists.{each_at, each_mapped, whole_written}
+use Rattle.socket_list.proofs.Keys.{put_at}
+use Rattle.socket_list.proofs.Pairs.{count_cons}
+use Rattle.socket_list.proofs.Counting.{count_alike, length_alike}
+use Rattle.socket_list.proofs.OneLine.{alike_set}
+use Rattle.socket_table.proofs.Counting.{fine_before, dialled_before}
 
 -- lines that are alike have as much room
 pub room_alike : (t u : Table) (room : ℕ) → Alike t.lines u.lines → u.seats ≡ t.seats → u.accepted ≡ t.accepted → HasLineRoom t room → HasLineRoom u room
@@ -198,21 +191,10 @@ names_same taken from c = record { link = refl; spent = omega arith; dialled = r
 
 -- all lines are changed alike
 pub sound_map : (t : Table) (a b : ℕ) (f : Line → Line) → ((l : Line) → Same l (f l)) → ((l : Line) → IsFitLine t.seats l → IsFitLine t.seats (f l)) → IsSound t a b → IsSound (record t { lines = map f t.lines }) a b
-sound_map t a b f k fit s = sound_alike t (record t { lines = map f t.lines }) a b (alike_map f k t.lines) refl refl refl (each_map t.lines s.lines) s
-  where
-    each_map : (ls : List Line) → EachIs (IsFitLine t.seats) ls → EachIs (IsFitLine t.seats) (map f ls)
-    each_map [] e = tt
-    each_map (l ∷ ls) e = (fit l e.0, each_map ls e.1)
-
-ousted_is : (P : Line → Type 0) (q : ℕ) (l : Line) → P l → P (doomed l) → P (ousted q l)
-ousted_is P q l x y = go (is_named q l)
-  where
-    go : (b : Bool) → P (if b then doomed l else l)
-    go true = y
-    go false = x
+sound_map t a b f k fit s = sound_alike t (record t { lines = map f t.lines }) a b (alike_map f k t.lines) refl refl refl (each_mapped (IsFitLine t.seats) f fit t.lines s.lines) s
 
 pub fit_ousted : (cs : List Seat) (q : ℕ) (l : Line) → IsFitLine cs l → IsFitLine cs (ousted q l)
-fit_ousted cs q l f = ousted_is (IsFitLine cs) q l f (record { taken = f.taken; read = f.read; sending = f.sending; dialled = f.dialled })
+fit_ousted cs q l f = of_chosen (IsFitLine cs) (is_named q l) (doomed l) l (record { taken = f.taken; read = f.read; sending = f.sending; dialled = f.dialled }) f
 
 pub fit_names : (taken from : ℕ) (c : Seat) → taken ≤ 56 → S.is_spent c ≡ false → IsFitSeat (S.names taken from c)
 fit_names taken from c few e = go (nat_lt c.spent MOST_BYTES) refl e
@@ -223,20 +205,13 @@ fit_names taken from c few e = go (nat_lt c.spent MOST_BYTES) refl e
 
 -- ---- all lines, written over in their list
 
-pub whole_written : {X : Type 0} (xs ms : List X) (n : ℕ) → length ms ≡ length xs → n ≡ length xs → take n (ms ++ drop (length ms) xs) ≡ ms
-whole_written xs ms n e f =
-    ap (λ (k : ℕ). take k (ms ++ drop (length ms) xs)) (f ∙ sym e) ∙ take-append_seam ms (drop (length ms) xs)
-
-length_map : {X : Type 0} (f : X → X) (xs : List X) → length (map f xs) ≡ length xs
-length_map f [] = refl
-length_map f (x ∷ xs) = ap suc (length_map f xs)
-
-pub all_oust : (t v : Table) (a b q : ℕ) (ms : List Line) (n : ℕ) → t ≡ v → IsSound t a b → ms ≡ map (ousted q) t.lines → n ≡ length t.lines →
-    IsSound (record t { lines = take n (ms ++ drop (length ms) t.lines) }) a b × (record t { lines = take n (ms ++ drop (length ms) t.lines) } ≡ with_name_free q v)
-all_oust t v a b q ms n e s m k =
-    let whole = whole_written t.lines ms n (ap (λ (x : List Line). length x) m ∙ length_map (ousted q) t.lines) k ∙ m in (
-      subst (λ (x : List Line). IsSound (record t { lines = x }) a b) (sym whole) (sound_map t a b (ousted q) (ousted_same q) (λ l f. fit_ousted t.seats q l f) s),
-      ap (λ (x : List Line). record t { lines = x }) whole ∙ ap (with_name_free q) e,
+pub all_lines : (t v : Table) (a b : ℕ) (f : Line → Line) (ms : List Line) (n : ℕ) → t ≡ v → IsSound t a b → ((l : Line) → Same l (f l)) → ((l : Line) → IsFitLine t.seats l → IsFitLine t.seats (f l)) →
+    ms ≡ map f t.lines → n ≡ length t.lines →
+    IsSound (record t { lines = take n (ms ++ drop (length ms) t.lines) }) a b × (record t { lines = take n (ms ++ drop (length ms) t.lines) } ≡ record v { lines = map f v.lines })
+all_lines t v a b f ms n e s kind fit m k =
+    let whole = whole_written t.lines ms n (ap (λ (x : List Line). length x) m ∙ length-map t.lines f) k ∙ m in (
+      subst (λ (x : List Line). IsSound (record t { lines = x }) a b) (sym whole) (sound_map t a b f kind fit s),
+      ap (λ (x : List Line). record t { lines = x }) whole ∙ ap (λ (w : Table). record w { lines = map f w.lines }) e,
     )
 
 -- ---- WANT frames

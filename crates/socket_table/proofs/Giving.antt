@@ -15,7 +15,7 @@ use Rattle.socket_lines.specs.Giving.{Desk, Speaker, due_on, due_bytes, marked, 
 use Rattle.loop_rules.specs.Tables.{Table, line_of, seat_of, seat_by, desk_with}
 use Rattle.loop_rules.specs.After.{gave_on, gave_with, gave_by, own_at}
 use Rattle.loop_rules.specs.Told.{DiffersBy, Differ}
-use Rattle.socket_table.proofs.TablePairs.{pairs_put, found_has}
+use Rattle.socket_list.proofs.Pairs.{pairs_put, found_has}
 
 -- ---- one desk
 

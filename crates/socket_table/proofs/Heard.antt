@@ -21,9 +21,9 @@ use Rattle.loop_rules.proofs.Alike.{Alike, alike_heard}
 use Rattle.socket_table.specs.Finding.{IsAt, IsSeatAt, IsNaming}
 use Rattle.socket_table.specs.Hearers.{ArePlayers}
 use Rattle.socket_table.specs.Sound.{IsSound}
-use Rattle.socket_table.proofs.Counting.{length_more}
-use Rattle.socket_table.proofs.Keys.{found_at, none_changed}
-use Rattle.socket_table.proofs.Changed.{each_at}
+use Rattle.socket_list.proofs.Counting.{length_more}
+use Rattle.socket_list.proofs.Keys.{found_at, none_changed}
+use Rattle.socket_list.proofs.Lists.{each_at}
 
 -- ---- the line at its place
 

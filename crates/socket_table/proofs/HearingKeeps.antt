@@ -15,7 +15,7 @@ use Rattle.socket_lines.specs.Seats as S
 use Rattle.socket_lines.specs.Lines.{is_named, lets_name, named_line, doomed, moved_to}
 use Rattle.loop_rules.specs.Tables.{Table, line_of, seat_of, at_line, at_seat}
 use Rattle.loop_rules.specs.Hearing.{Hearer, lets_seat_name, names, ousted, with_name_free, named, heard_first, obeyed, arrived, heard_named, heard_by, heard_on, heard, counted, read_on, read_at, heard_all, took_with}
-use Rattle.socket_table.proofs.TablePairs.{pair_if, pairs_key}
+use Rattle.socket_list.proofs.Pairs.{pair_if, pairs_key}
 
 -- ---- lines
 

@@ -8,8 +8,6 @@ pub mod Staying
 pub mod Asked
 pub mod Written
 pub mod New
-pub mod Keys
-pub mod TablePairs
 pub mod HearingKeeps
 pub mod Giving
 pub mod Seats

@@ -17,9 +17,9 @@ use Rattle.loop_rules.specs.After.{gave_by}
 use Rattle.loop_rules.specs.Rules.{wants_read}
 use Rattle.loop_rules.specs.Licence.{is_read, all_is_read, all_is_shut}
 use Rattle.loop_rules.specs.Told.{DiffersBy, Differ}
-use Rattle.socket_table.specs.TablePairs.{Both}
+use Rattle.socket_list.specs.Pairs.{Both}
 use Rattle.socket_table.specs.Staying.{MilderLine, Milder}
-use Rattle.socket_table.proofs.TablePairs.{pairs_weaker, pairs_key, pairs_all, found_both}
+use Rattle.socket_list.proofs.Pairs.{pairs_weaker, pairs_key, pairs_all, found_both}
 use Rattle.socket_table.proofs.Giving.{KeepsLine, KeepsSeat, keeps_line, gave_keeps, gave_lines, gave_keeps_seats}
 use Rattle.socket_table.proofs.ReadingRooms.{wants_parts, wants_from}
 

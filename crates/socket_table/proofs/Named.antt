@@ -12,7 +12,7 @@ use Rattle.loop_rules.specs.Tables.{Table, seat_of}
 use Rattle.loop_rules.specs.Hearing.{Hearer, lets_seat_name, names}
 use Rattle.socket_table.specs.Finding.{IsSeatAt, IsNaming}
 use Rattle.socket_table.specs.Sound.{IsSound}
-use Rattle.socket_table.proofs.Keys.{found_at}
+use Rattle.socket_list.proofs.Keys.{found_at}
 
 -- the seat at the place is the player's
 pub seat_found : (t : Table) (a b k q : ℕ) (y : Seat) → IsSound t a b → IsSeatAt t.seats q (Some k) → y ≡ get_or t.seats k y → seat_of t q ≡ Some y

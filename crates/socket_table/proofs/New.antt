@@ -1,6 +1,7 @@
 -- New: a table in which nothing came is sound.
-use Rattle.std.proofs.Common.{◌≡◌, ℕ, suc, ◌+◌, ◌≤◌, refl, sym, ap, subst, List, [], ◌∷◌, arith, length}
+use Rattle.std.proofs.Common.{◌≡◌, ℕ, ◌+◌, ◌≤◌, sym, subst, List, [], ◌∷◌, arith, length}
 use Rattle.std.specs.Prelude.{map}
+use Rattle.std.proofs.lemmas.List.{length-map}
 use Rattle.definitions.specs.Lists.{EachIs}
 use Rattle.rosters.specs.declared.roster.Link.{Link}
 use Rattle.socket_lines.specs.declared.line.Line.{Line}
@@ -23,10 +24,6 @@ fit_made : (most : ℕ) (links : List Link) → EachIs IsFitSeat (map (new_seat 
 fit_made most [] = tt
 fit_made most (l ∷ links) = (omega arith, fit_made most links)
 
-length_made : (most : ℕ) (links : List Link) → length (map (new_seat most) links) ≡ length links
-length_made most [] = refl
-length_made most (l ∷ links) = ap suc (length_made most links)
-
 pub sound_new : (links : List Link) (most a b : ℕ) (ls : List Line) (cs : List Seat) (ws : List Arrival) → DiffersBy (λ l. l.player) links → ls ≡ [] → cs ≡ map (new_seat most) links → ws ≡ [] →
     MOST_LINES + length links ≤ a → MOST_TAKEN ≤ b → IsSound (record { lines = ls; seats = cs; accepted = 0; waiting = ws }) a b
 sound_new links most a b ls cs ws d e f g m n =
@@ -42,7 +39,7 @@ sound_new links most a b ls cs ws d e f g m n =
         fine = omega arith;
         dialled = λ q. omega arith;
         few = omega arith;
-        room = (let k = length_made most links in omega (arith, k, m));
+        room = (let k = length-map links (new_seat most) in omega (arith, k, m));
       };
       waiting = omega arith;
       frames = n;

@@ -5,8 +5,9 @@ use Rattle.std.specs.List.{count_by, list_any}
 use Rattle.std.proofs.lemmas.Bool.{eqb-true, false≢true, or_parts}
 use Rattle.std.proofs.lemmas.List.Sums.{count_by-le-length}
 use Rattle.std.proofs.lemmas.Option.{get_or_from_slice_get}
-use Rattle.std.proofs.lemmas.List.{length-set}
+use Rattle.std.proofs.lemmas.List.{length-map, length-set}
 use Rattle.plain_lemmas.proofs.Each.{each_push, each_set}
+use Rattle.plain_lemmas.proofs.Tests.{of_chosen}
 use Rattle.definitions.specs.Lists.{EachIs}
 use Rattle.socket_lines.specs.declared.limits.TheConstants.{MOST_ACCEPTED}
 use Rattle.socket_lines.specs.declared.line.Line.{Line}
@@ -15,57 +16,23 @@ use Rattle.socket_lines.specs.Seats as S
 use Rattle.socket_lines.specs.Lines.{accepted_line, dialled_line, is_player, serves, woken}
 use Rattle.loop_rules.specs.Tables.{Table, at_seat, is_served}
 use Rattle.loop_rules.specs.Told.{HasNone, DiffersBy, IsNotIn}
-use Rattle.loop_rules.proofs.Alike.{Same, same}
 use Rattle.loop_rules.proofs.Told.{differ_last}
 use Rattle.socket_table.specs.declared.table.TheConstants.{MOST_LINES}
 use Rattle.socket_table.specs.Finding.{IsSeatAt}
 use Rattle.socket_table.specs.Opening.{HasDialRoom}
 use Rattle.socket_table.specs.Sound.{IsFitLine, IsFitSeat, IsSound, is_fine, is_dialled_for, spent_by, spent_of}
-use Rattle.socket_table.proofs.Keys.{put_at}
-use Rattle.socket_table.proofs.TablePairs.{count_cons}
-use Rattle.socket_table.proofs.Counting.{length_more}
-use Rattle.socket_table.proofs.Changed.{whole_written, sound_map, each_at, each_rises, rises_set, differ_seats}
+use Rattle.socket_list.proofs.Lists.{each_at, whole_written}
+use Rattle.socket_list.proofs.Keys.{put_at}
+use Rattle.socket_list.proofs.Pairs.{count_cons}
+use Rattle.socket_list.proofs.Counting.{count_last, length_more}
+use Rattle.socket_table.proofs.Changed.{each_rises, rises_set, differ_seats}
 
--- ---- all lines are changed
-
-length_mapped : (f : Line → Line) (xs : List Line) → length (map f xs) ≡ length xs
-length_mapped f [] = refl
-length_mapped f (x ∷ xs) = ap suc (length_mapped f xs)
-
-pub all_lines : (t v : Table) (a b : ℕ) (f : Line → Line) (ms : List Line) (n : ℕ) → t ≡ v → IsSound t a b → ((l : Line) → Same l (f l)) → ((l : Line) → IsFitLine t.seats l → IsFitLine t.seats (f l)) →
-    ms ≡ map f t.lines → n ≡ length t.lines →
-    IsSound (record t { lines = take n (ms ++ drop (length ms) t.lines) }) a b × (record t { lines = take n (ms ++ drop (length ms) t.lines) } ≡ record v { lines = map f v.lines })
-all_lines t v a b f ms n e s kind fit m k =
-    let whole = whole_written t.lines ms n (ap (λ (x : List Line). length x) m ∙ length_mapped f t.lines) k ∙ m in (
-      subst (λ (x : List Line). IsSound (record t { lines = x }) a b) (sym whole) (sound_map t a b f kind fit s),
-      ap (λ (x : List Line). record t { lines = x }) whole ∙ ap (λ (w : Table). record w { lines = map f w.lines }) e,
-    )
-
-pub woken_at : ℕ → Line → Line
-woken_at s l = if l.socket == s then woken l else l
-
-woken_is : (P : Line → Type 0) (s : ℕ) (l : Line) → P (woken l) → P l → P (if l.socket == s then woken l else l)
-woken_is P s l x y = go (l.socket == s)
-  where
-    go : (b : Bool) → P (if b then woken l else l)
-    go true = x
-    go false = y
-
-pub woken_same : (s : ℕ) (l : Line) → Same l (if l.socket == s then woken l else l)
-woken_same s l = woken_is (Same l) s l (record { socket = refl; opened = λ e. e; dialled = refl; wrong = λ e. e }) (same l)
+-- ---- a socket that was listed
 
 pub fit_woken : (cs : List Seat) (s : ℕ) (l : Line) → IsFitLine cs l → IsFitLine cs (if l.socket == s then woken l else l)
-fit_woken cs s l f = woken_is (IsFitLine cs) s l (record { taken = f.taken; read = f.read; sending = f.sending; dialled = f.dialled }) f
+fit_woken cs s l f = of_chosen (IsFitLine cs) (l.socket == s) (woken l) l (record { taken = f.taken; read = f.read; sending = f.sending; dialled = f.dialled }) f
 
 -- ---- a dial
-
-pub count_last : {X : Type 0} (p : X → Bool) (xs : List X) (x : X) → count_by p (xs ++ x ∷ []) ≡ count_by p xs + cond (p x) 1 0
-count_last p [] x = count_cons p x [] ∙ omega arith
-count_last p (y ∷ ys) x =
-    let a = count_cons p y (ys ++ x ∷ []) in
-    let b = count_cons p y ys in
-    let r = count_last p ys x in
-    omega (arith, a, b, r)
 
 no_fewer : (cs : List Seat) (k : ℕ) (d : Seat) → d.is_dialled ≡ true → count_by (λ c. c.is_dialled) cs ≤ count_by (λ c. c.is_dialled) (slice_set cs k d)
 no_fewer [] k d e = omega arith
@@ -170,10 +137,6 @@ spent_rests cs (Some q) = go cs
     go [] = omega arith
     go (d ∷ ds) = pick d ds (map S.rests ds) (d.link.player == q) (go ds)
 
-length_rests : (cs : List Seat) → length (map S.rests cs) ≡ length cs
-length_rests [] = refl
-length_rests (c ∷ cs) = ap suc (length_rests cs)
-
 pub sound_rests : (t : Table) (a b : ℕ) → length t.lines ≤ MOST_LINES → IsSound t a b → IsSound (record t { seats = map S.rests t.seats }) a b
 sound_rests t a b few s = record {
   sockets = s.sockets;
@@ -185,7 +148,7 @@ sound_rests t a b few s = record {
     fine = s.room.fine;
     dialled = s.room.dialled;
     few = omega (arith, few);
-    room = (let n = length_rests t.seats in let r = s.room.room in omega (arith, n, r));
+    room = (let n = length-map t.seats S.rests in let r = s.room.room in omega (arith, n, r));
   };
   waiting = s.waiting;
   frames = s.frames;
@@ -194,7 +157,7 @@ sound_rests t a b few s = record {
 pub all_seats : (t v : Table) (a b : ℕ) (ms : List Seat) (n : ℕ) → t ≡ v → IsSound t a b → length v.lines ≤ MOST_LINES → ms ≡ map S.rests t.seats → n ≡ length t.seats →
     IsSound (record t { seats = take n (ms ++ drop (length ms) t.seats) }) a b × (record t { seats = take n (ms ++ drop (length ms) t.seats) } ≡ record v { seats = map S.rests v.seats })
 all_seats t v a b ms n e s few m k =
-    let whole = whole_written t.seats ms n (ap (λ (x : List Seat). length x) m ∙ length_rests t.seats) k ∙ m in
+    let whole = whole_written t.seats ms n (ap (λ (x : List Seat). length x) m ∙ length-map t.seats S.rests) k ∙ m in
     let same = ap (λ (w : Table). length w.lines) e in (
       subst (λ (x : List Seat). IsSound (record t { seats = x }) a b) (sym whole) (sound_rests t a b (omega (arith, few, same)) s),
       ap (λ (x : List Seat). record t { seats = x }) whole ∙ ap (λ (w : Table). record w { seats = map S.rests w.seats }) e,

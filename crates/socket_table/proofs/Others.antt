@@ -14,8 +14,8 @@ use Rattle.loop_rules.specs.Tables.{Table, line_of, seat_of, seat_by, at_line, d
 use Rattle.loop_rules.specs.After.{gave_by}
 use Rattle.loop_rules.specs.Licence.{has_due_at, has_due_on, is_served_out}
 use Rattle.loop_rules.specs.Told.{DiffersBy, Differ}
-use Rattle.socket_table.specs.TablePairs.{Both}
-use Rattle.socket_table.proofs.TablePairs.{pairs_key, pair_at, found_both}
+use Rattle.socket_list.specs.Pairs.{Both}
+use Rattle.socket_list.proofs.Pairs.{pairs_key, pair_at, found_both}
 use Rattle.socket_table.proofs.Giving.{KeepsSeat, gave_lines, gave_keeps_seats}
 
 -- the lines of other sockets stay

@@ -10,7 +10,7 @@ use Rattle.loop_rules.specs.Hearing.{Hearer, read_on, read_at, heard_all, took_w
 use Rattle.loop_rules.specs.Rules.{wants_read}
 use Rattle.loop_rules.proofs.Alike.{read_same}
 use Rattle.socket_table.specs.Staying.{Rooms}
-use Rattle.socket_table.proofs.TablePairs.{pairs_key, pair_at}
+use Rattle.socket_list.proofs.Pairs.{pairs_key, pair_at}
 use Rattle.socket_table.proofs.HearingKeeps.{LetsLine, lines_heard_all, read_lines}
 use Rattle.socket_table.proofs.Rooms.{took_rooms}
 

@@ -16,10 +16,10 @@ use Rattle.loop_rules.specs.Tables.{Table, line_of, seat_of, at_line, room_by, r
 use Rattle.loop_rules.specs.Hearing.{Hearer, heard_named, heard_by, heard_on, heard, counted, counted_on, read_on, read_at, heard_all, took_with, took_on}
 use Rattle.loop_rules.specs.Told.{Differ}
 use Rattle.loop_rules.proofs.Alike.{alike_took, differ_alike}
-use Rattle.socket_table.specs.TablePairs.{Both}
+use Rattle.socket_list.specs.Pairs.{Both}
 use Rattle.socket_table.specs.Staying.{Rooms, more_unnamed, left_on}
-use Rattle.socket_table.proofs.Keys.{found_at}
-use Rattle.socket_table.proofs.TablePairs.{pairs_key, pair_at, map_at, found_both, found_key, both_left}
+use Rattle.socket_list.proofs.Keys.{found_at}
+use Rattle.socket_list.proofs.Pairs.{pairs_key, pair_at, map_at, found_both, found_key, both_left}
 use Rattle.socket_table.proofs.HearingKeeps.{LetsLine, LetsSeat, lines_doomed, lines_heard_named, lines_heard_all, read_lines, seats_heard_all, seats_took}
 
 -- ---- no more is left of anyone

@@ -14,7 +14,7 @@ use Rattle.loop_rules.specs.Hearing.{Hearer, took_on}
 use Rattle.loop_rules.specs.After.{gave_by}
 use Rattle.loop_rules.specs.Told.{DiffersBy}
 use Rattle.socket_table.specs.Staying.{SameSeat, SeatsSame}
-use Rattle.socket_table.proofs.TablePairs.{pairs_weaker, pairs_count}
+use Rattle.socket_list.proofs.Pairs.{pairs_weaker, pairs_count}
 use Rattle.socket_table.proofs.HearingKeeps.{LetsSeat, seats_at, seats_took}
 use Rattle.socket_table.proofs.Giving.{KeepsSeat, gave_keeps_seats}
 

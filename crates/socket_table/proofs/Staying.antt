@@ -1,32 +1,30 @@
 -- Staying: how many sockets stay at a poll.
-use Rattle.std.proofs.Common.{◌≡◌, ℕ, zero, suc, ◌+◌, ◌<◌, ◌≤◌, Bool, true, false, refl, sym, ap, subst, ◌∙◌, List, [], ◌∷◌, ◌++◌, arith, length, get_or}
+use Rattle.std.proofs.Common.{◌≡◌, ℕ, zero, suc, ◌+◌, ◌<◌, ◌≤◌, Bool, true, false, refl, sym, ap, subst, ◌∙◌, List, [], ◌∷◌, arith, length, get_or}
 use Rattle.std.specs.Prelude.{Option, Some, None, ◌==◌, ◌&&◌, ◌||◌, cond, drop, filter, is_none, map, nat_lt, not, if◌then◌else◌}
 use Rattle.std.specs.List.{count_by, fold, list_all}
-use Rattle.std.proofs.lemmas.Bool.{and_parts, eq-eqb, lt-ltb, ltb-true, ltb-false, false≢true, or_parts}
+use Rattle.std.proofs.lemmas.Bool.{and_parts, eq-eqb, lt-ltb, ltb-true, ltb-false, false≢true}
 use Rattle.std.proofs.lemmas.List.{drop_more}
 use Rattle.std.proofs.lemmas.List.Sums.{length-filter, count_by-le-length}
-use Rattle.plain_lemmas.proofs.Each.{each_push}
 use Rattle.definitions.specs.Lists.{EachIs}
 use Rattle.socket_lines.specs.declared.line.Line.{Line}
 use Rattle.socket_lines.specs.declared.seat.Seat.{Seat}
 use Rattle.socket_station.specs.declared.answers.Ready.{Ready}
 use Rattle.socket_station.specs.declared.answers.Ready.TheVariants.{Opened, Socket as Seems}
-use Rattle.socket_station.specs.Standings.{opens}
 use Rattle.socket_lines.specs.declared.limits.TheConstants.{MOST_ACCEPTED}
 use Rattle.socket_lines.specs.Seats as S
 use Rattle.socket_lines.specs.Lines.{is_player, accepted_line, woken}
-use Rattle.loop_rules.specs.Told.{IsNotIn}
 use Rattle.loop_rules.specs.After.{listed, opened_on, rested}
 use Rattle.loop_rules.proofs.Told.{kept_open, differ_open}
-use Rattle.loop_rules.proofs.Alike.{Alike, alike_map, not_in_alike}
+use Rattle.loop_rules.proofs.Alike.{alike_map}
+use Rattle.socket_list.specs.Opening.{AreNewTo}
 use Rattle.socket_table.specs.declared.table.TheConstants.{MOST_LINES}
-use Rattle.socket_table.specs.Opening.{AreNewTo}
 use Rattle.loop_rules.specs.Tables.{Table, room_on, asks_shut, at_line, in_lines}
 use Rattle.loop_rules.specs.Licence.{all_is_shut}
 use Rattle.socket_table.specs.Sound.{IsFitLine, IsByte, IsSound, is_fine, is_dialled_for}
-use Rattle.socket_table.proofs.TablePairs.{count_cons}
-use Rattle.socket_table.proofs.Counting.{length_alike, length_more}
-use Rattle.socket_table.proofs.Opened.{woken_same}
+use Rattle.socket_list.proofs.Pairs.{count_cons}
+use Rattle.socket_list.proofs.Counting.{count_open, count_two, length_alike, length_more}
+use Rattle.socket_list.proofs.OneLine.{woken_same}
+use Rattle.socket_list.proofs.Listed.{new_first, new_to_alike, new_to_more, new_to_open}
 
 -- an open socket that was dialled for a player with a number below
 abbrev below : ℕ → Option ℕ → Bool
@@ -35,27 +33,6 @@ below n (Some q) = nat_lt q n
 
 abbrev is_below : ℕ → Line → Bool
 is_below n l = l.is_open && below n l.dialled
-
-bool_le : (a b c : Bool) → (a ≡ true → (b || c) ≡ true) → cond a 1 0 ≤ cond b 1 0 + cond c 1 0
-bool_le false true true k = omega arith
-bool_le false true false k = omega arith
-bool_le false false true k = omega arith
-bool_le false false false k = omega arith
-bool_le true true true k = omega arith
-bool_le true true false k = omega arith
-bool_le true false true k = omega arith
-bool_le true false false k = absurd (false≢true (k refl))
-
--- what is counted is counted as one of two
-count_two : (p q r : Line → Bool) (ls : List Line) → EachIs (λ l. p l ≡ true → (q l || r l) ≡ true) ls → count_by p ls ≤ count_by q ls + count_by r ls
-count_two p q r [] e = omega arith
-count_two p q r (l ∷ ls) e =
-    let a = count_cons p l ls in
-    let b = count_cons q l ls in
-    let c = count_cons r l ls in
-    let here = bool_le (p l) (q l) (r l) e.0 in
-    let more = count_two p q r ls e.1 in
-    omega (arith, a, b, c, here, more)
 
 below_one_more : (n : ℕ) (o b : Bool) (d : Option ℕ) → (o && below (suc n) d) ≡ true → ((o && below n d) || (o && is_player d n)) ≡ true
 below_one_more n false b d e = e
@@ -132,17 +109,6 @@ few_stay t v a b e s shut =
 
 -- ---- the table without those that are closed
 
-count_open : (p : Line → Bool) (ls : List Line) → count_by p (filter (λ l. l.is_open) ls) ≤ count_by p ls
-count_open p [] = omega arith
-count_open p (l ∷ ls) = go l.is_open (count_open p ls)
-  where
-    go : (b : Bool) → count_by p (filter (λ m. m.is_open) ls) ≤ count_by p ls → count_by p (if b then l ∷ filter (λ m. m.is_open) ls else filter (λ m. m.is_open) ls) ≤ count_by p (l ∷ ls)
-    go true r =
-        let a = count_cons p l (filter (λ m. m.is_open) ls) in
-        let b = count_cons p l ls in
-        omega (arith, a, b, r)
-    go false r = let b = count_cons p l ls in omega (arith, b, r)
-
 pub sound_stays : (t : Table) (a b c : ℕ) (ms : List Line) → IsSound t a b → ms ≡ filter (λ l. l.is_open) t.lines → c ≡ a → IsSound (record t { lines = ms }) c b
 sound_stays t a b c ms s e cap = subst (λ (ls : List Line). IsSound (record t { lines = ls }) c b) (sym e) (record {
   sockets = differ_open t.lines s.sockets;
@@ -159,28 +125,6 @@ sound_stays t a b c ms s e cap = subst (λ (ls : List Line). IsSound (record t {
   waiting = s.waiting;
   frames = s.frames;
 })
-
--- ---- what a poll lists is new to the lines
-
-not_in_open : (n : ℕ) (ls : List Line) → IsNotIn n ls → IsNotIn n (filter (λ l. l.is_open) ls)
-not_in_open n ls d = kept_open (λ m. m.socket ≡ n → ⊥) ls d
-
-pub new_to_open : (ls : List Line) (list : List Ready) → AreNewTo ls list → AreNewTo (filter (λ l. l.is_open) ls) list
-new_to_open ls [] n = tt
-new_to_open ls (Opened s ∷ list) n = (not_in_open s ls n.0, n.1, new_to_open ls list n.2)
-new_to_open ls (Seems s ∷ list) n = new_to_open ls list n
-
-pub new_to_more : (s : ℕ) (wrong : Bool) (ls : List Line) (list : List Ready) → opens list s ≡ false → AreNewTo ls list → AreNewTo (ls ++ accepted_line s wrong ∷ []) list
-new_to_more s wrong ls [] o n = tt
-new_to_more s wrong ls (Opened m ∷ list) o n =
-    let p = or_parts (m == s) (opens list s) o in
-    (each_push (λ l. l.socket ≡ m → ⊥) ls (accepted_line s wrong) n.0 (λ e. false≢true (sym p.0 ∙ eq-eqb m s (sym e))), n.1, new_to_more s wrong ls list p.1 n.2)
-new_to_more s wrong ls (Seems m ∷ list) o n = new_to_more s wrong ls list o n
-
-pub new_to_alike : (ls ms : List Line) (list : List Ready) → Alike ls ms → AreNewTo ls list → AreNewTo ms list
-new_to_alike ls ms [] a n = tt
-new_to_alike ls ms (Opened s ∷ list) a n = (not_in_alike s ls ms a n.0, n.1, new_to_alike ls ms list a n.2)
-new_to_alike ls ms (Seems s ∷ list) a n = new_to_alike ls ms list a n
 
 -- ---- item by item
 
@@ -211,10 +155,6 @@ lists_seems start t u s all left w e =
       room = omega (arith, room, long, same);
       listed_so = ap (λ (x : Table). fold listed x left) e ∙ w.listed_so;
     }
-
-pub new_first : (ls : List Line) (r : Ready) (list : List Ready) → AreNewTo ls (r ∷ list) → AreNewTo ls (r ∷ [])
-new_first ls (Opened s) list n = (n.0, refl, tt)
-new_first ls (Seems s) list n = tt
 
 lists_as : (start t u : Table) (r : Ready) (all left : List Ready) → Listing start t all (r ∷ left) → u ≡ listed t r → Listing start u all left
 lists_as start t u (Opened s) all left w e = lists_open start t u s all left w e

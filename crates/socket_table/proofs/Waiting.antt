@@ -22,7 +22,7 @@ use Rattle.loop_rules.specs.Tables.{Table, line_of, seat_of, at_line, at_seat, r
 use Rattle.loop_rules.specs.Hearing.{Hearer, names, named, heard_first, obeyed, arrived, heard_named, heard_by, heard_on, heard, counted, counted_on, read_on, read_at, heard_all, took_with, took_on}
 use Rattle.loop_rules.specs.Handling.{IsOfOther}
 use Rattle.socket_table.specs.Staying.{SameSeat}
-use Rattle.socket_table.proofs.TablePairs.{pairs_key, found_both, found_has, found_is, both_right}
+use Rattle.socket_list.proofs.Pairs.{pairs_key, found_both, found_has, found_is, both_right}
 use Rattle.socket_table.proofs.HearingKeeps.{LetsLine, LetsNames, lines_heard, read_lines, seats_heard, seats_read}
 use Rattle.socket_table.proofs.Seats.{hearing_same, same_each}
 

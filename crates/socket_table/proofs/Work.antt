@@ -21,7 +21,7 @@ use Rattle.loop_rules.specs.After.{gave_on, gave_with}
 use Rattle.loop_rules.specs.Told.{DiffersBy, Differ}
 use Rattle.loop_rules.proofs.Given.{IsOwnDue, is_own_due}
 use Rattle.socket_table.specs.Staying.{hello_count, frames_from, frames_behind, frames_again, work_on}
-use Rattle.socket_table.proofs.TablePairs.{map_at, found_key, found_has}
+use Rattle.socket_list.proofs.Pairs.{map_at, found_key, found_has}
 use Rattle.socket_table.proofs.Giving.{gave_keeps}
 
 -- ---- no frame is long

@@ -18,9 +18,10 @@ use Rattle.loop_rules.proofs.Alike.{Same, keeps_gave}
 use Rattle.loop_rules.proofs.Given.{IsOwnDue, is_own_due}
 use Rattle.socket_table.specs.Finding.{IsDeskSeat}
 use Rattle.socket_table.specs.Sound.{IsFitLine, IsFitSeat, IsByte, IsSound, spent_of}
-use Rattle.socket_table.proofs.Keys.{put_at}
+use Rattle.socket_list.proofs.Keys.{put_at}
 use Rattle.socket_table.proofs.Giving.{keeps_giving}
-use Rattle.socket_table.proofs.Changed.{SameSeat, sound_line, sound_seat, each_at, line_seen}
+use Rattle.socket_list.proofs.Lists.{each_at}
+use Rattle.socket_table.proofs.Changed.{SameSeat, sound_line, sound_seat, line_seen}
 use Rattle.socket_table.proofs.Asked.{desk_read}
 
 -- ---- the place that goes out

@@ -2,5 +2,4 @@ pub mod Finding
 pub mod Hearers
 pub mod Opening
 pub mod Sound
-pub mod TablePairs
 pub mod Staying

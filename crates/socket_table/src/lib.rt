@@ -15,7 +15,6 @@ mod naming;
 mod polling;
 mod questions;
 mod reading;
-mod room;
 mod table;
 mod writing;
 

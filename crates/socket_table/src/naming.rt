@@ -1,18 +1,19 @@
 //! A HELLO names a socket.
 
-ghost use Rattle.std.specs.Prelude.{◌≡◌, ◌≤◌, ◌<◌, ◌&&◌, Some, None, length, map, slice_get, IsFalse};
+ghost use Rattle.std.specs.Prelude.{◌≡◌, ◌≤◌, ◌<◌, ◌&&◌, Some, None, length, slice_get, IsFalse};
 ghost use Rattle.std.specs.Str.{bytes_eq};
 ghost use Rattle.socket_lines.specs.Lines.{named_line};
 ghost use Rattle.socket_lines.specs.Lines as L;
 ghost use Rattle.socket_lines.specs.Seats as S;
 ghost use Rattle.loop_rules.specs.Tables.{at_line, at_seat};
-ghost use Rattle.loop_rules.specs.Hearing.{Hearer, ousted, with_name_free, named, names};
+ghost use Rattle.loop_rules.specs.Hearing.{Hearer, with_name_free, named, names};
 ghost use Rattle.socket_table.specs.Finding.{IsAt, IsSeatAt, IsNaming};
 
 use crate::finding::seat_index;
 use crate::table::Table;
 use definitions::{Place, PlayerId};
 use socket_lines::{Line, Seat};
+use socket_list::lines::oust_all;
 use socket_station::SocketId;
 
 /// Whether a HELLO of the player whose seat that is names the socket: it has the session's id, and the pass that is wanted of the player, whose
@@ -28,24 +29,6 @@ fn lets_name(
     ensures { result ≡ bytes_eq id.now session.now && S.lets_name seat.now pass.now && L.lets_name player line.now }
 {
     id == session && seat.lets_name(pass) && line.lets_name(player)
-}
-
-/// The socket is to be shut, if it has this name.
-fn oust(line: &mut Line, player: PlayerId)
-    ensures { line.new ≡ ousted player line.old }
-{
-    if line.is_named(player) {
-        line.doom();
-    }
-}
-
-/// Those that have this name are to be shut.
-fn oust_all(lines: &mut [Line], player: PlayerId)
-    ensures { lines.new ≡ map (ousted player) lines.old }
-{
-    for line in lines.iter_mut() {
-        oust(line, player);
-    }
 }
 
 impl Table {

@@ -1,41 +1,22 @@
 //! Sockets open, and a poll is made.
 
-ghost use Rattle.std.specs.Prelude.{◌≡◌, ◌≤◌, ◌<◌, ◌+◌, [], ◌∷◌, ◌++◌, ◌==◌, if◌then◌else◌, true, false, Some, None, filter, map, length, slice_get, vec_capacity};
-ghost use Rattle.std.specs.List.{fold};
-ghost use Rattle.socket_station.specs.Standings.{opens};
+ghost use Rattle.std.specs.Prelude.{◌≡◌, ◌≤◌, ◌<◌, [], ◌∷◌, ◌++◌, true, false, Some, filter, map, length, slice_get};
 ghost use Rattle.socket_lines.specs.Lines.{woken, dialled_line};
 ghost use Rattle.socket_lines.specs.Seats as S;
-ghost use Rattle.loop_rules.specs.Tables.{at_line, at_seat, is_served, in_lines};
+ghost use Rattle.loop_rules.specs.Tables.{at_line, at_seat, is_served};
 ghost use Rattle.loop_rules.specs.Told.{IsNotIn};
 ghost use Rattle.loop_rules.specs.Licence.{all_is_shut};
 ghost use Rattle.loop_rules.specs.After.{dialled_on, opened_on, listed, rested, polled_on};
+ghost use Rattle.socket_list.specs.Opening.{AreNewTo};
 ghost use Rattle.socket_table.specs.declared.table.TheConstants.{MOST_LINES};
 ghost use Rattle.socket_table.specs.Finding.{IsSeatAt};
-ghost use Rattle.socket_table.specs.Opening.{AreNewTo, HasDialRoom};
+ghost use Rattle.socket_table.specs.Opening.{HasDialRoom};
 
-use crate::room::add;
 use crate::table::Table;
 use definitions::{Place, PlayerId};
 use socket_lines::{Line, MOST_ACCEPTED, Seat};
+use socket_list::lines::{add, drop_closed, wake_all};
 use socket_station::{Ready, SocketId};
-
-/// A socket that was listed may be read and written again.
-fn wake(line: &mut Line, socket: SocketId)
-    ensures { line.new ≡ (if line.old.socket == socket then woken line.old else line.old) }
-{
-    if line.socket == socket {
-        line.wake();
-    }
-}
-
-/// The same of all lines.
-fn wake_all(lines: &mut [Line], socket: SocketId)
-    ensures { lines.new ≡ in_lines socket woken lines.old }
-{
-    for line in lines.iter_mut() {
-        wake(line, socket);
-    }
-}
 
 /// Each player may be dialled again.
 fn rest_all(seats: &mut [Seat])
@@ -43,21 +24,6 @@ fn rest_all(seats: &mut [Seat])
 {
     for seat in seats.iter_mut() {
         seat.rest();
-    }
-}
-
-/// Closed sockets go.
-fn drop_closed(lines: &mut Vec<Line>)
-    ensures items { lines.new.items ≡ filter (λ l. l.is_open) lines.old.items }
-    ensures capacity { vec_capacity lines.new ≡ vec_capacity lines.old }
-{
-    let mut at = 0;
-    while at < lines.len() {
-        if lines[at].is_open {
-            at += 1;
-        } else {
-            lines.remove(at);
-        }
     }
 }
 

@@ -29,16 +29,17 @@ use Rattle.loop_rules.specs.Rules.{is_front}
 use Rattle.loop_rules.specs.Told.{LineStands, Differ}
 use Rattle.loop_rules.proofs.Alike.{found_socket, ousted_same}
 use Rattle.loop_rules.proofs.Told.{kept_open}
-use Rattle.socket_table.proofs.TablePairs.{found_is, found_key, only_one}
+use Rattle.socket_list.proofs.Pairs.{found_is, found_key, only_one}
 use Rattle.deposit_rules.proofs.Fronts.{front_is, front_none}
 use Rattle.deposit_rules.proofs.Standings.{fresh_before}
 use Rattle.socket_list.specs.Sockets.{Sockets, at_line, fed_line, gave_line, greeted_line, line_of, listed, rested, with_name_free}
-use Rattle.watch_rules.specs.Streams.{count_at}
+use Rattle.log_streams.specs.Streams.{count_at}
 use Rattle.watch_rules.specs.Views.{Setting, View, start}
 use Rattle.watch_rules.specs.Hearing.{answer_to, greeted, heard, heard_first, named, names, to_shut, took_by, took_on, took_with, with_sockets}
 use Rattle.watch_rules.specs.After.{after, on_line, view_of}
 use Rattle.watch_rules.specs.Rules.{IsAllowed, are_due, is_allowed, may_give, may_write}
-use Rattle.watch_rules.specs.Laws.{AreTold, BeginsWant, GivenIsDue, GivenIsOneWant, IsNamedAt, name_by, name_in}
+use Rattle.watch_rules.specs.Histories.{AreTold}
+use Rattle.watch_rules.specs.Laws.{BeginsWant, GivenIsDue, GivenIsOneWant, IsNamedAt, name_by, name_in}
 use Rattle.watch_rules.specs.Told.{IsTold}
 use Rattle.watch_rules.proofs.Prefixes.{items_are_allowed}
 use Rattle.watch_rules.proofs.Told.{told_goes_on}
@@ -426,4 +427,4 @@ all_gives set before (item ∷ items) v told g a n =
 
 pub given_is_one_want : GivenIsOneWant
 given_is_one_want s items socket a =
-    all_gives s [] items (start s) (record { allowed = refl; shown = refl; stand = tt; differ = tt }) (record { shown = refl; all = λ n. inl refl; fresh = λ n e. refl; lines = tt }) a socket
+    all_gives s [] items (start s) (record { allowed = refl; told = tt; shown = refl; stand = tt; differ = tt }) (record { shown = refl; all = λ n. inl refl; fresh = λ n e. refl; lines = tt }) a socket

@@ -1,5 +1,5 @@
 -- Told: what a station tells goes on by each item that may come next.
-use Rattle.std.proofs.Common.{◌≡◌, ℕ, Bool, true, false, refl, sym, ap, subst, ◌∙◌, List, [], ◌∷◌, ◌++◌}
+use Rattle.std.proofs.Common.{◌≡◌, ℕ, Bool, true, false, refl, sym, ap, subst, ◌∙◌, List, [], ◌∷◌, ◌++◌, append-nil, append_assoc}
 use Rattle.std.specs.Prelude.{Option, Some, None, ◌==◌, ◌||◌, map, not, nat_lt, filter, length, if◌then◌else◌}
 use Rattle.std.specs.List.{fold}
 use Rattle.std.proofs.lemmas.Bool.{eqb-true, eq-eqb, false≢true, or_parts}
@@ -29,9 +29,9 @@ use Rattle.loop_rules.proofs.Told.{IsStill, Closes, StandsBehind, differ_last, d
 use Rattle.socket_list.specs.Sockets.{Sockets, at_line, fed_line, gave_line, greeted_line, line_of, listed, rested, with_name_free}
 use Rattle.watch_rules.specs.Views.{Setting, View, start}
 use Rattle.watch_rules.specs.Hearing.{answer_to, greeted, heard, heard_first, named, names, to_shut, took_by, took_on, took_with, with_sockets}
-use Rattle.watch_rules.specs.After.{after, view_of}
-use Rattle.watch_rules.specs.Rules.{is_allowed}
-use Rattle.watch_rules.specs.Histories.{are_allowed}
+use Rattle.watch_rules.specs.After.{after, view_after, view_of}
+use Rattle.watch_rules.specs.Rules.{IsAllowed, is_allowed}
+use Rattle.watch_rules.specs.Histories.{AreTold, are_allowed}
 use Rattle.watch_rules.specs.Told.{IsTold}
 use Rattle.watch_rules.specs.Laws.{ToldGoesOn}
 use Rattle.watch_rules.proofs.Prefixes.{added}
@@ -262,16 +262,30 @@ stands_after items v (Failed (WriteCall s)) t o a = closing items v (Failed (Wri
 stands_after items v (Failed (KeepCall bytes)) t o a = no_item items v (Failed (KeepCall bytes)) a
 stands_after items v (Failed SyncCall) t o a = no_item items v (Failed SyncCall) a
 
+told_more : (v : View) (before items : List Item) (item : Item) → AreTold v before items → OpensNew (before ++ items) item →
+    IsAllowed (view_after v items) item → AreTold v before (items ++ item ∷ [])
+told_more v before [] item told new may =
+    (subst (λ (xs : List Item). OpensNew xs item) (append-nil before) new, may, tt)
+told_more v before (first ∷ items) item told new may = (
+  told.0,
+  told.1,
+  told_more (after v first) (before ++ first ∷ []) items item told.2
+      (subst (λ (xs : List Item). OpensNew xs item) (sym (append_assoc before (first ∷ []) items)) new) may,
+)
+
 pub told_goes_on : ToldGoesOn
 told_goes_on items v item t opens_new may =
     let s = v.setting in
     let st = stands_after items v item t opens_new may in
     let allowed : are_allowed (start s) (items ++ item ∷ []) ≡ true =
     added (start s) items item t.allowed (ap (λ (w : View). is_allowed w item) t.shown ∙ may) in
+    let told : AreTold (start s) [] (items ++ item ∷ []) =
+    told_more (start s) [] items item t.told opens_new (subst (λ (w : View). IsAllowed w item) (sym t.shown) may) in
     let shown : view_of s (items ++ item ∷ []) ≡ after v item = fold-append after (start s) items (item ∷ []) ∙ ap (λ (w : View). after w item) t.shown in
     let kept = setting_after v item in
     record {
       allowed = subst (λ (r : Setting). are_allowed (start r) (items ++ item ∷ []) ≡ true) (sym kept) allowed;
+      told = subst (λ (r : Setting). AreTold (start r) [] (items ++ item ∷ [])) (sym kept) told;
       shown = subst (λ (r : Setting). view_of r (items ++ item ∷ []) ≡ after v item) (sym kept) shown;
       stand = st.0;
       differ = st.1;

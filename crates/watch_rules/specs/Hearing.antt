@@ -10,7 +10,7 @@ use Rattle.wire_frames.specs.Reading.{Step, fed_step}
 use Rattle.socket_lines.specs.declared.line.Line.{Line}
 use Rattle.socket_lines.specs.Lines.{doomed, unnamed_room}
 use Rattle.socket_list.specs.Sockets.{Sockets, at_line, line_of, with_name_free, fed_line, greeted_line}
-use Rattle.watch_rules.specs.Streams.{Stream, count_at, room_at, room_of, took_of}
+use Rattle.log_streams.specs.Streams.{Stream, count_at, room_at, room_of, took_of}
 use Rattle.watch_rules.specs.Views.{View}
 
 -- the sockets are these

@@ -1,6 +1,5 @@
 -- Laws: what holds of every history of a logger.
 use Rattle.std.specs.Prelude.{◌≡◌, ◌⊎◌, ℕ, List, [], ◌∷◌, ◌++◌, Option, Some, None, slice_get, true, IsTrue}
-use Rattle.definitions.specs.World.{Game}
 use Rattle.wire_frames.specs.declared.frames.Frame.TheVariants.{Want}
 use Rattle.wire_frames.specs.Spelling.{spelling}
 use Rattle.socket_lines.specs.declared.line.Line.{Line}
@@ -10,12 +9,12 @@ use Rattle.socket_list.specs.Sockets.{line_of}
 use Rattle.socket_station.specs.declared.answers.Ready.{Ready}
 use Rattle.socket_station.specs.Items.{Item, PollCall, Polled, Took, Gave, Failed}
 use Rattle.socket_station.specs.Standings.{OpensNew}
-use Rattle.watch_rules.specs.Streams.{count_at, entries_of, gone_on, owner_of}
+use Rattle.log_streams.specs.Streams.{count_at}
 use Rattle.watch_rules.specs.Views.{Setting, View, start}
 use Rattle.watch_rules.specs.After.{after, view_of}
 use Rattle.watch_rules.specs.Licence.{IsLicensed}
 use Rattle.watch_rules.specs.Rules.{IsAllowed}
-use Rattle.watch_rules.specs.Histories.{IsHistory}
+use Rattle.watch_rules.specs.Histories.{AreTold, IsHistory}
 use Rattle.watch_rules.specs.Told.{IsTold}
 
 -- what was told up to some moment is a history
@@ -75,20 +74,7 @@ pub record IsWantOf (s : Setting) (socket : ℕ) (items : List Item) (bytes : Li
 abbrev pub BeginsWant : Setting → (socket : ℕ) → List Item → List ℕ → Type 0
 BeginsWant s socket items bytes = (bytes ≡ []) ⊎ IsWantOf s socket items bytes
 
--- the items come one after the other from a view, each allowed, and the sockets that they open are
--- new
-abbrev pub AreTold : View → (before items : List Item) → Type 0
-AreTold v before [] = Unit {0}
-AreTold v before (item ∷ items) = OpensNew before item × IsAllowed v item × AreTold (after v item) (before ++ item ∷ []) items
-
 -- what is given on a socket in all begins one WANT, of the place that its HELLO found, whatever
 -- the station answered
 abbrev pub GivenIsOneWant : Type 0
 GivenIsOneWant = (s : Setting) (items : List Item) (socket : ℕ) → AreTold (start s) [] items → BeginsWant s socket items (given_in socket items)
-
--- bytes that come with the one that closed a player, and after it, give its list no entry, and its
--- log no other owner
-abbrev pub LaterBytesGiveNothing : Type 0
-LaterBytesGiveNothing = (game : Game) (pieces : List (List ℕ)) (front rest : List ℕ) → (gone_on game (pieces ++ front ∷ [])).is_closed ≡ true →
-    (entries_of game (gone_on game (pieces ++ (front ++ rest) ∷ [])) ≡ entries_of game (gone_on game (pieces ++ front ∷ [])))
-    × (owner_of game (gone_on game (pieces ++ (front ++ rest) ∷ [])) ≡ owner_of game (gone_on game (pieces ++ front ∷ [])))

@@ -5,7 +5,7 @@ use Rattle.rosters.specs.Rosters.{Neighbours}
 use Rattle.socket_list.specs.Sockets.{Sockets}
 use Rattle.watch_rules.specs.declared.phases.WatchPhase.{WatchPhase}
 use Rattle.watch_rules.specs.declared.phases.WatchPhase.TheVariants.{Fresh}
-use Rattle.watch_rules.specs.Streams.{Stream, no_streams}
+use Rattle.log_streams.specs.Streams.{Stream, no_streams}
 
 -- what a logger is given before its first call: the session, where it listens, and each player's
 -- link, by number

@@ -1,6 +1,6 @@
 //! Laws of a logger's histories: functions that do nothing, whose clauses are proved.
 
-ghost use Rattle.watch_rules.specs.Laws.{PrefixesAreHistories, ItemsAreAllowed, ToldGoesOn, PollsAreLicensed, FailedPollsAreLicensed, GivenIsDue, GivenIsOneWant, LaterBytesGiveNothing};
+ghost use Rattle.watch_rules.specs.Laws.{PrefixesAreHistories, ItemsAreAllowed, ToldGoesOn, PollsAreLicensed, FailedPollsAreLicensed, GivenIsDue, GivenIsOneWant};
 
 /// What was told up to some moment is a history: each of its items may come after those before it.
 pub fn histories_grow_by_items()
@@ -27,10 +27,4 @@ pub fn polls_are_licensed()
 pub fn given_is_one_want()
     ensures due { GivenIsDue }
     ensures one { GivenIsOneWant }
-{}
-
-/// What comes after the byte that closed a player changes neither its list nor whose log it is:
-/// its stream may be cut at that byte.
-pub fn later_bytes_give_nothing()
-    ensures { LaterBytesGiveNothing }
 {}

@@ -1,5 +1,4 @@
-use Rattle.std.proofs.Common.{◌≡◌, ◌+◌, ◌≤◌, ap, sym, refl, subst, ◌∙◌, arith, length}
-use Rattle.std.specs.Prelude.{Some, slice_get}
+use Rattle.std.proofs.Common.{ap, refl, ◌∙◌, arith, length}
 use Rattle.wire_frames.specs.Reading.{Reading, fed_step}
 use Rattle.socket_lines.specs.declared.line.Line.{Line}
 use Rattle.socket_list.specs.Sockets.{at_line, fed_line}

@@ -3,7 +3,7 @@ use Rattle.std.specs.Prelude.{◌==◌, if◌then◌else◌}
 use Rattle.socket_lines.specs.declared.line.Line.{Line}
 use Rattle.socket_lines.specs.Lines.{woken}
 use Rattle.loop_rules.specs.Tables.{in_lines}
-use Rattle.socket_table.proofs.Opened.{woken_same}
+use Rattle.socket_list.proofs.OneLine.{woken_same}
 use Rattle.socket_list.proofs.Changed.{all_changed}
 use Rattle.socket_list.proofs.Opened.{fit_woken}
 use Rattle.socket_list.proofs.sockets.Sockets.wake.Goals as goal

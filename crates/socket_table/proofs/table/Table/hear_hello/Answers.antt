@@ -1,4 +1,4 @@
-use Rattle.std.proofs.Common.{ap, sym, ◌∙◌, true, false}
+use Rattle.std.proofs.Common.{sym, true, false}
 use Rattle.socket_table.proofs.Heard.{naming_of, no_naming, naming_at, naming_unspent, naming_player, hello_heard}
 use Rattle.socket_table.proofs.table.Table.hear_hello.Goals as goal
 

@@ -3,7 +3,9 @@ use Rattle.std.specs.Prelude.{◌==◌, if◌then◌else◌}
 use Rattle.socket_lines.specs.declared.line.Line.{Line}
 use Rattle.socket_lines.specs.Lines.{woken}
 use Rattle.loop_rules.specs.Tables.{in_lines}
-use Rattle.socket_table.proofs.Opened.{all_lines, woken_same, fit_woken}
+use Rattle.socket_list.proofs.OneLine.{woken_same}
+use Rattle.socket_table.proofs.Changed.{all_lines}
+use Rattle.socket_table.proofs.Opened.{fit_woken}
 use Rattle.socket_table.proofs.table.Table.wake.Goals as goal
 
 pub invariant_of-self : goal.invariant_of-self
