@@ -7,3 +7,5 @@ pub mod Addrs
 pub mod Plain
 pub mod Taken
 pub mod Short
+pub mod Loggers
+pub mod Everybody

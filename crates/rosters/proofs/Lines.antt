@@ -41,7 +41,7 @@ link_read l fits = rw (number_read space 255 l.player (addr_text l.addr (space �
 
 -- ---- what is read was spelled so
 
-alone_is : {X : Type 0} (x : X × List ℕ) (y : X) → alone x ≡ Some y → (x.1 ≡ []) × (x.0 ≡ y)
+pub alone_is : {X : Type 0} (x : X × List ℕ) (y : X) → alone x ≡ Some y → (x.1 ≡ []) × (x.0 ≡ y)
 alone_is x y h = let kept = some_when (length x.1 == 0) x.0 y h in (none x.1 (eqb-true (length x.1) 0 kept.0), kept.1)
   where
     none : (xs : List ℕ) → length xs ≡ 0 → xs ≡ []

@@ -13,7 +13,7 @@ use Rattle.rosters.specs.Fields.{dot, line_end, space}
 use Rattle.rosters.specs.Text.{FitsAddr, FitsLink, FitsPass, addr_text, dotted, link_line, me_line, passes_text}
 
 -- the last byte, and no other, is an LF
-ends_once : List ℕ → Bool
+unfoldable pub ends_once : List ℕ → Bool
 ends_once [] = false
 ends_once (b ∷ []) = b == 10
 ends_once (b ∷ c ∷ bs) = not (b == 10) && ends_once (c ∷ bs)
@@ -29,11 +29,11 @@ once_line (b ∷ c ∷ bs) h =
     (b ∷ rest.0, and_from _ _ both.0 rest.1, ap (λ (t : List ℕ). b ∷ t) rest.2)
 
 -- so it is a line
-is_line : (line : List ℕ) → ends_once line ≡ true → IsLine line
+pub is_line : (line : List ℕ) → ends_once line ≡ true → IsLine line
 is_line line h = let parts = once_line line h in subst IsLine (sym parts.2) (bare_line parts.0 parts.1)
 
 -- bytes without an LF in front
-plain_then : (front rest : List ℕ) → has_no_lf front ≡ true → ends_once rest ≡ true → ends_once (front ++ rest) ≡ true
+pub plain_then : (front rest : List ℕ) → has_no_lf front ≡ true → ends_once rest ≡ true → ends_once (front ++ rest) ≡ true
 unfolding ends_once
 plain_then [] rest plain once = once
 plain_then (b ∷ []) [] plain once = absurd cc
@@ -42,11 +42,11 @@ plain_then (b ∷ c ∷ front) rest plain once =
     let both = and_parts (not (b == 10)) (has_no_lf (c ∷ front)) plain in
     and_from _ _ both.0 (plain_then (c ∷ front) rest both.1 once)
 
-pass_plain : (pass : List ℕ) → FitsPass pass → has_no_lf (encode_lower pass) ≡ true
+pub pass_plain : (pass : List ℕ) → FitsPass pass → has_no_lf (encode_lower pass) ≡ true
 pass_plain pass fits = digits_plain (encode_lower pass) (digits_lower pass fits.1)
 
 -- a mark in front
-mark_then : (mark : ℕ) (rest : List ℕ) → (mark == 10) ≡ false → ends_once rest ≡ true → ends_once (mark ∷ rest) ≡ true
+pub mark_then : (mark : ℕ) (rest : List ℕ) → (mark == 10) ≡ false → ends_once rest ≡ true → ends_once (mark ∷ rest) ≡ true
 mark_then mark rest other once = plain_then (mark ∷ []) rest (rw other refl) once
 
 number_then_once : (n : ℕ) (rest : List ℕ) → n < 2 ^ 32 → ends_once rest ≡ true → ends_once (decimal n ++ rest) ≡ true
@@ -59,7 +59,7 @@ dotted_once (a ∷ b ∷ bs) rest bytes once =
     let x : a < 256 = bytes 0 in
     number_then_once a (dot ∷ dotted (b ∷ bs) rest) (omega arith) (mark_then dot (dotted (b ∷ bs) rest) refl (dotted_once (b ∷ bs) rest (λ i. bytes (suc i)) once))
 
-addr_once : (addr : Addr) (rest : List ℕ) → FitsAddr addr → ends_once rest ≡ true → ends_once (addr_text addr rest) ≡ true
+pub addr_once : (addr : Addr) (rest : List ℕ) → FitsAddr addr → ends_once rest ≡ true → ends_once (addr_text addr rest) ≡ true
 addr_once addr rest fits once =
     dotted_once addr.ip (space ∷ (decimal addr.port ++ rest)) fits.bytes (mark_then space (decimal addr.port ++ rest) refl (number_then_once addr.port rest (omega (arith, fits.port.1)) once))
 

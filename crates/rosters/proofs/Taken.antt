@@ -144,7 +144,7 @@ links_take me (suc q) lines x e =
     let a = bind_ok (links_at me q lines) _ x e in
     with_takes me q (q == me) refl lines a.0.0 a.0.1 x (links_take me q lines a.0 a.1) a.2
 
-end_takes : (n : ℕ) (lines : List (List ℕ)) (xs : List ℕ) → end_at n lines ≡ Ok xs → lines ≡ end_line ∷ []
+pub end_takes : (n : ℕ) (lines : List (List ℕ)) (xs : List ℕ) → end_at n lines ≡ Ok xs → lines ≡ end_line ∷ []
 unfolding end_at
 end_takes n [] xs e = absurd cc
 end_takes n (line ∷ lines) xs e = by_end (is_bare (codes "end") line) refl

@@ -59,7 +59,7 @@ fn read_link(line: &[u8]) -> Option<Link>
 }
 
 /// The own address, which line 2 says, and the text behind the line.
-fn me_at(text: &[u8]) -> Result<(Addr, &[u8]), TextFault>
+pub(crate) fn me_at(text: &[u8]) -> Result<(Addr, &[u8]), TextFault>
     ensures { Says (λ x. (x.0, ended_lines_of x.1.now)) result (line_at (At 2) me_said (ended_lines_of text.now)) }
 {
     let (line, rest) = take_line(text);
@@ -140,7 +140,7 @@ fn links_of<'a>(
 }
 
 /// Asks for the last line, which is line `n`.
-fn read_end(n: u32, text: &[u8]) -> Result<(), TextFault>
+pub(crate) fn read_end(n: u32, text: &[u8]) -> Result<(), TextFault>
     requires { n ≤ 300 }
     ensures { Says (λ _. []) result (end_at n (ended_lines_of text.now)) }
 {
