@@ -77,9 +77,9 @@ accuse_holds a = record {
         told = λ f m. subst (λ (text : List ℕ). TellsFinding game roots text f (sealed_of game roots all f)) (sym body) (finding_told game roots all f (game_found _ game is.rooted.read).session bytes m);
       };
   unread = λ shelf contents h n. inl (none_at (a.session ∷ a.roots ∷ a.files) n);
+  unasked = λ shelf. refl;
   unremembered = λ ended. tt;
   cut = λ ended. tt;
   played_cause = λ contents input before after s p. absurd p;
   played_done = λ contents input before after s p good written. absurd p;
-  played_told = λ contents before after output s told p r. absurd p;
 }

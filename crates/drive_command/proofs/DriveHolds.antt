@@ -100,9 +100,9 @@ drive_holds d = record {
     streams = gives_next;
   };
   unread = λ shelf session h. inl (none_at (d.session ∷ log_names d.old) 1);
+  unasked = λ shelf. refl;
   unremembered = λ ended. tt;
   cut = λ ended. tt;
   played_cause = λ contents input before after s p. absurd p;
   played_done = λ contents input before after s p good written. absurd p;
-  played_told = λ contents before after output s told p r. absurd p;
 }

@@ -85,7 +85,9 @@ module _ (rest : Outside) (i i' : SourceState) (a b : SinkState) (h h' : ShelfSt
       Works (drive_law d) (with_input rest i a h) (with_input rest i' b h') s
   played o p left = works (drive_law d) (drive_holds d) (with_input rest i a h) (with_input rest i' b h') s (record {
     calls = o.calls;
+    read = h';
     files = record { reads = o.reads; due = o.log_due };
+    asked = refl;
     input = record { same = p.drew.same; grows = p.drew.grows };
     text = λ contents behind m. inl (record { station = refl; chance = refl }, begun_ran _ _ a b s d.player _ r _ (o.due contents m.given) (p.ends behind m.follows) (source_failed i i' a b due [] s p));
     memory = where_no_memory s ((drive_law d).memory ≡ true) refl;
@@ -105,7 +107,9 @@ module _ (rest : Outside) (a : SinkState) (h h' : ShelfState) (d : Driving) (s :
   pub unbegun : Works (drive_law d) (with_files rest a h) (with_files rest a h') s
   unbegun = works (drive_law d) (drive_holds d) (with_files rest a h) (with_files rest a h') s (record {
     calls = o.calls;
+    read = h';
     files = record { reads = o.reads; due = o.log_due };
+    asked = refl;
     input = record { same = refl; grows = grows_none rest.input.seen };
     text = λ contents behind m. inl (record { station = refl; chance = refl }, unbegun_ran _ _ a d.player _ _ s (o.due contents m.given) (λ e. (o.counted ∙ ap (λ f. faults_behind f h.faults) (ap is_input_fault e), refl)));
     memory = where_no_memory s ((drive_law d).memory ≡ true) refl;

@@ -54,9 +54,9 @@ audit_holds a = record {
     faces = two_faces game (behind_first contents) (length a.logs) (game_found _ game is.read).session bytes;
   };
   unread = λ shelf contents h i. inl (none_at (a.session ∷ a.logs) (suc i));
+  unasked = λ shelf. refl;
   unremembered = λ ended. tt;
   cut = λ ended. tt;
   played_cause = λ contents input before after s p. absurd p;
   played_done = λ contents input before after s p good written. absurd p;
-  played_told = λ contents before after output s told p r. absurd p;
 }

@@ -59,9 +59,9 @@ judge_holds j = record {
   meant = λ contents input case is.
       subst (λ (x : Answer). TellsVerdict case.0 case.1 x.body) (sym (case_answer contents case is)) (verdict_tells case.0 case.1 (game_found _ case.0 is.read).session.ahead.0);
   unread = λ shelf session h. inl (none_at (j.session ∷ j.evidence ∷ []) 1);
+  unasked = λ shelf. refl;
   unremembered = λ ended. tt;
   cut = λ ended. tt;
   played_cause = λ contents input before after s p. absurd p;
   played_done = λ contents input before after s p good written. absurd p;
-  played_told = λ contents before after output s told p r. absurd p;
 }

@@ -64,9 +64,9 @@ sealed_holds j = record {
       inl (ap (λ (r : Result SealedCase Status). (sealed_answer r).status) good.1 ∙ ap (λ (b : Bool). (verdict_answer b).status) good.2);
   meant = λ contents input c e. subst (λ (r : Result SealedCase Status). TellsSealedVerdict c (sealed_answer r).body) (sym e) (verdict_tells c (of_texts contents c e));
   unread = λ shelf contents h n. inl (none_at (j.session ∷ j.evidence ∷ j.roots ∷ []) n);
+  unasked = λ shelf. refl;
   unremembered = λ ended. tt;
   cut = λ ended. tt;
   played_cause = λ contents input before after s p. absurd p;
   played_done = λ contents input before after s p good written. absurd p;
-  played_told = λ contents before after output s told p r. absurd p;
 }

@@ -33,9 +33,9 @@ upgrade_holds session = record {
   meant = λ contents input game read.
       subst (λ (a : Answer). TellsUpgrade game a.body) (sym (upgrade_answer_is contents game read)) (upgrade_tells game _ (game_found _ game read));
   unread = λ shelf. tt;
+  unasked = λ shelf. refl;
   unremembered = λ ended. tt;
   cut = λ ended. tt;
   played_cause = λ contents input before after s p. absurd p;
   played_done = λ contents input before after s p good written. absurd p;
-  played_told = λ contents before after output s told p r. absurd p;
 }

@@ -56,9 +56,9 @@ root_holds k = record {
       let small = game_seated k.player (game_at (front_of (content contents 0))) (front_of (content contents 0)) (behind_first contents) keys refl read in
       subst (λ (r : Result Keyed Status). TellsRoot k.player keys (root_answer k.player r).body) (sym read) (record { read = root_told k.player keys.game keys.seed small; seals = seals_valid });
   unread = λ shelf contents h n. inl (none_at (k.session ∷ k.seed ∷ []) n);
+  unasked = λ shelf. refl;
   unremembered = λ ended. tt;
   cut = λ ended. tt;
   played_cause = λ contents input before after s p. absurd p;
   played_done = λ contents input before after s p good written. absurd p;
-  played_told = λ contents before after output s told p r. absurd p;
 }

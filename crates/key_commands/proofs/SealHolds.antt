@@ -27,9 +27,9 @@ seal_holds s = record {
   done = λ contents input answered ends good. inl (ap (λ (r : Result Sealed Status). (seal_answer r).status) good.1);
   meant = λ contents input sealed e. seals_told s contents sealed e;
   unread = λ shelf contents h n. inl (none_at (s.keys.session ∷ s.keys.seed ∷ s.log ∷ []) n);
+  unasked = λ shelf. refl;
   unremembered = λ ended. tt;
   cut = λ ended. tt;
   played_cause = λ contents input before after t p. absurd p;
   played_done = λ contents input before after t p good written. absurd p;
-  played_told = λ contents before after output t told p r. absurd p;
 }

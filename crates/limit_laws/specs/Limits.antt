@@ -3,7 +3,7 @@ use Rattle.std.specs.Prelude.{◌≡◌}
 use Rattle.definitions.specs.declared.limits.TheConstants.{WINDOW, FEWEST_PLAYERS, MOST_PLAYERS, MOST_PLAYERS_AT_FIRST, MOST_TURNS, MOST_TURNS_AT_FIRST, MOST_TURNS_OF_ALL, MOST_AHEAD, WIDEST_SIDE, WIDEST_SIDE_AT_FIRST, LAST_VERSION, MOST_SPEED, FARTHEST_REACH, WIDEST_BLAST, MOST_CHARGE, MOST_ENTRIES, MOST_AUDITED, LONGEST_LOG, LOG_FRONT, SESSION_FRONT, MOST_LINES, LONGEST_LINE, LONGEST_PIECE, GREATEST_PLAYER, MOST_NEEDS, MOST_EVIDENCE_FRAMES, EVIDENCE_FRONT}
 use Rattle.socket_lines.specs.declared.limits.TheConstants.{MOST_BYTES, HELLO_BYTES, MOST_ACCEPTED, MOST_WANTS}
 use Rattle.socket_station.specs.declared.ready_list.TheConstants.{MOST_READY}
-use Rattle.peer_command.specs.declared.words.TheConstants.{MOST_POLLS}
+use Rattle.run_frame.specs.declared.polls.TheConstants.{MOST_POLLS}
 use Rattle.rosters.specs.declared.limits.TheConstants.{ROSTER_FRONT}
 use Rattle.pilots.specs.declared.limits.TheConstants.{MOVES_FRONT}
 use Rattle.frame_index.specs.declared.limits.TheConstants.{MOST_LOGS}

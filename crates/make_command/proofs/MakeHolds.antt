@@ -10,9 +10,9 @@ make_holds number = record {
   done = λ contents input answered ends good. inl refl;
   meant = λ contents input. ends_fairly number;
   unread = λ shelf. refl;
+  unasked = λ shelf. refl;
   unremembered = λ ended. tt;
   cut = λ ended. tt;
   played_cause = λ contents input before after s p. absurd p;
   played_done = λ contents input before after s p good written. absurd p;
-  played_told = λ contents before after output s told p r. absurd p;
 }

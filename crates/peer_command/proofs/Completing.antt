@@ -32,7 +32,8 @@ use Rattle.ready_loop.specs.Going.{polls_of}
 use Rattle.ready_loop.specs.Stops.{IsOwnMove}
 use Rattle.ready_loop.specs.Polling.{StandsEnded}
 use Rattle.peer_command.specs.Ends.{peer_answer, status_of}
-use Rattle.peer_command.specs.Faults.{EndsBy, FailsNone, StandsByFaults}
+use Rattle.run_frame.specs.FailedCalls.{EndsBy, FailsNone}
+use Rattle.peer_command.specs.Faults.{StandsByFaults}
 use Rattle.peer_command.specs.PeerLaw.{IsGoodMatch, PlaysOverSockets, chooser_of, log_kept}
 use Rattle.peer_command.specs.Seats.{Seating}
 use Rattle.peer_command.specs.Words.{Peering}

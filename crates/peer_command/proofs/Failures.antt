@@ -15,7 +15,8 @@ use Rattle.loop_rules.specs.Histories.{IsHistory}
 use Rattle.loop_rules.specs.Laws.{FaultsAreLast, ends_run}
 use Rattle.loop_rules.specs.Told.{IsTold}
 use Rattle.loop_rules.proofs.Kept.{keeps_took, keeps_sorted}
-use Rattle.peer_command.specs.Faults.{EndsBy, FailsNone, FailsNeither}
+use Rattle.run_frame.specs.FailedCalls.{EndsBy, FailsNone}
+use Rattle.peer_command.specs.Faults.{FailsNeither}
 
 -- ---- the phase after one item
 

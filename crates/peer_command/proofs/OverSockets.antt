@@ -80,7 +80,9 @@ module _ (p : Peering) (rest : Outside) (a : SinkState) (h h' : ShelfState) (ite
       let some : Contents = some_contents o.calls in
       works (peer_law p) (peer_holds p) first (last a items chance) s (record {
         calls = o.calls;
+        read = h';
         files = record { reads = o.reads; due = o.ready };
+        asked = refl;
         input = record { same = refl; grows = grows_none rest.input.seen };
         text = λ contents behind m. inl (record { station = refl; chance = refl }, refused_ran (start_for p contents) _ s o.counted (o.due contents m.given));
         memory = where_no_memory s ((peer_law p).memory ≡ true) refl;
@@ -134,7 +136,9 @@ module _ (p : Peering) (rest : Outside) (a : SinkState) (h h' : ShelfState) (ite
     pub a_seat_works : (ended : Status) → P.PlaysPeer seat_start (by chance) to items items' a b ended → Works (peer_law p) first (last b items' to.chance) ended
     a_seat_works ended plays = works (peer_law p) (peer_holds p) first (last b items' to.chance) ended (record {
       calls = o.calls;
+      read = h';
       files = record { reads = o.reads; due = o.ready };
+      asked = refl;
       input = record { same = refl; grows = grows_none rest.input.seen };
       text = λ contents behind m. worked contents _ (o.due contents m.given) ended plays;
       memory = where_no_memory ended ((peer_law p).memory ≡ true) refl;

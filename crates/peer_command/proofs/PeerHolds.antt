@@ -1,5 +1,5 @@
--- PeerHolds: the law of the command to play over sockets: each status has its cause, what is good comes to its end, and the last line
--- changes nothing of a run that was played.
+-- PeerHolds: the law of the command to play over sockets: each status has its cause, and what is good comes to
+-- its end.
 use Rattle.std.proofs.Common.{◌≡◌, inl, inr, ℕ, Bool, true, false, List, [], Option, None, Some, nat_lt, if◌then◌else◌, refl, ap, sym, ◌∙◌, subst, arith}
 use Rattle.std.specs.Prelude.{Result, Ok, Err, option_map}
 use Rattle.definitions.specs.declared.world.Move.{Move}
@@ -12,18 +12,13 @@ use Rattle.text_fields.specs.declared.fault.TextFault.TheVariants as text
 use Rattle.rosters.specs.Reading.{roster_at}
 use Rattle.rosters.specs.Rosters.{Neighbours}
 use Rattle.pilots.specs.Scripts.{script_at}
-use Rattle.station.specs.Sinks.{SinkState, after_bytes}
 use Rattle.line_io.specs.Files.{Contents, behind_first, content}
 use Rattle.line_io.specs.Inputs.{Input}
-use Rattle.line_io.specs.Texts.{CutShort}
 use Rattle.line_io.proofs.Unread.{none_at}
-use Rattle.line_io.proofs.Writing.{bytes_none}
-use Rattle.run_frame.specs.Ends.{Refuses}
 use Rattle.run_frame.specs.Frame.{Ends}
 use Rattle.run_frame.specs.Law.{HasCause}
-use Rattle.run_frame.specs.Outside.{Outside, with_output}
-use Rattle.run_frame.specs.Sessions.{ended_by, front_of, session_in, with_player}
-use Rattle.run_frame.specs.Statuses.{refusal_of}
+use Rattle.run_frame.specs.Outside.{Outside}
+use Rattle.run_frame.specs.Sessions.{ended_by, front_of, session_in}
 use Rattle.run_frame.specs.declared.statuses.Status.{Status}
 use Rattle.run_frame.specs.declared.statuses.Status.TheVariants.{NoMemory, InputFault, OutputFault, Usage, BadSession, BadLine, BadLog}
 use Rattle.run_frame.proofs.Working.{Holds}
@@ -33,41 +28,13 @@ use Rattle.session_log.specs.declared.faults.LogFault.{LogFault}
 use Rattle.old_log.specs.Old.{old_fault}
 use Rattle.ready_loop.specs.declared.polling.Ended.{Ended}
 use Rattle.ready_loop.specs.declared.polling.Ended.TheVariants as E
-use Rattle.ready_loop.specs.States.{LoopState}
 use Rattle.peer_command.specs.Ends.{peer_answer, status_of}
 use Rattle.peer_command.specs.PeerLaw.{PlaysOverSockets, peer_law, unplayed_answer}
-use Rattle.peer_command.specs.Seats.{Seating, behind_roster, behind_session, moves_by, moves_front_of, moves_in, roster_by, roster_front_of, roster_in, seat_names, start_by_moves, start_by_player, start_by_roster, start_by_session, start_for, start_of}
+use Rattle.peer_command.specs.Seats.{Seating, moves_by, moves_front_of, moves_in, roster_by, roster_front_of, roster_in, seat_names, start_by_moves, start_by_player, start_by_roster, start_by_session, start_for, start_of}
 use Rattle.peer_command.specs.Words.{Peering}
 use Rattle.peer_command.proofs.Completing.{comes}
 use Rattle.peer_command.proofs.Survived.{crashes_are_survived}
 use Rattle.peer_command.proofs.Given.{nothing_is_given_unsynced}
-
--- how a loop ended is told without a line of refusal
-no_line : (ended : Ended) → refusal_of (status_of ended) ≡ []
-no_line E.Done = refl
-no_line (E.Caught f) = refl
-no_line E.PollFault = refl
-no_line E.KeepFault = refl
-no_line (E.OwnMove turn fault) = refl
-no_line E.GaveUp = refl
-
-module _ (a b c : SinkState) (dropped : Option ℕ) (polls : ℕ) (ended : Ended) (l : LoopState) where
-  -- the line is empty
-  stays : (s result : Status) → refusal_of s ≡ [] → Refuses b c s result → (result ≡ s) × (c ≡ b)
-  stays s result e (inl h) = (h.0, h.1 ∙ ap (after_bytes b) e ∙ bytes_none b)
-  stays s result e (inr h) =
-      let cut : CutShort b c [] = subst (CutShort b c) e h.1 in
-      absurd (omega (arith, cut.between.longer, cut.between.shorter))
-
-  on_so : (s result : Status) → refusal_of s ≡ [] → Ends a b (peer_answer dropped polls ended l) s → Refuses b c s result → Ends a c (peer_answer dropped polls ended l) result
-  on_so s result e w r =
-      let x = stays s result e r in
-      subst (λ (t : Status). Ends a c (peer_answer dropped polls ended l) t) (sym x.0) (subst (λ (k : SinkState). Ends a k (peer_answer dropped polls ended l) s) (sym x.1) w)
-
-  pub ended_on : (s result : Status) → Ends a b (peer_answer dropped polls ended l) s → Refuses b c s result → Ends a c (peer_answer dropped polls ended l) result
-  ended_on NoMemory result w r = absurd w
-  ended_on OutputFault result w r = on_so OutputFault result refl w r
-  ended_on s result w r = on_so s result (ap refusal_of w.1 ∙ no_line ended) w r
 
 -- ---- by what files are refused
 
@@ -158,26 +125,15 @@ module _ (p : Peering) where
       go OutputFault w = tt
       go s w = subst (λ (x : Status). HasCause (peer_law p) contents input x) (sym w.1) (loop_cause contents input d.seating d.due_is d.plays.ended)
 
-  -- a run that was played is told without a line of refusal
-  played_on : (contents : Contents) (before after : Outside) (output : SinkState) (s result : Status) → PlaysOverSockets p (start_for p contents) before after s → Refuses after.output output s result →
-      PlaysOverSockets p (start_for p contents) before (with_output after output) result
-  played_on contents before after output s result d r = record {
-    seating = d.seating;
-    due_is = d.due_is;
-    seated = d.seated;
-    honest = d.honest;
-    plays = record { ended = d.plays.ended; last = d.plays.last; plays = d.plays.plays; fair = d.plays.fair; steps = d.plays.steps; written = ended_on before.output after.output output _ _ d.plays.ended d.plays.last s result d.plays.written r };
-  }
-
   pub peer_holds : Holds (peer_law p)
   peer_holds = record {
     caused = λ contents input ends. unplayed contents input (start_for p contents) refl (refused contents);
     done = λ contents input answered ends good. inr (ap (λ (r : Result Seating Status). (unplayed_answer r).status) good.due_is);
     meant = λ contents input. record { crashes = crashes_are_survived; unsynced = nothing_is_given_unsynced };
     unread = λ shelf contents h k. inl (none_at (seat_names p) k);
+    unasked = λ shelf. refl;
     unremembered = λ ended. tt;
     cut = λ ended. tt;
     played_cause = played;
-    played_done = λ contents input before after s d good written. comes p (start_for p contents) before after s good written d;
-    played_told = played_on;
+    played_done = λ contents input before after s d good files written. comes p (start_for p contents) before after s good written d;
   }

@@ -47,7 +47,8 @@ use Rattle.ready_loop.specs.Beginning.{given_by, new_loop}
 use Rattle.ready_loop.specs.Laws.{IsRun}
 use Rattle.ready_loop.specs.Choices.{Chooser}
 use Rattle.ready_loop.specs.Polling.{StandsEnded}
-use Rattle.peer_command.specs.Faults.{EndsBy, FailsNone, StandsByFaults, is_listen_call}
+use Rattle.run_frame.specs.FailedCalls.{EndsBy, FailsNone}
+use Rattle.peer_command.specs.Faults.{StandsByFaults, is_listen_call}
 use Rattle.peer_command.specs.Steps.{IsLogRun}
 
 -- ---- where no own frame may be made

@@ -13,12 +13,9 @@ use Rattle.ready_loop.specs.Counts.{given_by}
 use Rattle.report_lines.specs.Lines.{caught_text, dropped_text, end_line_text, fault_name, need_text}
 use Rattle.report_lines.specs.Report.{own_score_text, players_text, stand_text}
 use Rattle.run_frame.specs.Frame.{Answer}
+use Rattle.run_frame.specs.Polls.{gave_up_text}
 use Rattle.run_frame.specs.declared.statuses.Status.{Status}
 use Rattle.run_frame.specs.declared.statuses.Status.TheVariants.{Done, Caught, GaveUp, KeepFault, PollFault, OwnMove}
-
--- all polls were made
-unfoldable pub gave_up_text : (polls : ℕ) → List ℕ
-gave_up_text polls = codes "gave up " ++ decimal polls ++ codes "\n"
 
 -- the move of the turn is not legal
 unfoldable pub own_move_text : (turn : ℕ) → MoveFault → List ℕ

@@ -1,7 +1,8 @@
 -- Faults: which failed calls stand behind the end of a run.
-use Rattle.std.specs.Prelude.{◌≡◌, Bool, true, false, List, [], ◌∷◌, ◌++◌}
+use Rattle.std.specs.Prelude.{Bool, true, false, List}
 use Rattle.socket_station.specs.Faults.{is_keep_call, is_poll_call}
-use Rattle.socket_station.specs.Items.{Item, Call, ListenCall, Failed}
+use Rattle.socket_station.specs.Items.{Item, Call, ListenCall}
+use Rattle.run_frame.specs.FailedCalls.{EndsBy, FailsNone}
 use Rattle.ready_loop.specs.declared.polling.Ended.{Ended}
 use Rattle.ready_loop.specs.declared.polling.Ended.TheVariants as E
 
@@ -9,14 +10,6 @@ use Rattle.ready_loop.specs.declared.polling.Ended.TheVariants as E
 abbrev pub is_listen_call : Call → Bool
 is_listen_call (ListenCall addr) = true
 is_listen_call _ = false
-
--- the last item is the failure of such a call
-abbrev pub EndsBy : (Call → Bool) → List Item → Type 0
-EndsBy is_such items = (before : List Item) × (call : Call) × (items ≡ before ++ Failed call ∷ []) × (is_such call ≡ true)
-
--- no item is the failure of such a call
-abbrev pub FailsNone : (Call → Bool) → List Item → Type 0
-FailsNone is_such items = (before more : List Item) (call : Call) → items ≡ before ++ Failed call ∷ more → is_such call ≡ true → ⊥
 
 -- no call of the log failed, nor one of listening and polling
 abbrev pub FailsNeither : List Item → Type 0

@@ -97,6 +97,7 @@ peer_law p = record {
   names = seat_names p;
   -- a file is read only where those before it have what is asked of them
   due = λ before after calls. (contents : Contents) → AreContents contents calls → (k : ℕ) → (item_or calls k [] ≡ []) ⊎ MayReadRoster p contents k;
+  asks = λ before after. after ≡ before;
   answer = λ contents input. unplayed_answer (start_for p contents);
   plays = λ contents before after status. PlaysOverSockets p (start_for p contents) before after status;
   over = λ contents. Unit {0};

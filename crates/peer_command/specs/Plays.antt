@@ -16,7 +16,8 @@ use Rattle.ready_loop.specs.Beginning.{new_loop}
 use Rattle.ready_loop.specs.Laws.{IsRun}
 use Rattle.peer_command.specs.Ends.{peer_answer}
 use Rattle.peer_command.specs.Fair.{IsFairMatch}
-use Rattle.peer_command.specs.Faults.{FailsNone, StandsByFaults, is_listen_call}
+use Rattle.run_frame.specs.FailedCalls.{FailsNone}
+use Rattle.peer_command.specs.Faults.{StandsByFaults, is_listen_call}
 use Rattle.peer_command.specs.Steps.{IsLogRun}
 
 -- The loop was begun, with a log of this name, and played to its end.

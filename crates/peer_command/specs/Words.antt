@@ -1,7 +1,8 @@
 -- Words: what the words of the command say.
-use Rattle.std.specs.Prelude.{ℕ, List, [], ◌∷◌, Option, Some, None, option_map, nat_le, if◌then◌else◌}
+use Rattle.std.specs.Prelude.{ℕ, List, [], ◌∷◌, Option, Some, None, option_map}
 use Rattle.text_fields.specs.Numbers.{number_of}
-use Rattle.peer_command.specs.declared.words.TheConstants.{LAST_PLAYER, MOST_POLLS}
+use Rattle.run_frame.specs.Polls.{polls_granted}
+use Rattle.peer_command.specs.declared.words.TheConstants.{LAST_PLAYER}
 use Rattle.peer_command.specs.declared.words.PeerWords.{PeerWords}
 
 -- a run of the command, by its words
@@ -29,15 +30,6 @@ peering_said words = record {
   log = words.log.now;
   old = option_map (λ name. name.now) words.old;
 }
-
--- the number, where it is 1 at least
-abbrev pub from_one : Option ℕ → Option ℕ
-from_one None = None
-from_one (Some n) = if nat_le 1 n then Some n else None
-
--- how many polls a word grants: at least one
-abbrev pub polls_granted : List ℕ → Option ℕ
-polls_granted word = from_one (number_of MOST_POLLS word)
 
 -- the run of these files, this player and these polls, this log's name, and the file of an older log, if one is named
 abbrev pub peering_by : (session roster moves : List ℕ) → (player polls : Option ℕ) → (log : List ℕ) → (old : Option (List ℕ)) → Option Peering

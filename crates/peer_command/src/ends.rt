@@ -8,14 +8,14 @@ ghost use Rattle.run_frame.specs.Frame.{Ends};
 ghost use Rattle.report_lines.specs.Lines.{need_text};
 ghost use Rattle.peer_command.specs.Ends as E;
 
-use crate::lines::{gave_up_line, own_move_line, unsent_line};
+use crate::lines::{own_move_line, unsent_line};
 use definitions::PlayerId;
 use line_io::{SinkFault, put};
 use ready_loop::{Ended, Loop};
 use report_lines::{
     caught_line, end_line, put_dropped, put_each_need, put_players, put_score, put_stand,
 };
-use run_frame::Status;
+use run_frame::{Status, gave_up_line};
 use station::Sink;
 
 /// Writes what the end was, unless all was played.

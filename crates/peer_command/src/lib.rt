@@ -26,4 +26,4 @@ mod words;
 pub use command::run_peer;
 pub use crashes::{crashes_are_survived, nothing_is_given_unsynced};
 pub use playing::play_peer;
-pub use words::{MOST_POLLS, PeerWords, read_peer_words};
+pub use words::{PeerWords, read_peer_words};

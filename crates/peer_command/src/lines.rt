@@ -8,19 +8,6 @@ use definitions::{MoveFault, Place, PlayerId, Turn};
 use itoa::Buffer;
 use report_lines::{ReportLine, name_of_fault};
 
-/// What is written where all polls were made.
-#[tactic(auto, unfolding(crate::specs::Ends::gave_up_text))]
-pub(crate) fn gave_up_line(polls: u32) -> ReportLine
-    ensures { result.items ≡ E.gave_up_text polls }
-{
-    let mut line = ArrayVec::new();
-    line.try_extend_from_slice(b"gave up ").unwrap();
-    line.try_extend_from_slice(Buffer::new().format(polls).as_bytes())
-        .unwrap();
-    line.push(b'\n');
-    line
-}
-
 /// What is written where the move of the turn is not legal.
 #[tactic(auto, unfolding(crate::specs::Ends::own_move_text))]
 pub(crate) fn own_move_line(turn: Turn, fault: MoveFault) -> ReportLine

@@ -1,18 +1,15 @@
 //! The words of the command.
 
-ghost use Rattle.std.specs.Prelude.{◌≡◌, ◌≤◌, IfSome, map, option_map};
-ghost use Rattle.peer_command.specs.Words as W;
+ghost use Rattle.std.specs.Prelude.{◌≡◌, map, option_map};
 ghost use Rattle.peer_command.specs.Words.{peering_in, peering_named, peering_said};
 
 use definitions::PlayerId;
 use definitions::limits::MOST_PLAYERS;
+use run_frame::read_polls;
 use text_fields::read_number;
 
 /// The number of the last player that a session of any version may have.
 const LAST_PLAYER: u32 = MOST_PLAYERS as u32 - 1;
-
-/// The most polls that a run may be granted.
-pub const MOST_POLLS: u32 = 10_000_000;
 
 /// What the words say: the files of the session, of the roster and of the moves, the player, how many polls are granted, from 1 on, the name of the
 /// log that is begun, and the file of a log to go on from, if one is named.
@@ -25,15 +22,6 @@ pub struct PeerWords<'a> {
     pub polls: u32,
     pub log: &'a [u8],
     pub old: Option<&'a [u8]>,
-}
-
-/// How many polls the word grants.
-fn read_polls(word: &[u8]) -> Option<u32>
-    ensures value { result ≡ W.polls_granted word.now }
-    ensures few { IfSome result (λ n. n ≤ MOST_POLLS) }
-{
-    let polls = read_number(MOST_POLLS, word)?;
-    if polls >= 1 { Some(polls) } else { None }
 }
 
 /// What these words say, where two of them are a player's number and a number of polls.

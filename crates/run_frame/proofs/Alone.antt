@@ -90,7 +90,9 @@ module _ (law : Law) (holds : Holds law) (memory : law.memory ≡ true) (rest : 
       let none : Input = input_of AtEnd [] in
       works law holds (with_files rest a h) (with_files rest b h') s (record {
         calls = calls;
+        read = h';
         files = files;
+        asked = holds.unasked h';
         input = record { same = refl; grows = grows_none rest.input.seen };
         text = λ contents behind m. inl (record { station = refl; chance = refl }, ran_weaker a b (law.answer contents _) law.late _ _ s (ran contents _ m.given));
         memory = where_no_memory s (law.memory ≡ true) memory;
@@ -111,7 +113,9 @@ module _ (law : Law) (holds : Holds law) (memory : law.memory ≡ true) (rest : 
       let some : IsRefused (law.answer (some_contents calls) (input_of AtEnd [])) s = is (some_contents calls) (input_of AtEnd []) (contents_fit law h h' calls files) in
       works law holds (with_files rest a h) (with_files rest a h') s (record {
         calls = calls;
+        read = h';
         files = files;
+        asked = holds.unasked h';
         input = record { same = refl; grows = grows_none rest.input.seen };
         text = λ contents behind m. inl (record { station = refl; chance = refl }, refused_ran rest a a h h' _ law.late _ _ s (is contents _ m.given) (λ e. (f ∙ ap (λ x. faults_behind x h.faults) (ap is_input_fault e), refl)));
         memory = where_no_memory s (law.memory ≡ true) memory;

@@ -18,7 +18,7 @@ use Rattle.run_frame.specs.Ends.{Finished, Refuses}
 use Rattle.run_frame.specs.Frame.{Answer, Lacked, OnNoMemory, Ran}
 use Rattle.run_frame.specs.Law.{HasCause, Law, ReadsFor}
 use Rattle.run_frame.specs.Outside.{CountsFaults, IsApart, OneFailed, Outside, with_output}
-use Rattle.run_frame.specs.Runs.{Acts, ForAny, LeavesAlone, MayBe, ReadsOn, Runs, Works, read_by}
+use Rattle.run_frame.specs.Runs.{Acts, ForAny, Played, LeavesAlone, MayBe, ReadsOn, Runs, Works, read_by}
 use Rattle.run_frame.specs.Turns.{input_by}
 use Rattle.run_frame.specs.declared.statuses.Status.{Status}
 use Rattle.run_frame.specs.declared.statuses.Status.TheVariants.{NoMemory, InputFault, OutputFault}
@@ -34,20 +34,22 @@ pub record Holds (law : Law) : Type 0 where
   pub meant : (contents : Contents) (input : Input) → law.meant contents input
   -- nothing is read where memory is wanting at first
   pub unread : (shelf : ShelfState) → law.due shelf shelf (none_read law.names)
+  -- nothing need be asked of the shelf but those files
+  pub unasked : (shelf : ShelfState) → law.asks shelf shelf
   pub unremembered : (ended : Bool) → law.through NoMemory ended
   -- a run whose output failed came to no end
   pub cut : (ended : Bool) → law.through OutputFault ended
-  -- where calls of the station are made, the same, and the line of the status changes nothing
+  -- where calls of the station are made, the same
   pub played_cause : (contents : Contents) (input : Input) (before after : Outside) (s : Status) → law.plays contents before after s → HasCause law contents input s
   pub played_done : (contents : Contents) (input : Input) (before after : Outside) (s : Status) → law.plays contents before after s → law.good contents input after.station →
-      ¬ Rose before.output.faults after.output.faults → law.ends s
-  pub played_told : (contents : Contents) (before after : Outside) (output : SinkState) (s told : Status) → law.plays contents before after s → Refuses after.output output s told →
-      law.plays contents before (with_output after output) told
+      ¬ Rose before.shelf.faults after.shelf.faults → ¬ Rose before.output.faults after.output.faults → law.ends s
 
 -- What a run shows before the line of its status.
 pub record Worked (law : Law) (before after : Outside) (s : Status) : Type 0 where
   pub calls : Calls
-  pub files : ReadsFor law before.shelf after.shelf calls
+  pub read : ShelfState
+  pub files : ReadsFor law before.shelf read calls
+  pub asked : law.asks read after.shelf
   pub input : ReadsOn before.input after.input
   pub text : ForAny after calls (λ contents behind.
       (IsApart before after × Ran before.output after.output (law.answer contents (input_by s (read_by before after) behind)) law.late
@@ -99,6 +101,10 @@ module _ (before now : SinkState) (whole cut : Answer) (late : Bool) (source she
   completed b a OutputFault f c i h o = absurd (o c.1)
   completed b a s f c i h o = inl f.0
 
+-- where the output's fault is told, it was counted
+output_failed : (b a : Outside) (s : Status) → CountsFaults b a s → s ≡ OutputFault → Rose b.output.faults a.output.faults
+output_failed b a s counts e = let c : CountsFaults b a OutputFault = subst (CountsFaults b a) e counts in c.1
+
 -- how a run ends that is good
 comes : (ends : Status → Type 0) (s due : Status) (apart : Type 0) → apart → ends due ⊎ (due ≡ NoMemory) → (s ≡ due) ⊎ (s ≡ NoMemory) → ends s ⊎ ((s ≡ NoMemory) × apart)
 comes ends s due apart a (inl d) (inl e) = inl (subst ends (sym e) d)
@@ -120,16 +126,31 @@ module _ (law : Law) (holds : Holds law) (before mid : Outside) (s : Status) (w 
   text : (contents : Contents) (behind : List ℕ) → MayBe after w.calls contents behind → Acts law before after told contents behind
   text contents behind m = elim (w.text contents behind (before_line m)) [
     | inl (apart, ran) ↦ inl (record { station = apart.station; chance = apart.chance }, finished before.output mid.output output (read_by before after) behind (law.answer contents) law.late _ _ told s ran r)
-    | inr p ↦ inr (holds.played_told contents before mid output s told p r)
+    | inr p ↦ inr (record { output = mid.output; ended = s; plays = p; line = r })
   ]
 
   faults : CountsFaults before after told
   faults = refused_counts before mid output s told r w.faults
 
+  -- the line changes nothing of why a run ended so, and a run that comes to its end has its line
+  caused_on : (contents : Contents) (input : Input) → Played law contents before after told → HasCause law contents input told
+  caused_on contents input p = elim p.line [
+    | inl h ↦ subst (HasCause law contents input) (sym h.0) (holds.played_cause contents input before _ p.ended p.plays)
+    | inr h ↦ subst (HasCause law contents input) (sym h.0) tt
+  ]
+
+  done_on : (contents : Contents) (input : Input) → Played law contents before after told → law.good contents input after.station →
+      ¬ Rose before.shelf.faults after.shelf.faults → ¬ Rose before.output.faults after.output.faults → law.ends told
+  done_on contents input p good fs fo = elim p.line [
+    | inl h ↦ subst law.ends (sym h.0) (holds.played_done contents input before _ p.ended p.plays good fs
+        (subst (λ (o : SinkState). ¬ Rose before.output.faults o.faults) h.1 fo))
+    | inr h ↦ absurd (fo (output_failed before after told faults h.0))
+  ]
+
   cause : (contents : Contents) (behind : List ℕ) → MayBe after w.calls contents behind → HasCause law contents (input_of AtEnd (read_by before after ++ behind)) told
   cause contents behind m = elim (text contents behind m) [
     | inl (apart, f) ↦ finished_cause _ _ _ _ _ _ _ (HasCause law contents (input_of AtEnd (read_by before after ++ behind))) told f (holds.caused contents _ (ends_at_end (read_by before after ++ behind))) tt tt tt
-    | inr p ↦ holds.played_cause contents _ before after told p
+    | inr p ↦ caused_on contents _ p
   ]
 
   done : (contents : Contents) (behind : List ℕ) → MayBe after w.calls contents behind → law.good contents (input_of AtEnd (read_by before after ++ behind)) after.station →
@@ -138,18 +159,20 @@ module _ (law : Law) (holds : Holds law) (before mid : Outside) (s : Status) (w 
   done contents behind m good fi fs fo = elim (text contents behind m) [
     | inl (apart, f) ↦ comes law.ends told _ (IsApart before after) apart (holds.done contents _ after.station (ends_at_end (read_by before after ++ behind)) good)
         (completed _ _ _ _ _ _ _ before after told f faults fi fs fo)
-    | inr p ↦ inl (holds.played_done contents _ before after told p good fo)
+    | inr p ↦ inl (done_on contents _ p good fs fo)
   ]
 
   ran : Runs law before after told
   ran = record {
     calls = w.calls;
+    read = w.read;
     files = w.files;
+    asked = w.asked;
     input = w.input;
     possible = record {
       contents = some_contents w.calls;
       behind = [];
-      may = record { given = contents_fit law before.shelf mid.shelf w.calls w.files; follows = λ e. refl };
+      may = record { given = contents_fit law before.shelf w.read w.calls w.files; follows = λ e. refl };
     };
     text = text;
     caused = cause;
@@ -174,6 +197,7 @@ lacked_none true a text = ([], (text, refl), sym (bytes_none a))
 pub unremembered : (law : Law) → Holds law → law.memory ≡ true → (outside : Outside) → Works law outside outside NoMemory
 unremembered law holds memory outside = works law holds outside outside NoMemory (record {
   calls = none_read law.names;
+  read = outside.shelf;
   files = record {
     reads = record {
       same = refl;
@@ -182,6 +206,7 @@ unremembered law holds memory outside = works law holds outside outside NoMemory
     };
     due = holds.unread outside.shelf;
   };
+  asked = holds.unasked outside.shelf;
   input = record { same = refl; grows = grows_none outside.input.seen };
   text = λ contents behind m. inl (record { station = refl; chance = refl }, lacked_none law.late outside.output _);
   memory = memory;

@@ -15,9 +15,12 @@ pub record Law : Type 1 where
   pub names : List (List ℕ)
   -- of these nothing is read, as long as others don't ask for it
   pub due : (before after : ShelfState) → Calls → Type 0
+  -- what it asks of the shelf after those files, and at which places: nothing, but for a command that
+  -- gives a file on piece by piece
+  pub asks : (before after : ShelfState) → Type 0
   -- what it writes and how it ends, where it makes no call of the station
   pub answer : Contents → Input → Answer
-  -- what it does and how it ends, where it makes calls of the station
+  -- what it does and how it ends, where it makes calls of the station, before the line of its status
   pub plays : Contents → (before after : Outside) → Status → Type 0
   -- nothing is due by its input
   pub over : Contents → Type 0
@@ -47,6 +50,7 @@ abbrev pub law_without_sockets : (names : List (List ℕ)) → (due : (before af
 law_without_sockets names due answer over through first cause good meant = record {
   names = names;
   due = due;
+  asks = λ before after. after ≡ before;
   answer = answer;
   plays = λ contents before after status. ⊥;
   over = over;

@@ -8,3 +8,5 @@ pub mod Law
 pub mod Runs
 pub mod Sessions
 pub mod Opening
+pub mod Polls
+pub mod FailedCalls

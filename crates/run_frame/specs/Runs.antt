@@ -2,6 +2,7 @@
 use Rattle.std.specs.Prelude.{◌≡◌, ◌⊎◌, ℕ, List, ◌++◌, true}
 use Rattle.station.specs.Outside.{Rose}
 use Rattle.station.specs.Since.{since, Grows}
+use Rattle.station.specs.Shelves.{ShelfState}
 use Rattle.station.specs.Sinks.{SinkState}
 use Rattle.station.specs.Sources.{SourceState}
 use Rattle.line_io.specs.Files.{AreContents, Calls, Contents}
@@ -52,9 +53,18 @@ Writes law before after status contents behind =
     (law.answer contents (input_of AtEnd (read_by before after ++ behind))) (law.answer contents (input_of AtFault (read_by before after))) law.late
     (Rose before.input.faults after.input.faults) (Rose before.shelf.faults after.shelf.faults × (after.input ≡ before.input)) status
 
+-- It did what a command does that makes calls of the station, and then wrote the line of its status, if that
+-- has one.
+pub record Played (law : Law) (contents : Contents) (before after : Outside) (status : Status) : Type 0 where
+  -- the output and the status before that line
+  pub output : SinkState
+  pub ended : Status
+  pub plays : law.plays contents before (with_output after output) ended
+  pub line : Refuses output after.output ended status
+
 -- It made no call of the station, and wrote what is due; or it did what a command does that makes some.
 abbrev pub Acts : Law → (before after : Outside) → Status → Contents → (behind : List ℕ) → Type 0
-Acts law before after status contents behind = (IsApart before after × Writes law before after status contents behind) ⊎ law.plays contents before after status
+Acts law before after status contents behind = (IsApart before after × Writes law before after status contents behind) ⊎ Played law contents before after status
 
 -- When the input is left alone.
 pub record LeavesAlone (law : Law) (before after : Outside) (calls : Calls) (status : Status) : Type 0 where
@@ -77,8 +87,11 @@ pub record Completes (law : Law) (before after : Outside) (calls : Calls) (statu
 pub record Runs (law : Law) (before after : Outside) (status : Status) : Type 0 where
   -- its calls for each of its files, as they were answered
   pub calls : Calls
-  -- it made these calls and no others, each where it was due
-  pub files : ReadsFor law before.shelf after.shelf calls
+  -- it made these calls, each where it was due, after which the shelf stood so
+  pub read : ShelfState
+  pub files : ReadsFor law before.shelf read calls
+  -- and no others but those for what it gives on
+  pub asked : law.asks read after.shelf
   -- it read the input on, and changed nothing of what the input shows of itself
   pub input : ReadsOn before.input after.input
   -- there is something that the files may hold and that may stand behind the bytes read

@@ -9,17 +9,20 @@
 //! stand in `proofs/Frames.antt`, `Finish`, `Working` and `Alone`. [`open_session`] reads the session
 //! of a file (`specs/Sessions.antt`; `Opening` has the words for files that are read one after the
 //! other). Which status tells of a fault of what lies below is said by `From` and by
-//! [`status_of_text`] (`specs/Faults.antt`), so that `?` ends a run by it. The crate touches the sink
+//! [`status_of_text`] (`specs/Faults.antt`), so that `?` ends a run by it. [`read_polls`] and
+//! [`gave_up_line`] are for the commands that are granted polls. The crate touches the sink
 //! that [`refuse`] is handed and the shelf that [`open_session`] is handed, which takes memory for
 //! the front of the file and for the session.
 #![tactic(auto)]
 
 pub mod faults;
+pub mod polls;
 pub mod refusals;
 pub mod sessions;
 pub mod statuses;
 
 pub use faults::status_of_text;
+pub use polls::{MOST_POLLS, gave_up_line, read_polls};
 pub use refusals::refuse;
 pub use sessions::open_session;
 pub use statuses::{Status, TextName};

@@ -44,9 +44,9 @@ schedule_holds session = record {
   meant = λ contents input game read.
       subst (λ (x : Answer). TellsMatch game input x) (sym (schedule_answer_is contents input game read)) (schedule_tells game input (game_found _ game read).session.ahead.0);
   unread = λ shelf. tt;
+  unasked = λ shelf. refl;
   unremembered = λ ended e. absurd (let never : false ≡ true = e in cc);
   cut = λ ended e. absurd (let never : false ≡ true = e in cc);
   played_cause = λ contents input before after s p. absurd p;
   played_done = λ contents input before after s p good written. absurd p;
-  played_told = λ contents before after output s told p r. absurd p;
 }

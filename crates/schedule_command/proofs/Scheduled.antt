@@ -50,7 +50,9 @@ module _ (rest : Outside) (i i' : SourceState) (a b : SinkState) (h h' : ShelfSt
       Works (schedule_law session) (with_input rest i a h) (with_input rest i' b h') s
   scheduled o p over = works (schedule_law session) (schedule_holds session) (with_input rest i a h) (with_input rest i' b h') s (record {
     calls = session_calls h h';
+    read = h';
     files = record { reads = session_read h h' session (Ok game) o; due = tt };
+    asked = refl;
     input = lacks_reads i i' a b (schedule_answer game) s p;
     text = λ contents behind m. inl (
       record { station = refl; chance = refl },
