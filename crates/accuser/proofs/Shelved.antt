@@ -1,14 +1,16 @@
 -- Shelved: files of sealed frames are taken from a shelf one behind the other.
-use Rattle.std.proofs.Common.{◌≡◌, ◌⊎◌, inl, inr, ℕ, zero, suc, ◌+◌, ◌<◌, Bool, false, List, [], ◌∷◌, ◌++◌, Option, None, Some, length, refl, sym, ◌∙◌, ap, subst, append_assoc, append-nil}
+use Rattle.std.proofs.Common.{◌≡◌, ◌⊎◌, inl, inr, ℕ, zero, suc, ◌+◌, ◌<◌, ◌≤◌, arith, Bool, false, List, [], ◌∷◌, ◌++◌, Option, None, Some, length, refl, sym, ◌∙◌, ap, subst, append_assoc, append-nil}
 use Rattle.std.specs.Prelude.{Result, Ok, Err, option_map}
 use Rattle.std.specs.Option.{option_or}
-use Rattle.definitions.specs.Lists.{item_or}
+use Rattle.definitions.specs.declared.limits.TheConstants.{LOG_FRONT}
+use Rattle.definitions.specs.Lists.{EachIs, item_or}
 use Rattle.definitions.specs.World.{Game}
 use Rattle.station.specs.Outside.{faults_behind}
 use Rattle.station.specs.Pieces.{Piece}
 use Rattle.station.specs.Shelves.{ShelfState}
 use Rattle.station.specs.Since.{since}
 use Rattle.line_io.specs.Files.{AreContents, AreReadings, Contents, behind_first, in_turn}
+use Rattle.line_io.specs.Fronts.{bytes_read}
 use Rattle.line_io.proofs.Unread.{behind_are, none_at, none_in_turn, none_read, none_readings}
 use Rattle.frame_index.specs.declared.limits.TheConstants.{MOST_LOGS}
 use Rattle.auditor.specs.Audits.{owner_in}
@@ -32,6 +34,11 @@ there_first [] P h = absurd h
 there_first (None ∷ files) P h = absurd h
 there_first (Some bytes ∷ files) P h = h
 
+-- of a file that isn't read no byte is
+none_long : (names : List (List ℕ)) → EachIs (λ pieces. length (bytes_read pieces) ≤ LOG_FRONT) (none_read names)
+none_long [] = tt
+none_long (name ∷ names) = (omega arith, none_long names)
+
 -- nothing is read
 pub nothing_read : (game : Game) (roots : List (List ℕ)) (s : ShelfState) (names : List (List ℕ)) (number : ℕ) (P : List (List ℕ) → Type 0) → ((files : Contents) → P (bytes_of files (length names))) →
     ReadsSealed game roots s s names number false P
@@ -42,6 +49,7 @@ nothing_read game roots s names number P so = record {
     answered = sym (append-nil s.pieces) ∙ ap (λ (x : List Piece). s.pieces ++ x) (sym (none_in_turn names));
     readings = none_readings s.files names;
   };
+  short = none_long names;
   counted = refl;
   due = λ files h i. inl (none_at names i);
   answer = λ files h. so files;
@@ -60,6 +68,7 @@ module _ (game : Game) (roots : List (List ℕ)) (b c : ShelfState) (name : List
           answered = w.fetched.grows ∙ ap (λ (x : List Piece). b.pieces ++ x) (sym (append-nil first) ∙ ap (λ (x : List Piece). first ++ x) (sym (none_in_turn names)));
           readings = (w.fetched.reading, w.fetched.shown, none_readings b.files names);
         };
+        short = (w.short, none_long names);
         counted = w.fetched.counted ∙ ap (λ f. faults_behind f b.faults) (failed_so x);
         due = λ files h i. due files i;
         answer = λ files h. answer x files (w.answer (item_or files 0 None) (h 0));
@@ -102,6 +111,7 @@ module _ (game : Game) (roots : List (List ℕ)) (b c d : ShelfState) (name : Li
           answered = u.reads.answered ∙ ap (λ (x : List Piece). x ++ in_turn u.calls) w.fetched.grows ∙ append_assoc b.pieces first (in_turn u.calls);
           readings = (w.fetched.reading, w.fetched.shown, subst (λ (f : Option (List ℕ → Option (List ℕ))). AreReadings f names u.calls) w.fetched.same u.reads.readings);
         };
+        short = (w.short, u.short);
         counted = u.counted ∙ ap (faults_behind (is_shelf_failed r)) w.fetched.counted;
         due = λ files h i. due files h i;
         answer = λ files h.
@@ -124,6 +134,7 @@ pub read_so : (game : Game) (roots : List (List ℕ)) (b c : ShelfState) (names 
 read_so game roots b c names number failed failed' P Q same so w = record {
   calls = w.calls;
   reads = w.reads;
+  short = w.short;
   counted = w.counted ∙ ap (λ (f : Bool). faults_behind f b.faults) same;
   due = w.due;
   answer = λ files h. so (bytes_of files (length names)) (w.answer files h);

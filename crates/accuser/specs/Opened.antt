@@ -1,7 +1,7 @@
 -- Opened: files of sealed frames that are read from a shelf, and what is answered of them.
 use Rattle.std.specs.Prelude.{◌≡◌, ◌⊎◌, ◌<◌, ◌≤◌, ℕ, zero, suc, ◌+◌, Bool, true, false, List, [], ◌∷◌, Option, None, Some, Result, Ok, Err, length}
 use Rattle.definitions.specs.declared.limits.TheConstants.{LOG_FRONT, LONGEST_LOG}
-use Rattle.definitions.specs.Lists.{item_or}
+use Rattle.definitions.specs.Lists.{EachIs, item_or}
 use Rattle.definitions.specs.World.{Game}
 use Rattle.station.specs.Outside.{faults_behind}
 use Rattle.station.specs.Pieces.{AllGive}
@@ -103,11 +103,13 @@ abbrev pub AreAnswered : Game → List (List ℕ) → (t t' : Taker) → (number
 AreAnswered game roots t t' number files (Ok all) = AreTaken game roots t t' number files
 AreAnswered game roots t t' number files (Err fault) = IsFilesFault game roots number files fault
 
--- Files of these names were read, the first as that of this number, and none behind one that has a
--- fault. P is so of the bytes of any contents that give what the shelf answered.
+-- Files of these names were read, the first as that of this number, each no further than a byte past
+-- the longest, and none after one that has a fault. P is so of the bytes of any contents that give
+-- what the shelf answered.
 pub record ReadsSealed (game : Game) (roots : List (List ℕ)) (before now : ShelfState) (names : List (List ℕ)) (number : ℕ) (failed : Bool) (P : List (List ℕ) → Type 0) : Type 0 where
   pub calls : Calls
   pub reads : ReadsFiles names before now calls
+  pub short : EachIs (λ pieces. length (bytes_read pieces) ≤ LOG_FRONT) calls
   pub counted : now.faults ≡ faults_behind failed before.faults
   pub due : (files : Contents) → AreContents files calls → (i : ℕ) → (item_or calls i [] ≡ []) ⊎ (first_fault game roots number (bytes_of files i) ≡ None)
   pub answer : (files : Contents) → AreContents files calls → P (bytes_of files (length names))
