@@ -8,7 +8,7 @@ use Rattle.command_names.specs.declared.names.Name.TheVariants as N
 
 -- all the names, in the order in which clap has their commands
 abbrev pub all_names : List Name
-all_names = N.Accuse ∷ N.Audit ∷ N.Drive ∷ N.Judge ∷ N.Make ∷ N.Peer ∷ N.Root ∷ N.Schedule ∷ N.Seal ∷ N.Upgrade ∷ []
+all_names = N.Accuse ∷ N.Audit ∷ N.Deposit ∷ N.Drive ∷ N.Judge ∷ N.Make ∷ N.Peer ∷ N.Root ∷ N.Schedule ∷ N.Seal ∷ N.Upgrade ∷ N.Watch ∷ []
 
 -- how a name is written, and how many words stand after it at least and at most
 pub record Form : Type 0 where
@@ -27,6 +27,7 @@ form_said form = written form.text.now form.least form.most
 abbrev pub form_of : Name → Form
 form_of N.Accuse = written (codes "accuse") 3 (2 + MOST_AUDITED)
 form_of N.Audit = written (codes "audit") 2 (1 + MOST_AUDITED)
+form_of N.Deposit = written (codes "deposit") 5 5
 form_of N.Drive = written (codes "drive") 2 3
 form_of N.Judge = written (codes "judge") 2 3
 form_of N.Make = written (codes "make") 1 1
@@ -35,6 +36,7 @@ form_of N.Root = written (codes "root") 3 3
 form_of N.Schedule = written (codes "schedule") 1 1
 form_of N.Seal = written (codes "seal") 4 4
 form_of N.Upgrade = written (codes "upgrade") 1 1
+form_of N.Watch = written (codes "watch") 3 3
 
 -- the name as it is written
 abbrev pub text_of : Name → List ℕ

@@ -12,6 +12,8 @@ pub enum Name {
     Accuse,
     /// What the logs of a session show is printed.
     Audit,
+    /// A player's log is given to a live logger.
+    Deposit,
     /// A peer is driven by the input.
     Drive,
     /// An exhibit is judged, by the players' roots where they are named.
@@ -28,12 +30,15 @@ pub enum Name {
     Seal,
     /// A session is printed in version 2.
     Upgrade,
+    /// The logs of all players are taken while they play.
+    Watch,
 }
 
 /// All the names, each once, in the order in which clap has their commands.
 pub const ALL: &[Name] = &[
     Name::Accuse,
     Name::Audit,
+    Name::Deposit,
     Name::Drive,
     Name::Judge,
     Name::Make,
@@ -42,6 +47,7 @@ pub const ALL: &[Name] = &[
     Name::Schedule,
     Name::Seal,
     Name::Upgrade,
+    Name::Watch,
 ];
 
 /// How the name of a command is written, and how many words stand after it.
@@ -72,6 +78,7 @@ impl Name {
         match self {
             Name::Accuse => Form::new("accuse", 3, 2 + MOST_AUDITED),
             Name::Audit => Form::new("audit", 2, 1 + MOST_AUDITED),
+            Name::Deposit => Form::new("deposit", 5, 5),
             Name::Drive => Form::new("drive", 2, 3),
             Name::Judge => Form::new("judge", 2, 3),
             Name::Make => Form::new("make", 1, 1),
@@ -80,6 +87,7 @@ impl Name {
             Name::Schedule => Form::new("schedule", 1, 1),
             Name::Seal => Form::new("seal", 4, 4),
             Name::Upgrade => Form::new("upgrade", 1, 1),
+            Name::Watch => Form::new("watch", 3, 3),
         }
     }
 

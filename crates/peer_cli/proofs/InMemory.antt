@@ -43,15 +43,15 @@ shown_are files (name ∷ names) [] r n = absurd r
 shown_are files (name ∷ names) (pieces ∷ calls) r zero = r.1
 shown_are files (name ∷ names) (pieces ∷ calls) r (suc n) = shown_are files names calls r.2 n
 
-files_are : (law : Law) (shelf shelf' : HeldShelf) (calls : Calls) → ReadsFor law (shelf_state shelf) (shelf_state shelf') calls → AreContents (contents_of law shelf) calls
-files_are law shelf shelf' calls r = shown_are (content_in shelf.files) law.names calls r.reads.readings
+files_are : (law : Law) (shelf : HeldShelf) (read : ShelfState) (calls : Calls) → ReadsFor law (shelf_state shelf) read calls → AreContents (contents_of law shelf) calls
+files_are law shelf read calls r = shown_are (content_in shelf.files) law.names calls r.reads.readings
 
 pub ran_in_memory : (law : Law) (i i' : HeldSource) (a b : HeldSink) (h h' : HeldShelf) (items items' : List Item) (chance later : Stream) (s : Status) →
     Runs law (outside_of i a h items chance) (outside_of i' b h' items' later) s → ActsInMemory law i i' a b h h' items items' chance later s
 ran_in_memory law i i' a b h h' items items' chance later s r = record {
   read = since i.seen i'.seen;
   input_is = left_is i i' r.input;
-  text = elim (r.text (contents_of law h) (bytes_left i'.left) (record { given = files_are law h h' r.calls r.files; follows = none_left i'.left })) [
+  text = elim (r.text (contents_of law h) (bytes_left i'.left) (record { given = files_are law h r.read r.calls r.files; follows = none_left i'.left })) [
     | inl (apart, due) ↦ inl (
       apart,
       subst (λ (x : List ℕ). Finished (sink_state a) (sink_state b) (law.answer (contents_of law h) (input_of AtEnd x))

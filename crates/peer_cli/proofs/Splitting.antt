@@ -46,6 +46,13 @@ roots_none (a ∷ b ∷ []) e = refl
 roots_none (a ∷ b ∷ c ∷ []) e = absurd (false≢true (sym e))
 roots_none (a ∷ b ∷ c ∷ d ∷ more) e = refl
 
+watches_none : (words : List (List ℕ)) → takes N.Watch (length words) ≡ false → command_in N.Watch words ≡ None
+watches_none [] e = refl
+watches_none (a ∷ []) e = refl
+watches_none (a ∷ b ∷ []) e = refl
+watches_none (a ∷ b ∷ c ∷ []) e = absurd (false≢true (sym e))
+watches_none (a ∷ b ∷ c ∷ d ∷ more) e = refl
+
 seals_none : (words : List (List ℕ)) → takes N.Seal (length words) ≡ false → command_in N.Seal words ≡ None
 seals_none [] e = refl
 seals_none (a ∷ []) e = refl
@@ -53,6 +60,16 @@ seals_none (a ∷ b ∷ []) e = refl
 seals_none (a ∷ b ∷ c ∷ []) e = refl
 seals_none (a ∷ b ∷ c ∷ d ∷ []) e = absurd (false≢true (sym e))
 seals_none (a ∷ b ∷ c ∷ d ∷ x ∷ more) e = refl
+
+-- of a command that takes five words
+deposits_none : (words : List (List ℕ)) → takes N.Deposit (length words) ≡ false → command_in N.Deposit words ≡ None
+deposits_none [] e = refl
+deposits_none (a ∷ []) e = refl
+deposits_none (a ∷ b ∷ []) e = refl
+deposits_none (a ∷ b ∷ c ∷ []) e = refl
+deposits_none (a ∷ b ∷ c ∷ d ∷ []) e = refl
+deposits_none (a ∷ b ∷ c ∷ d ∷ x ∷ []) e = absurd (false≢true (sym e))
+deposits_none (a ∷ b ∷ c ∷ d ∷ x ∷ y ∷ more) e = refl
 
 peers_none : (words : List (List ℕ)) → takes N.Peer (length words) ≡ false → command_in N.Peer words ≡ None
 peers_none [] e = refl
@@ -111,6 +128,7 @@ line_if b line = if b then Some line else None
 untaken : (name : Name) (words : List (List ℕ)) → takes name (length words) ≡ false → command_in name words ≡ None
 untaken N.Accuse words e = ap (option_map Accuse) (accuses_none words e)
 untaken N.Audit words e = ap (option_map Audit) (audits_none words e)
+untaken N.Deposit words e = deposits_none words e
 untaken N.Drive words e = drives_none words e
 untaken N.Judge words e = judges_none words e
 untaken N.Make words e = one_none (command_in N.Make) words refl (λ a b more. refl) e
@@ -119,6 +137,7 @@ untaken N.Root words e = roots_none words e
 untaken N.Schedule words e = one_none (command_in N.Schedule) words refl (λ a b more. refl) e
 untaken N.Seal words e = seals_none words e
 untaken N.Upgrade words e = one_none (command_in N.Upgrade) words refl (λ a b more. refl) e
+untaken N.Watch words e = watches_none words e
 
 -- by a name, or by none
 by_name : (o : Option Name) (words : List (List ℕ)) → option_and_then (λ n. command_in n words) o ≡ option_and_then command_on (line_with o words)

@@ -10,6 +10,7 @@ use Rattle.line_io.specs.Inputs.{AtEnd, AtFault, input_of}
 use Rattle.run_frame.specs.Ends.{Finished}
 use Rattle.run_frame.specs.Law.{Law}
 use Rattle.run_frame.specs.Outside.{IsApart, Outside, outside}
+use Rattle.run_frame.specs.Runs.{Played}
 use Rattle.run_frame.specs.declared.statuses.Status.{Status}
 
 -- what the files of a law hold
@@ -30,4 +31,4 @@ pub record ActsInMemory (law : Law) (input input' : HeldSource) (out out' : Held
       (law.answer (contents_of law shelf) (input_of AtEnd (bytes_left input.left)))
       (law.answer (contents_of law shelf) (input_of AtFault read)) law.late
       (Rose input.plan.faults input'.plan.faults) (Rose shelf.plan.faults shelf'.plan.faults × (source_state input' ≡ source_state input)) status)
-      ⊎ law.plays (contents_of law shelf) (outside_of input out shelf station chance) (outside_of input' out' shelf' station' chance') status
+      ⊎ Played law (contents_of law shelf) (outside_of input out shelf station chance) (outside_of input' out' shelf' station' chance') status

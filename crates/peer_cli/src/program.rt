@@ -64,15 +64,29 @@ fn work<I: Source, O: Sink, H: Shelf, S: Station, R: Rng>(
     }
 }
 
-/// Does what the words ask for, which are those behind the program's name: `drive SESSION PLAYER` lets the input drive a peer
-/// for the player of the session in that file, and writes what the peer does; `drive SESSION PLAYER OLD` does so with a peer
-/// that goes on from the log in the file OLD; `upgrade SESSION` prints the session in version 2; `judge SESSION EVIDENCE` says whether
-/// the frames of the exhibit in the file EVIDENCE show what it says; `audit SESSION LOG..` prints what the logs in these files, from 1 to
-/// 16, show together; `schedule SESSION` steps the honest peers of a match in that session by the lines of the input, and writes what
-/// came of each; `make N` makes the match of the number N, and prints what came of it; `peer SESSION ROSTER MOVES PLAYER POLLS LOG` plays for the
-/// player of the session with those of the roster, over sockets of the station, by the moves in the file MOVES, with nonces of the generator and a log of
-/// the name LOG, with at most POLLS polls, and with `OLD` behind it from the log in that file on. The words are asked first, then the session, the
-/// player, the other files in their order, and then the input line by line; the first that is refused decides. No call of the station was made before.
+/// Does what the words ask for, which are those after the program's name:
+///
+/// - `accuse SESSION ROOTS FILE..` prints what files of sealed frames, from 1 to 16, show together;
+/// - `audit SESSION LOG..` prints what the logs in these files, from 1 to 16, show together;
+/// - `deposit SESSION ROSTER PLAYER POLLS LOG` gives the player's log in the file LOG to the live logger
+///   that its roster names, over sockets, with at most POLLS polls;
+/// - `drive SESSION PLAYER [OLD]` lets the input drive a peer for the player, from the log in the file
+///   OLD on, if one is named, and writes what the peer does;
+/// - `judge SESSION EVIDENCE [ROOTS]` says whether the frames of the exhibit in the file EVIDENCE show
+///   what it says, by their seals where ROOTS is named;
+/// - `make N` makes the match of the number N, and prints what came of it;
+/// - `peer SESSION ROSTER MOVES PLAYER POLLS LOG [OLD]` plays for the player with those of the roster,
+///   over sockets, by the moves in the file MOVES, with nonces of the generator and a log of the name
+///   LOG, with at most POLLS polls, from the log in the file OLD on, if one is named;
+/// - `root SESSION PLAYER SEED` tells the root of the player's keys;
+/// - `schedule SESSION` steps the honest peers of a match by the lines of the input;
+/// - `seal SESSION PLAYER SEED LOG` writes each frame that the player made, with its seal;
+/// - `upgrade SESSION` prints the session in version 2;
+/// - `watch SESSION ROSTER POLLS` takes the logs of all players over sockets while they play, with at
+///   most POLLS polls, and prints what they show together.
+///
+/// The words are asked first, then the session, the player, the other files in their order, and then
+/// the input line by line; the first that is refused decides. No call of the station was made before.
 pub fn run<I: Source, O: Sink, H: Shelf, S: Station, R: Rng>(
     alloc: Global,
     words: &[Vec<u8>],

@@ -5,6 +5,7 @@ use Rattle.run_frame.specs.Runs.{Works}
 use Rattle.run_frame.specs.declared.statuses.Status.TheVariants.{NoMemory}
 use Rattle.run_frame.proofs.Working.{unremembered}
 use Rattle.accuse_command.proofs.AccuseHolds.{accuse_holds}
+use Rattle.deposit_command.proofs.DepositHolds.{deposit_holds}
 use Rattle.drive_command.proofs.DriveHolds.{drive_holds}
 use Rattle.file_commands.proofs.AuditHolds.{audit_holds}
 use Rattle.file_commands.proofs.JudgeHolds.{judge_holds}
@@ -15,6 +16,7 @@ use Rattle.key_commands.proofs.SealHolds.{seal_holds}
 use Rattle.make_command.proofs.MakeHolds.{make_holds}
 use Rattle.peer_command.proofs.PeerHolds.{peer_holds}
 use Rattle.schedule_command.proofs.ScheduleHolds.{schedule_holds}
+use Rattle.watch_command.proofs.WatchHolds.{watch_holds}
 use Rattle.peer_runs.specs.Commands.{Command, law_of}
 use Rattle.peer_runs.specs.Commands as C
 
@@ -28,5 +30,7 @@ no_memory (C.Accuse a) outside = unremembered _ (accuse_holds a) refl outside
 no_memory (C.Schedule session) outside = unremembered _ (schedule_holds session) refl outside
 no_memory (C.Make number) outside = unremembered _ (make_holds number) refl outside
 no_memory (C.Peer p) outside = unremembered _ (peer_holds p) refl outside
+no_memory (C.Deposit d) outside = unremembered _ (deposit_holds d) refl outside
 no_memory (C.Root k) outside = unremembered _ (root_holds k) refl outside
 no_memory (C.Seal s) outside = unremembered _ (seal_holds s) refl outside
+no_memory (C.Watch w) outside = unremembered _ (watch_holds w) refl outside

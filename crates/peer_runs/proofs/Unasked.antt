@@ -14,17 +14,19 @@ usage_holds = record {
   done = λ contents input answered ends good. absurd good;
   meant = λ contents input. tt;
   unread = λ shelf. refl;
+  unasked = λ shelf. refl;
   unremembered = λ ended. tt;
   cut = λ ended. tt;
   played_cause = λ contents input before after s p. absurd p;
-  played_done = λ contents input before after s p good written. absurd p;
-  played_told = λ contents before after output s told p r. absurd p;
+  played_done = λ contents input before after s p good files written. absurd p;
 }
 
 pub unasked : (outside : Outside) → Works usage_law outside outside Usage
 unasked outside = works usage_law usage_holds outside outside Usage (record {
   calls = [];
+  read = outside.shelf;
   files = record { reads = record { same = refl; answered = sym (append-nil outside.shelf.pieces); readings = refl }; due = refl };
+  asked = refl;
   input = record { same = refl; grows = grows_none outside.input.seen };
   text = λ contents behind m. inl (record { station = refl; chance = refl }, (sym (bytes_none outside.output), refl));
   memory = tt;

@@ -13,6 +13,8 @@ use Rattle.run_frame.specs.declared.statuses.Status.{Status}
 use Rattle.run_frame.specs.declared.statuses.Status.TheVariants.{Usage}
 use Rattle.accuse_command.specs.AccuseLaw.{accuse_law}
 use Rattle.accuse_command.specs.AccuseWords.{Accusing, accusing_in, accusing_said}
+use Rattle.deposit_command.specs.DepositLaw.{deposit_law}
+use Rattle.deposit_command.specs.Words.{Depositing, depositing_in, depositing_said}
 use Rattle.drive_command.specs.DriveLaw.{drive_law}
 use Rattle.drive_command.specs.Words.{Driving, driving_in, driving_said}
 use Rattle.file_commands.specs.AuditLaw.{audit_law}
@@ -32,6 +34,8 @@ use Rattle.peer_command.specs.PeerLaw.{peer_law}
 use Rattle.peer_command.specs.Words.{Peering, peering_in, peering_said}
 use Rattle.schedule_command.specs.ScheduleLaw.{schedule_law}
 use Rattle.schedule_command.specs.Words.{scheduling_in}
+use Rattle.watch_command.specs.WatchLaw.{watch_law}
+use Rattle.watch_command.specs.Words.{Watching, watching_in, watching_said}
 use Rattle.peer_runs.specs.declared.commands.Command.{Command as CommandWords}
 use Rattle.peer_runs.specs.declared.commands.Command.TheVariants as said
 
@@ -46,8 +50,10 @@ pub data Command : Type 0 where
   Schedule : (session : List ℕ) → Command
   Make : (number : ℕ) → Command
   Peer : Peering → Command
+  Deposit : Depositing → Command
   Root : Keying → Command
   Seal : Sealing → Command
+  Watch : Watching → Command
 
 -- the command that the words say
 abbrev pub command_said : CommandWords → Command
@@ -60,8 +66,10 @@ command_said (said.Accuse accusing) = Accuse (accusing_said accusing)
 command_said (said.Schedule session) = Schedule session.now
 command_said (said.Make number) = Make number
 command_said (said.Peer peering) = Peer (peering_said peering)
+command_said (said.Deposit depositing) = Deposit (depositing_said depositing)
 command_said (said.Root keying) = Root (keying_said keying)
 command_said (said.Seal sealing) = Seal (sealing_said sealing)
+command_said (said.Watch watching) = Watch (watching_said watching)
 
 -- the command to judge: without roots where two words say so, and with them where three do
 abbrev pub judge_in : List (List ℕ) → Option Command
@@ -71,6 +79,7 @@ judge_in words = option_or (option_map Judge (judging_in words)) (option_map Sea
 abbrev pub command_in : Name → List (List ℕ) → Option Command
 command_in N.Accuse words = option_map Accuse (accusing_in words)
 command_in N.Audit words = option_map Audit (auditing_in words)
+command_in N.Deposit words = option_map Deposit (depositing_in words)
 command_in N.Drive words = option_map Drive (driving_in words)
 command_in N.Judge words = judge_in words
 command_in N.Make words = option_map Make (making_in words)
@@ -79,6 +88,7 @@ command_in N.Root words = option_map Root (keying_in words)
 command_in N.Schedule words = option_map Schedule (scheduling_in words)
 command_in N.Seal words = option_map Seal (sealing_in words)
 command_in N.Upgrade words = option_map Upgrade (upgrading_in words)
+command_in N.Watch words = option_map Watch (watching_in words)
 
 -- the command whose name is written so, with these words
 unfoldable pub command_named : (name : List ℕ) → (words : List (List ℕ)) → Option Command
@@ -119,5 +129,7 @@ law_of (Some (Accuse a)) = accuse_law a
 law_of (Some (Schedule session)) = schedule_law session
 law_of (Some (Make number)) = make_law number
 law_of (Some (Peer p)) = peer_law p
+law_of (Some (Deposit d)) = deposit_law d
 law_of (Some (Root k)) = root_law k
 law_of (Some (Seal s)) = seal_law s
+law_of (Some (Watch w)) = watch_law w

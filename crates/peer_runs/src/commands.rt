@@ -8,6 +8,7 @@ ghost use Rattle.peer_runs.specs.Commands.{command_said, law_of};
 
 use accuse_command::{AccuseWords, read_accuse_words, run_accuse};
 use command_names::Name;
+use deposit_command::{DepositWords, read_deposit_words, run_deposit};
 use drive_command::{DriveWords, read_drive_words, run_drive};
 use file_commands::{
     AuditWords, JudgeWords, SealedJudgeWords, read_audit_words, read_judge_words,
@@ -23,6 +24,7 @@ use schedule_command::{read_schedule_words, run_schedule};
 use socket_station::Station;
 use station::{Shelf, Sink, Source, are_words};
 use std::alloc::Global;
+use watch_command::{WatchWords, read_watch_words, run_watch};
 
 /// A command, with its words.
 #[derive(Clone, Copy)]
@@ -45,10 +47,14 @@ pub enum Command<'a> {
     Make(u64),
     /// A player plays with others over sockets.
     Peer(PeerWords<'a>),
+    /// A player's log is given to a live logger.
+    Deposit(DepositWords<'a>),
     /// The root of a player's keys is told.
     Root(KeyWords<'a>),
     /// Each frame that a player made is written with its seal.
     Seal(SealWords<'a>),
+    /// The logs of all players are taken while they play, and what they show is printed.
+    Watch(WatchWords<'a>),
 }
 
 /// The command to judge that these words say: by roots where three words stand there.
@@ -68,6 +74,7 @@ pub fn read_in<'a>(name: Name, words: &'a [Vec<u8>]) -> Option<Command<'a>>
     match name {
         Name::Accuse => Some(Command::Accuse(read_accuse_words(words)?)),
         Name::Audit => Some(Command::Audit(read_audit_words(words)?)),
+        Name::Deposit => Some(Command::Deposit(read_deposit_words(words)?)),
         Name::Drive => Some(Command::Drive(read_drive_words(words)?)),
         Name::Judge => read_judging(words),
         Name::Make => Some(Command::Make(read_make_words(words)?)),
@@ -76,6 +83,7 @@ pub fn read_in<'a>(name: Name, words: &'a [Vec<u8>]) -> Option<Command<'a>>
         Name::Schedule => Some(Command::Schedule(read_schedule_words(words)?)),
         Name::Seal => Some(Command::Seal(read_seal_words(words)?)),
         Name::Upgrade => Some(Command::Upgrade(read_upgrade_words(words)?)),
+        Name::Watch => Some(Command::Watch(read_watch_words(words)?)),
     }
 }
 
@@ -115,8 +123,10 @@ pub fn obey<I: Source, O: Sink, H: Shelf, S: Station, R: Rng>(
         Command::Schedule(session) => run_schedule(alloc, session, input, out, shelf),
         Command::Make(number) => run_make(alloc, number, out),
         Command::Peer(words) => run_peer(alloc, words, out, shelf, station, chance),
+        Command::Deposit(words) => run_deposit(alloc, words, out, shelf, station),
         Command::Root(words) => run_root(alloc, words, out, shelf),
         Command::Seal(words) => run_seal(alloc, words, out, shelf),
+        Command::Watch(words) => run_watch(alloc, words, out, shelf, station),
     }
 }
 

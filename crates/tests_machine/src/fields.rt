@@ -72,6 +72,27 @@ pub(crate) fn put_seat(
     Ok(())
 }
 
+/// Puts the roster of a logger into the folder, which listens at the last port and knows the three
+/// players, and for each of them the roster by which it deposits its log.
+pub(crate) fn put_logger(rt: &HostRuntime, field: &Field) -> Result<(), Fail> {
+    let folder = field.folder.as_str();
+    let own = port_of(field, 3);
+    let mut text = format!(in rt.alloc(); "roster 1\nme 127.0.0.1 {own}\n")?;
+    for player in 0..3u8 {
+        let at = port_of(field, player);
+        text.push_str(line_of(rt, 3, player, at)?.as_str())?;
+        let deposit = format!(in rt.alloc();
+            "roster 1\nme 127.0.0.1 {at}\nlogger 127.0.0.1 {own} 0000000000000000000000000000{player:02}03\nend\n"
+        )?;
+        let path = format!(in rt.alloc(); "{folder}/{player}.deposit")?;
+        fs::write(rt, path.as_str(), deposit.as_str())?;
+    }
+    text.push_str("end\n")?;
+    let path = format!(in rt.alloc(); "{folder}/watch.roster")?;
+    fs::write(rt, path.as_str(), text.as_str())?;
+    Ok(())
+}
+
 /// The port of a program.
 fn port_of(field: &Field, seat: u8) -> u16 {
     field.ports[(seat % 4) as usize]

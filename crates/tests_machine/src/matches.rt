@@ -1,6 +1,6 @@
 //! A match of three, one with a liar, and one that a player leaves and goes on with.
 
-use crate::fields::{Field, clear, field_of, put_seat};
+use crate::fields::{Field, clear, field_of, put_logger, put_seat};
 use crate::runs::{Ran, run_words};
 use std::test::Fail;
 use std::thread;
@@ -159,6 +159,26 @@ fn players_go_on_from_their_logs(rt: HostRuntime) -> Result<(), Fail> {
     clear(&rt, &field)
 }
 
+/// Runs a logger as the last of three programs, and as each other one the deposit of a player's log.
+fn watch_or_deposit(rt: &HostRuntime, folder: &str, seat: usize) -> Option<Ran> {
+    let words = if seat == 2 {
+        format!(in rt.alloc(); "watch {folder}/session {folder}/watch.roster 60")
+    } else {
+        format!(in rt.alloc();
+            "deposit {folder}/session {folder}/{seat}.deposit {seat} 300 {folder}/{seat}.log"
+        )
+    };
+    run_words(rt, words.ok()?.as_str(), seat as u64).ok()
+}
+
+/// Whether the run ended with this status and wrote this.
+fn wrote(ran: &[Option<Ran>], seat: usize, status: u8, text: &[u8]) -> bool {
+    match ran.get(seat) {
+        Some(Some(ran)) => ran.status == status && ran.text.as_slice() == text,
+        _ => false,
+    }
+}
+
 #[test]
 fn a_liar_is_found_by_the_logs(rt: HostRuntime) -> Result<(), Fail> {
     let field = field_of(&rt, "liar", FAR)?;
@@ -189,5 +209,16 @@ fn a_liar_is_found_by_the_logs(rt: HostRuntime) -> Result<(), Fail> {
         both.text
             .ends_with(b"\nagreed 0 6\nagreed 1 6\nagreed 2 2\nworld none\nend\n")
     );
+    // a logger to which both are deposited says the same
+    put_logger(&rt, &field)?;
+    let watched = thread::map_indices(
+        &rt,
+        rt.alloc(),
+        3,
+        &|seat| { watch_or_deposit(&rt, folder, seat) },
+    )?;
+    assert!(rt; wrote(&watched, 0, 0, b"sent\n"));
+    assert!(rt; wrote(&watched, 1, 0, b"sent\n"));
+    assert!(rt; wrote(&watched, 2, 6, both.text.as_slice()));
     clear(&rt, &field)
 }

@@ -26,6 +26,9 @@ returns-in-Make g c = rw c.in-Make.is (c.run_make.ensures (outside (g.I.Source.s
 pub returns-in-Peer : goal.returns-in-Peer
 returns-in-Peer g c = rw c.in-Peer.is (c.run_peer.ensures (outside (g.I.Source.state c.args.input.now) (g.O.Sink.state c.args.out.now) (g.H.Shelf.state c.args.shelf.now) (g.S.Station.history c.args.station.now) (g.R.Rng.stream c.args.chance.now)))
 
+pub returns-in-Deposit : goal.returns-in-Deposit
+returns-in-Deposit g c = rw c.in-Deposit.is (c.run_deposit.ensures (outside (g.I.Source.state c.args.input.now) (g.O.Sink.state c.args.out.now) (g.H.Shelf.state c.args.shelf.now) (g.S.Station.history c.args.station.now) (g.R.Rng.stream c.args.chance.now)))
+
 pub returns-in-Root : goal.returns-in-Root
 returns-in-Root g c = rw c.in-Root.is (c.run_root.ensures (outside (g.I.Source.state c.args.input.now) (g.O.Sink.state c.args.out.now) (g.H.Shelf.state c.args.shelf.now) (g.S.Station.history c.args.station.now) (g.R.Rng.stream c.args.chance.now)))
 
@@ -34,3 +37,6 @@ returns-in-Seal g c = rw c.in-Seal.is (c.run_seal.ensures (outside (g.I.Source.s
 
 pub returns-in-SealedJudge : goal.returns-in-SealedJudge
 returns-in-SealedJudge g c = rw c.in-SealedJudge.is (c.run_sealed_judge.ensures (outside (g.I.Source.state c.args.input.now) (g.O.Sink.state c.args.out.now) (g.H.Shelf.state c.args.shelf.now) (g.S.Station.history c.args.station.now) (g.R.Rng.stream c.args.chance.now)))
+
+pub returns-in-Watch : goal.returns-in-Watch
+returns-in-Watch g c = rw c.in-Watch.is (c.run_watch.ensures (outside (g.I.Source.state c.args.input.now) (g.O.Sink.state c.args.out.now) (g.H.Shelf.state c.args.shelf.now) (g.S.Station.history c.args.station.now) (g.R.Rng.stream c.args.chance.now)))

@@ -1,0 +1,3 @@
+mod Sourced
+pub mod DepositHolds
+mod OverStation

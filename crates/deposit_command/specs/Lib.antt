@@ -1,0 +1,5 @@
+pub mod Words
+pub mod Opened
+pub mod Deposits
+pub mod Gives
+pub mod DepositLaw

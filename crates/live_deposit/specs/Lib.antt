@@ -1,0 +1,9 @@
+pub mod States
+pub mod Told
+pub mod Going
+pub mod Logs
+pub mod Reading
+pub mod Writing
+pub mod Serving
+pub mod Sending
+pub mod Polling

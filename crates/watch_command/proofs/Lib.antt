@@ -1,0 +1,5 @@
+mod Sourced
+mod Rounds
+mod Ended
+pub mod WatchHolds
+mod OverStation

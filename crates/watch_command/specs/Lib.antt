@@ -1,0 +1,5 @@
+pub mod Words
+pub mod Opened
+pub mod Watches
+pub mod Plays
+pub mod WatchLaw
