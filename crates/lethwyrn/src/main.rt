@@ -2,16 +2,18 @@
 //! `peer_cli::exit_status`, whose contract says what is then written and with which status it ends,
 //! and ends with that. It reads files, the standard input, its words and random bytes of the machine,
 //! and writes to the standard output; its `peer` also opens sockets at the addresses of its roster
-//! and creates the one file of its log. Of a seed that others can read it says so on the error
-//! stream.
+//! and creates the one file of its log. On the error stream it says that others can read a seed,
+//! where they can, and while keys are made how long that takes.
 #![tactic(auto)]
 
+mod progress;
 mod seeds;
 
 use file_shelf::FileShelf;
 use machine_files::MachineFiles;
 use mio_host::MioHost;
 use peer_cli::exit_status;
+use progress::{makes_keys, tell_while};
 use rand_chacha::ChaCha20Rng;
 use rand_core::SeedableRng;
 use run_frame::{Status, refuse};
@@ -69,10 +71,18 @@ fn obey<W: io::Write>(
 fn main(rt: HostRuntime) -> ExitCode {
     let mut out = StdSink::new(io::writer(&rt));
     let status = match words_of(&rt) {
-        Ok(words) => match obey(&rt, words.as_slice(), &mut out) {
-            Ok(status) => status,
-            Err(_) => tell_no_memory(&mut out),
-        },
+        Ok(words) => {
+            let words = words.as_slice();
+            let done = if makes_keys(words) {
+                tell_while(&rt, || obey(&rt, words, &mut out))
+            } else {
+                obey(&rt, words, &mut out)
+            };
+            match done {
+                Ok(status) => status,
+                Err(_) => tell_no_memory(&mut out),
+            }
+        }
         Err(error) if error.kind() == ErrorKind::OutOfMemory => tell_no_memory(&mut out),
         Err(_) => REFUSED,
     };
