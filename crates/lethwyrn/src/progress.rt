@@ -38,24 +38,22 @@ fn tell_until_done<R: Wait + Clock + Eprint>(rt: &R, is_done: &Mutex<bool>, bell
     }
 }
 
-/// What the work answers, and word of it on the error stream as long as it takes.
+/// What the work answers, and word of it on the error stream as long as it takes. Where no further
+/// thread can be made, no word is given.
 pub(crate) fn tell_while<R, T, F>(rt: &R, work: F) -> T
 where
     R: Wait + Clock + Eprint + Threads + Sync,
-    T: Send,
-    F: FnOnce() -> T + Send,
+    F: FnOnce() -> T,
+    requires { (f : _) → F.pre f }
 {
     let is_done = Mutex::new(false);
     let bell = Condvar::new();
-    let both = thread::join(
-        rt,
-        || {
-            let answer = work();
-            *is_done.lock(rt) = true;
-            bell.notify_one();
-            answer
-        },
-        || tell_until_done(rt, &is_done, &bell),
-    );
-    both.0
+    let (shared, ring) = (&is_done, &bell);
+    thread::scope(thread::scope_env(), rt, |scope| {
+        let _told = scope.spawn(move || tell_until_done(rt, shared, ring));
+        let answer = work();
+        *shared.lock(rt) = true;
+        ring.notify_one();
+        answer
+    })
 }
