@@ -7,7 +7,7 @@ use Rattle.definitions.specs.declared.world.Move.{Move}
 use Rattle.definitions.specs.Logs.{move_eq}
 use Rattle.auditor.specs.declared.agreed.Accord.{Accord}
 use Rattle.auditor.specs.Accords.{accord_of, agreed_in, is_alike}
-use Rattle.auditor.specs.Agreed.{one_move}
+use Rattle.frame_index.specs.Agreeing.{one_move}
 
 and_last : (b : Bool) → (b && true) ≡ b
 and_last true = refl

@@ -16,7 +16,8 @@ use Rattle.definition_laws.proofs.Alike.{move_eq_true}
 use Rattle.definition_laws.proofs.Nexts.{known_are_legal, known_orderly, some_at}
 use Rattle.definition_laws.proofs.Behind.{frames_of_other}
 use Rattle.plain_lemmas.proofs.Options.{some_when}
-use Rattle.auditor.specs.Agreed.{agreed_move, agreed_moves, moves_given, one_move, resolved_at, resolved_by}
+use Rattle.auditor.specs.Agreed.{agreed_move, agreed_moves, moves_given, resolved_at, resolved_by}
+use Rattle.frame_index.specs.Agreeing.{one_move}
 use Rattle.auditor.proofs.Picked.{picked_all, picked_each, picked_first, same_items}
 
 -- the moves that a log shows of a player are legal, at most one a turn, and those by which it resolves the turns

@@ -17,7 +17,8 @@ use Rattle.frame_index.specs.Plain.{AreCommon, IsCommonAt, is_among, move_of}
 use Rattle.frame_index.specs.declared.limits.TheConstants.{MOST_LOGS}
 use Rattle.frame_index.proofs.Wrong.{item_is}
 use Rattle.auditor.specs.Accords.{is_own, joined}
-use Rattle.auditor.specs.Agreed.{AreOwned, ArePlays, agreed_move, moves_given, one_move, resolved_at, resolved_by}
+use Rattle.auditor.specs.Agreed.{AreOwned, ArePlays, agreed_move, moves_given, resolved_at, resolved_by}
+use Rattle.frame_index.specs.Agreeing.{one_move}
 use Rattle.auditor.specs.Audits.{crossed, crossed_logs}
 use Rattle.auditor.proofs.Crossed.{crossed_there}
 use Rattle.auditor.proofs.Owned.{by_got, by_made, owner_is, owner_isnt}

@@ -20,7 +20,8 @@ use Rattle.frame_index.specs.declared.limits.TheConstants.{MOST_LOGS}
 use Rattle.evidence.specs.declared.exhibit.Exhibit.{Exhibit}
 use Rattle.evidence.specs.Showing.{commit_first, frame_at, frame_got, frames_by, frames_of_finding, pair_at, turns_shown}
 use Rattle.auditor.specs.Audits.{AuditState, StandsFor, padded}
-use Rattle.auditor.specs.Agreed.{AreOwned, agreed_move, agreed_moves, all_agreed_moves, moves_given, one_move, resolved_at, resolved_by, world_by}
+use Rattle.auditor.specs.Agreed.{AreOwned, agreed_move, agreed_moves, all_agreed_moves, moves_given, resolved_at, resolved_by, world_by}
+use Rattle.frame_index.specs.Agreeing.{one_move}
 use Rattle.auditor.specs.Exhibits.{IsExhibitOf}
 use Rattle.auditor.specs.Reports.{IsReportOf, Reported}
 

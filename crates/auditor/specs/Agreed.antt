@@ -1,14 +1,14 @@
 -- Agreed: the turns in which logs agree, and the play of their moves.
-use Rattle.std.specs.Prelude.{◌≡◌, ℕ, ◌<◌, Bool, List, [], ◌∷◌, Option, None, Some, filter_map, length, map, slice_get, ◌==◌, if◌then◌else◌}
+use Rattle.std.specs.Prelude.{◌≡◌, ℕ, ◌<◌, Bool, List, [], Option, None, Some, filter_map, length, map, slice_get, ◌==◌, if◌then◌else◌}
 use Rattle.std.specs.List.{list_all, range_with_len}
 use Rattle.definitions.specs.declared.world.Move.{Move}
 use Rattle.definitions.specs.declared.logs.Entry.{Entry}
 use Rattle.definitions.specs.Lists.{item_or}
 use Rattle.definitions.specs.World.{Game, players_of}
-use Rattle.definitions.specs.Logs.{move_eq}
 use Rattle.definitions.specs.Held.{resolved}
 use Rattle.definitions.specs.Entries.{AreWellFormed}
 use Rattle.definitions.specs.Findings.{got_known}
+use Rattle.frame_index.specs.Agreeing.{one_move}
 use Rattle.playout.specs.declared.standing.Standing.{Standing}
 use Rattle.playout.specs.Lockstep.{lockstep}
 use Rattle.auditor.specs.declared.world.WorldLine.{WorldLine}
@@ -26,11 +26,6 @@ resolved_at game owners logs q t i = resolved_by game (item_or owners i None) (i
 -- the moves by which logs resolve the player's turn, one for each log that does, in order of the logs
 abbrev pub moves_given : Game → List (Option ℕ) → List (List Entry) → ℕ → ℕ → List Move
 moves_given game owners logs q t = filter_map (resolved_at game owners logs q t) (range_with_len 0 (length logs))
-
--- the one move that these are, if they are one
-abbrev pub one_move : List Move → Option Move
-one_move [] = None
-one_move (m ∷ ms) = if list_all (move_eq m) ms then Some m else None
 
 -- the move of the player's turn on which the logs agree: some log resolves the turn, and all that do give this move
 unfoldable pub agreed_move : Game → List (Option ℕ) → List (List Entry) → ℕ → ℕ → Option Move

@@ -108,6 +108,20 @@ impl Auditor {
         name_owner(&mut self.owners, log, Some(owner));
     }
 
+    /// What is kept of the frames that logs got.
+    pub fn got(&self) -> &FrameIndex
+        ensures { result.now ≡ self.now.index }
+    {
+        &self.index
+    }
+
+    /// What is kept of the frames that the logs' owners made, each as a frame that was got of its owner.
+    pub fn made(&self) -> &FrameIndex
+        ensures { result.now ≡ self.now.made }
+    {
+        &self.made
+    }
+
     /// How many entries were taken of the log.
     pub fn count(&self, log: u32) -> u32
         requires log { log < MOST_LOGS }

@@ -16,9 +16,9 @@ use definitions::limits::LONGEST_LOG;
 use grid_world::Session;
 use session_log::LogFeed;
 
-/// How many entries were read, and the place in the piece behind the last of them.
-#[derive(Clone, Copy)]
-pub(crate) struct Batch {
+/// How many entries were read, and the place in the piece behind the last of them, counted in bytes from 0.
+#[derive(Clone, Copy, Debug, PartialEq, Eq)]
+pub struct Batch {
     pub count: usize,
     pub at: usize,
 }

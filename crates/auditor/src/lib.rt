@@ -23,8 +23,10 @@ mod turns;
 mod world;
 
 pub use auditor::Auditor;
+pub use batches::Batch;
 pub use definitions::{Entry, Finding, PlayerId};
 pub use evidence::Exhibit;
 pub use frame_index::MOST_LOGS;
 pub use report::Report;
+pub use taking::BATCH;
 pub use world::WorldLine;

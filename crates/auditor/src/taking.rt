@@ -1,6 +1,6 @@
 //! The entries of a log that comes in pieces.
 
-ghost use Rattle.std.specs.Prelude.{◌≡◌, ◌<◌, ◌≤◌, ◌+◌, ◌-◌, ℕ, [], drop, length, IfOk, IfSome, IsTrue, OnOk, OnErr};
+ghost use Rattle.std.specs.Prelude.{◌≡◌, ◌<◌, ◌≤◌, ◌+◌, ◌-◌, ℕ, [], drop, length, take, IfOk, IfSome, IsTrue, OnOk, OnErr};
 ghost use Rattle.std.specs.List.{list_all};
 ghost use Rattle.session_log.specs.Fed.{IsFeedOf};
 ghost use Rattle.session_log.specs.Feeding.{LogFeeding};
@@ -8,15 +8,15 @@ ghost use Rattle.auditor.specs.Audits.{count_in, is_of_its_sender, owner_in};
 ghost use Rattle.auditor.specs.Taking as T;
 
 use crate::auditor::{Auditor, name_owner};
-use crate::batches::read_batch;
+use crate::batches::{Batch, read_batch};
 use definitions::limits::LONGEST_LOG;
 use definitions::{Entry, PlayerId};
 use frame_index::MOST_LOGS;
 use session_log::{LogFeed, NO_ENTRY};
 use std::alloc::AllocError;
 
-/// As many entries are read before they are taken.
-const BATCH: usize = 64;
+/// As many entries are best read before they are taken.
+pub const BATCH: usize = 64;
 
 impl Auditor {
     /// The log is this player's, or its owner isn't known.
@@ -49,9 +49,44 @@ impl Auditor {
         Ok(())
     }
 
-    /// Feeds the bytes of the piece from this place on, and takes the entries that end in them, as many as the room has places for: the place
-    /// behind them, or none where these were all.
-    fn take_next(
+    /// Feeds the bytes of the piece from this place on, counted from 0, and takes the entries that end in them, as many as the room has
+    /// places for: they stand in the room then. Where they are fewer than the places, these were all that the piece ends. Whoever
+    /// wants to see the entries that are taken calls it until then, each time from the place where the batch before ended.
+    ///
+    /// An error comes where the auditor's allocator has no memory, and then the first of these entries were taken.
+    pub fn take_next(
+        &mut self,
+        log: u32,
+        feed: &mut LogFeed,
+        piece: &[u8],
+        at: usize,
+        room: &mut [Entry],
+    ) -> Result<Batch, AllocError>
+        requires log { log < MOST_LOGS }
+        requires at { at ≤ length piece.now }
+        requires few { feed.old.used + (length piece.now - at) ≤ LONGEST_LOG }
+        requires feeding { T.IsFeeding self.old log feed.old }
+        ensures full { IfOk result (λ b. b.count ≡ length room.old → T.ReadsOn self.old.session feed.old feed.new (drop at piece.now) (drop b.at piece.now) (take b.count room.new)) }
+        ensures all { IfOk result (λ b. b.count < length room.old → T.ReadsAll self.old.session feed.old feed.new (drop at piece.now) (take b.count room.new)) }
+        ensures taken { IfOk result (λ b. T.Takes self.old self.new log (take b.count room.new)) }
+        ensures some { OnErr result ((f : LogFeeding) → IsFeedOf feed.old f → T.TakesSome self.old.session self.old self.new log (drop at piece.now) f) }
+        ensures fits { IfOk result (λ b. (b.count ≤ length room.old) × (at + b.count ≤ b.at) × (b.at ≤ length piece.now)) }
+        ensures used { IfOk result (λ b. b.count ≡ length room.old → feed.new.used ≡ feed.old.used + (b.at - at)) }
+        ensures within { feed.new.used ≤ feed.old.used + (length piece.now - at) }
+        ensures feeding { OnOk result (T.IsFeeding self.new log feed.new) }
+        ensures session { self.new.session ≡ self.old.session }
+        ensures owner { owner_in self.new log ≡ feed.new.owner }
+        ensures others { T.LeavesOthers self.old self.new log }
+        ensures room { length room.new ≡ length room.old }
+    {
+        let batch = read_batch(&self.session, feed, piece, at, room);
+        self.note_owner(log, feed.owner());
+        self.take_batch(log, &room[..batch.count])?;
+        Ok(batch)
+    }
+
+    /// Takes the next batch: the place behind it, or none where these were all.
+    fn take_on(
         &mut self,
         log: u32,
         feed: &mut LogFeed,
@@ -74,9 +109,7 @@ impl Auditor {
         ensures others { T.LeavesOthers self.old self.new log }
         ensures room { length room.new ≡ length room.old }
     {
-        let batch = read_batch(&self.session, feed, piece, at, room);
-        self.note_owner(log, feed.owner());
-        self.take_batch(log, &room[..batch.count])?;
+        let batch = self.take_next(log, feed, piece, at, room)?;
         if batch.count < room.len() {
             return Ok(None);
         }
@@ -105,7 +138,7 @@ impl Auditor {
     {
         let mut room = [NO_ENTRY; BATCH];
         let mut at = 0;
-        'batches: while let Some(next) = self.take_next(log, feed, bytes, at, &mut room)? {
+        'batches: while let Some(next) = self.take_on(log, feed, bytes, at, &mut room)? {
             at = next;
         }
         Ok(())

@@ -5,6 +5,7 @@ pub mod Lifted
 pub mod Shown
 pub mod Grows
 pub mod InLog
+pub mod OfLog
 pub mod Derived
 pub mod Growing
 pub mod Indexed

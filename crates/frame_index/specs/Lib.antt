@@ -1,5 +1,7 @@
 pub mod Streams
+pub mod OfLog
 pub mod Openings
+pub mod Agreeing
 pub mod Appended
 pub mod Clashes
 pub mod Frames

@@ -109,6 +109,14 @@ impl FrameIndex {
         }
     }
 
+    /// The frames that are kept of the player's turn of which this frame is.
+    pub(crate) fn kept_with(&self, frame: &TurnFrame) -> &[KeptFrame]
+        ensures { result.now ≡ F.kept_of self.now (L.player_of frame.now) (L.turn_of frame.now) }
+    {
+        let TurnKey { player, turn } = key_of(frame);
+        self.kept(player, turn)
+    }
+
     /// What is kept of the player's turn, each different frame once for each log that got it. It takes the place of what `out`
     /// had, in the memory of `out`'s allocator, and an error comes where that has none.
     pub fn gather(

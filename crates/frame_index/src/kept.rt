@@ -50,7 +50,7 @@ impl Model for TurnFrames {
 }
 
 /// As many frames of a turn as are looked through one by one.
-const FEW: usize = 4;
+pub(crate) const FEW: usize = 4;
 
 /// As many as an honest player has.
 const HONEST: usize = 2;
@@ -96,7 +96,7 @@ fn is_kept(one: &KeptFrame, frame: &TurnFrame) -> bool
 }
 
 /// The place of the frame among the first ones, as many as there are or are asked for.
-fn place_in(kept: &[KeptFrame], frame: &TurnFrame, most: usize) -> Option<usize>
+pub(crate) fn place_in(kept: &[KeptFrame], frame: &TurnFrame, most: usize) -> Option<usize>
     ensures some { IfSome result (λ at. K.StandsAt kept.now at frame.now) }
     ensures none { IfNone result ((at : ℕ) (k : KeptFrame) → at < most → slice_get kept.now at ≡ Some k → k.frame ≡ frame.now → ⊥) }
 {

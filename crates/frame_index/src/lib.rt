@@ -6,7 +6,8 @@
 //! logs with its least pair of spots, in the words of the definitions, whatever the number of turns that players commit ahead. What a
 //! log shows of a player's stream is read place by place, all logs at once, and never kept: [`start_heads`], [`read_first`] and
 //! [`read_turn`] read it for whoever wants more than the findings. A player of whom all that is kept is one legal play is judged once
-//! for all logs, and [`common_moves`] gives its moves.
+//! for all logs, and [`common_moves`] gives its moves. Whoever follows the logs as they grow asks what one log shows of one turn, by
+//! [`FrameIndex::commit_in`] and [`FrameIndex::opening_in`], which take no memory.
 //!
 //! The frames of a turn stand in a row, at the place of their player. There a frame is found among few others by comparing them, and
 //! among many by its digest in an ordered map, so that no log can be made for which the look-ups take long. An index keeps the
@@ -28,6 +29,7 @@ mod kept;
 pub mod least;
 mod limits;
 mod listing;
+mod of_log;
 pub mod pairs;
 mod plain;
 mod rows;

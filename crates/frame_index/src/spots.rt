@@ -54,7 +54,7 @@ impl Spots {
     }
 
     /// Whether one of them is in the log.
-    fn has(&self, log: u32) -> bool
+    pub(crate) fn has(&self, log: u32) -> bool
         ensures { result ≡ list_any (λ x. x.log == log) self.now.items }
     {
         log <= self.top && has_log(self.list.as_slice(), log)

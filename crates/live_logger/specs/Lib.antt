@@ -4,4 +4,5 @@ pub mod Going
 pub mod Reading
 pub mod Serving
 pub mod Polling
+pub mod Progress
 pub mod Reports

@@ -1,13 +1,12 @@
 //! Polls, and rounds.
 
-ghost use Rattle.std.specs.Prelude.{◌≡◌, true, false, length, IfOk};
+ghost use Rattle.std.specs.Prelude.{◌≡◌, true, false, length};
 ghost use Rattle.live_logger.specs.States.{IsWatching};
 ghost use Rattle.watch_rules.specs.Licence.{is_licensed};
 ghost use Rattle.live_logger.specs.Polling.{Polls, Rounds, all_agreed};
 
 use crate::watch::Watch;
 use socket_station::{Did, Station};
-use std::alloc::AllocError;
 
 /// How a round of a logger ended.
 #[derive(Clone, Copy, Debug, PartialEq, Eq)]
@@ -18,18 +17,17 @@ pub enum WatchRound {
     Agreed,
     /// `poll` failed: no further round is played.
     PollFault,
-    /// The auditor had no memory for what came, or there was none for a report: no further round
-    /// is played.
+    /// The auditor had no memory for what came: no further round is played.
     NoMemory,
 }
 
 impl Watch {
     /// Whether every turn of every player is agreed by what came.
-    fn is_agreed(&self) -> Result<bool, AllocError>
+    fn is_agreed(&self) -> bool
         requires { self.now.is_out_of_memory ≡ false }
-        ensures { IfOk result (λ b. b ≡ all_agreed self.now.view) }
+        ensures { result ≡ all_agreed self.now.view }
     {
-        self.board.books.is_agreed(self.alloc)
+        self.board.books.is_agreed()
     }
 
     /// Polls once, and says whether that was done.
@@ -62,16 +60,13 @@ impl Watch {
         }
         self.shut_all(station);
         self.write_all(station);
-        match self.is_agreed() {
-            Err(_) => WatchRound::NoMemory,
-            Ok(true) => WatchRound::Agreed,
-            Ok(false) => {
-                if self.poll(station) {
-                    WatchRound::On
-                } else {
-                    WatchRound::PollFault
-                }
-            }
+        if self.is_agreed() {
+            return WatchRound::Agreed;
+        }
+        if self.poll(station) {
+            WatchRound::On
+        } else {
+            WatchRound::PollFault
         }
     }
 }

@@ -22,7 +22,6 @@ pub const MOST_TAKEN: usize = 4096;
 /// A service that takes all players' logs over sockets while they play.
 #[derive(Drop)]
 pub struct Watch {
-    pub(crate) alloc: Global,
     pub(crate) board: Board,
     // what a read takes, and what a poll lists
     pub(crate) buffer: [u8; MOST_TAKEN],
@@ -46,7 +45,6 @@ impl Watch {
         ensures { IfOk result (λ w. w ≡ new_watch session.now roster) }
     {
         Ok(Watch {
-            alloc,
             board: Board::new(alloc, session, roster)?,
             buffer: [0; MOST_TAKEN],
             ready: ReadyList::new(),

@@ -3,3 +3,4 @@ pub mod Turned
 pub mod Standing
 pub mod Owned
 pub mod Kept
+pub mod Heeding

@@ -1,6 +1,6 @@
 -- Lists: one item of a list is set.
-use Rattle.std.proofs.Common.{◌≡◌, ℕ, zero, suc, ◌+◌, ◌<◌, ◌≤◌, Bool, true, false, List, [], ◌∷◌, length, refl, sym, ap, ◌∙◌, arith, slice_set}
-use Rattle.std.specs.Prelude.{Option, Some, ◌&&◌, map, replicate, slice_get}
+use Rattle.std.proofs.Common.{◌≡◌, ℕ, zero, suc, ◌+◌, ◌++◌, ◌<◌, ◌≤◌, Bool, true, false, List, [], ◌∷◌, length, refl, sym, ap, ◌∙◌, arith, slice_set}
+use Rattle.std.specs.Prelude.{Option, None, Some, ◌&&◌, map, replicate, slice_get}
 use Rattle.std.specs.List.{list_all, range_with_len}
 use Rattle.definitions.specs.Lists.{item_or}
 
@@ -20,6 +20,11 @@ pub set_same : {X : Type 0} (xs : List X) (k : ℕ) (x : X) → slice_get xs k �
 set_same [] k x g = refl
 set_same (y ∷ ys) zero x g = let e : x ≡ y = cc in ap (λ z. z ∷ ys) e
 set_same (y ∷ ys) (suc k) x g = ap (λ zs. y ∷ zs) (set_same ys k x g)
+
+pub get_front : {X : Type 0} (xs ys : List X) (i : ℕ) (x : X) → slice_get xs i ≡ Some x → slice_get (xs ++ ys) i ≡ Some x
+get_front [] ys i x e = absurd (let none : None ≡ Some x = e in cc)
+get_front (y ∷ xs) ys zero x e = e
+get_front (y ∷ xs) ys (suc i) x e = get_front xs ys i x e
 
 pub item_beside : {X : Type 0} (xs : List X) (k i : ℕ) (x d : X) → (i ≡ k → ⊥) → item_or (slice_set xs k x) i d ≡ item_or xs i d
 item_beside [] k i x d n = refl

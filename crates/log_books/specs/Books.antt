@@ -9,12 +9,14 @@ use Rattle.definitions.specs.declared.findings.Finding.{Finding}
 use Rattle.definitions.specs.Findings.{findings}
 use Rattle.definition_laws.specs.Members.{Has}
 use Rattle.evidence.specs.declared.exhibit.Exhibit.{Exhibit}
+use Rattle.agreed_turns.specs.States.{AgreedState, IsOf}
 use Rattle.auditor.specs.Agreed.{agreed_count}
 use Rattle.auditor.specs.Exhibits.{IsExhibitOf}
-use Rattle.auditor.specs.Reports.{IsReportOf, Reported, agreed_by}
+use Rattle.auditor.specs.Reports.{IsReportOf, Reported}
 use Rattle.auditor.specs.Audits.{AuditState, StandsFor, count_in}
 use Rattle.log_streams.specs.Streams.{Stream, lists_of, no_stream, no_streams, owners_of, took_of}
 use Rattle.log_books.specs.declared.pages.Page.{Page}
+use Rattle.log_books.specs.Heeding.{IsOwn}
 use Rattle.log_books.specs.Pages.{IsPageOf}
 
 -- what contracts see: the session, the streams by the players' numbers, and whether memory ran
@@ -32,18 +34,21 @@ with_note game streams note = took_of game (get_or note.numbers 0 0) note.bytes 
 abbrev pub streams_by : Game → List Note → List Stream
 streams_by game notes = fold (with_note game) (no_streams game) notes
 
--- what is kept stands for the streams: the auditor for their lists, and each page for its stream
-pub record StandFor (game : Game) (streams : List Stream) (a : AuditState) (pages : List Page) : Type 0 where
+-- what is kept stands for the streams: the auditor and the agreed turns for their lists, and each
+-- page for its stream, which is of the player's own log
+pub record StandFor (game : Game) (streams : List Stream) (a : AuditState) (g : AgreedState) (pages : List Page) : Type 0 where
   pub session : a.session ≡ game
   pub many : length streams ≡ players_of game
   pub each : length pages ≡ players_of game
   pub most : players_of game ≤ MOST_PLAYERS
   pub audit : StandsFor game (owners_of game streams) (lists_of game streams) a
   pub pages_are : (q : ℕ) (s : Stream) (p : Page) → slice_get streams q ≡ Some s → slice_get pages q ≡ Some p → IsPageOf game a q s p
+  pub own : (q : ℕ) (s : Stream) → slice_get streams q ≡ Some s → IsOwn game q s
+  pub agreed : IsOf game (lists_of game streams) g
 
 -- the same, unless memory ran out
-abbrev pub StandIfWhole : Game → List Stream → Bool → AuditState → List Page → Type 0
-StandIfWhole game streams out a pages = out ≡ false → StandFor game streams a pages
+abbrev pub StandIfWhole : Game → List Stream → Bool → AuditState → AgreedState → List Page → Type 0
+StandIfWhole game streams out a g pages = out ≡ false → StandFor game streams a g pages
 
 -- the report is that on the lists which the streams give, as if the audit began afresh
 abbrev pub ReportsOn : Game → List Stream → Reported → Type 0
@@ -70,11 +75,3 @@ pub record AreNew (game : Game) (pages : List Page) : Type 0 where
   pub few : players_of game ≤ MOST_PLAYERS
   pub many : length pages ≡ players_of game
   pub each : EachIs (IsNewPage game) pages
-
--- the report tells all turns of the player as agreed
-abbrev pub is_whole_by : Game → Reported → (q : ℕ) → Bool
-is_whole_by game r q = agreed_by r q == game.turns
-
--- the report tells all turns of each player as agreed
-abbrev pub is_agreed_by : Game → Reported → Bool
-is_agreed_by game r = list_all (is_whole_by game r) (range_with_len 0 (players_of game))

@@ -1,12 +1,14 @@
 //! The books of a session.
 
-ghost use Rattle.std.specs.Prelude.{◌≡◌, ◌≤◌, ◌<◌, false, true, length, slice_get, IfOk, OnOk, OnErr};
+ghost use Rattle.std.specs.Prelude.{◌≡◌, ◌≤◌, ◌<◌, false, true, length, Some, slice_get, IfOk, OnOk, OnErr};
 ghost use Rattle.definitions.specs.World.{players_of};
 ghost use Rattle.auditor.specs.Audits.{StandsFor};
 ghost use Rattle.log_books.specs.Books as B;
-ghost use Rattle.log_streams.specs.Streams.{count_at, lists_of, no_streams, owners_of, room_at, took_of};
+ghost use Rattle.log_books.specs.Pages.{closed_at};
+ghost use Rattle.log_streams.specs.Streams.{Stream, count_at, entries_of, lists_of, no_streams, owners_of, room_at, took_of};
 
 use crate::pages::{Page, take};
+use agreed_turns::AgreedTurns;
 use auditor::{Auditor, Exhibit, Report};
 use definitions::{Finding, PlayerId};
 use grid_world::Session;
@@ -19,6 +21,8 @@ use std::marker::Model;
 pub struct Books {
     pub(crate) session: Session,
     pub(crate) auditor: Auditor,
+    // the turns on which the logs agree, as far as they came
+    pub(crate) agreed: AgreedTurns,
     pub(crate) pages: Vec<Page>,
     // what came of whom, piece by piece, which only proofs read
     took: Record,
@@ -33,7 +37,7 @@ impl Model for Books {
 
     ghost view = { λ b. record { game = b.session; streams = streams_by b.session b.took.notes; is_out_of_memory = b.is_out_of_memory } };
 
-    ghost invariant = { λ b. StandIfWhole b.session (streams_by b.session b.took.notes) b.is_out_of_memory b.auditor b.pages.items };
+    ghost invariant = { λ b. StandIfWhole b.session (streams_by b.session b.took.notes) b.is_out_of_memory b.auditor b.agreed b.pages.items };
 }
 
 /// A page for each player.
@@ -56,9 +60,11 @@ impl Books {
         let pages = make_pages(alloc, session)?;
         let own = session.copy(alloc)?;
         let auditor = Auditor::new(alloc, session)?;
+        let agreed = AgreedTurns::new(alloc, session)?;
         Ok(Books {
             session: own,
             auditor,
+            agreed,
             pages,
             took: Record::new(),
             is_out_of_memory: false,
@@ -99,6 +105,26 @@ impl Books {
         self.pages[usize::from(player)].count
     }
 
+    /// How many whole entries of the player's log came, before its first fault.
+    pub fn entries(&self, player: PlayerId) -> u32
+        requires player { player < players_of self.now.game }
+        requires whole { self.now.is_out_of_memory ≡ false }
+        ensures { (s : Stream) → slice_get self.now.streams player ≡ Some s → result ≡ length (entries_of self.now.game s) }
+    {
+        self.auditor.count(u32::from(player))
+    }
+
+    /// Where the player's log was closed, if it was. It is the byte, counted from 0, where the entry
+    /// begins that can't be used; 0 where the first byte is another player's; or the number of
+    /// bytes of a log that has as many as a log may have.
+    pub fn closed(&self, player: PlayerId) -> Option<u32>
+        requires player { player < players_of self.now.game }
+        requires whole { self.now.is_out_of_memory ≡ false }
+        ensures { (s : Stream) → slice_get self.now.streams player ≡ Some s → result ≡ closed_at self.now.game s }
+    {
+        self.pages[usize::from(player)].closed()
+    }
+
     /// Bytes came of the player's log, one at least, and no more than may still be taken. An error
     /// comes where the allocator that the books keep has no memory; after it nothing more is
     /// taken.
@@ -114,6 +140,7 @@ impl Books {
         self.took.note(&[u64::from(player)], &[], bytes);
         let taken = take(
             &mut self.auditor,
+            &mut self.agreed,
             &mut self.pages[usize::from(player)],
             player,
             bytes,

@@ -23,7 +23,8 @@ use Rattle.definition_laws.proofs.ForPeers.{own_moves, own_next}
 use Rattle.definition_laws.proofs.Listing.{slice_get_map, slice_get_take}
 use Rattle.definition_laws.proofs.Members.{Has_filter_map, Has_range}
 use Rattle.definition_laws.proofs.Nexts.{resolved_below, some_at}
-use Rattle.auditor.specs.Agreed.{agreed_move, agreed_moves, all_agreed_moves, are_whole, line_of, moves_given, one_move, resolved_at, resolved_by}
+use Rattle.auditor.specs.Agreed.{agreed_move, agreed_moves, all_agreed_moves, are_whole, line_of, moves_given, resolved_at, resolved_by}
+use Rattle.frame_index.specs.Agreeing.{one_move}
 use Rattle.auditor.proofs.Worlds.{item_range}
 use Rattle.playout.specs.Lockstep.{lockstep}
 use Rattle.schedule.specs.declared.stands.Stand.TheVariants.{Finished}

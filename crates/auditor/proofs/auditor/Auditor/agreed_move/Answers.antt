@@ -3,7 +3,8 @@ use Rattle.std.specs.Prelude.{filter_map, option_to_list}
 use Rattle.std.specs.List.{range_with_len}
 use Rattle.definitions.specs.declared.world.Move.{Move}
 use Rattle.auditor.specs.Accords.{accord_of, agreed_in}
-use Rattle.auditor.specs.Agreed.{agreed_move, one_move, resolved_at}
+use Rattle.auditor.specs.Agreed.{agreed_move, resolved_at}
+use Rattle.frame_index.specs.Agreeing.{one_move}
 use Rattle.auditor.proofs.Accorded.{one_is}
 use Rattle.auditor.proofs.Ranged.{picked_more}
 use Rattle.auditor.proofs.auditor.Auditor.agreed_move.Goals as goal

@@ -9,20 +9,20 @@ poll-requires-clause-licensed g c =
     let h = handled _ _ _ _ c.args.self.now c.read_all.new.self c.shut_all.new.self c.write_all.new.self all c.shut_all.ensures c.write_all.ensures in
     licensed c.write_all.new.self.view h.goes.watching.running h.quiet
 
-pub returns-in-Ok-true : goal.returns-in-Ok-true
-returns-in-Ok-true g c =
+pub returns-then-is_agreed : goal.returns-then-is_agreed
+returns-then-is_agreed g c =
     let all = on_ok c.read_all.result (sym c.is_err.ensures.value ∙ c.if-is_err.false) c.read_all.ensures.all in
     let h = handled _ _ _ _ c.args.self.now c.read_all.new.self c.shut_all.new.self c.write_all.new.self all c.shut_all.ensures c.write_all.ensures in
-    (h.goes, sym c.in-Ok-true.ensures ∙ c.in-Ok-true.field-0-test, licensed c.write_all.new.self.view h.goes.watching.running h.quiet)
+    (h.goes, sym c.is_agreed.ensures ∙ c.if-is_agreed.true, licensed c.write_all.new.self.view h.goes.watching.running h.quiet)
 
 pub returns-then-poll : goal.returns-then-poll
 returns-then-poll g c =
     let all = on_ok c.read_all.result (sym c.is_err.ensures.value ∙ c.if-is_err.false) c.read_all.ensures.all in
     let h = handled _ _ _ _ c.args.self.now c.read_all.new.self c.shut_all.new.self c.write_all.new.self all c.shut_all.ensures c.write_all.ensures in
-    round_on _ _ _ c.args.self.now c.write_all.new.self c.poll.new.self h (sym c.in-Ok-false.ensures ∙ c.in-Ok-false.field-0-test) c.if-poll.ensures
+    round_on _ _ _ c.args.self.now c.write_all.new.self c.poll.new.self h (sym c.is_agreed.ensures ∙ c.if-is_agreed.false) c.if-poll.ensures
 
 pub returns-else-poll : goal.returns-else-poll
 returns-else-poll g c =
     let all = on_ok c.read_all.result (sym c.is_err.ensures.value ∙ c.if-is_err.false) c.read_all.ensures.all in
     let h = handled _ _ _ _ c.args.self.now c.read_all.new.self c.shut_all.new.self c.write_all.new.self all c.shut_all.ensures c.write_all.ensures in
-    round_fault _ _ _ c.args.self.now c.write_all.new.self c.poll.new.self h (sym c.in-Ok-false.ensures ∙ c.in-Ok-false.field-0-test) c.if-poll.ensures
+    round_fault _ _ _ c.args.self.now c.write_all.new.self c.poll.new.self h (sym c.is_agreed.ensures ∙ c.if-is_agreed.false) c.if-poll.ensures

@@ -1,0 +1,10 @@
+pub mod Accorded
+pub mod Given
+pub mod Noted
+pub mod Stuck
+pub mod GoingOn
+pub mod Heeded
+pub mod Started
+pub mod Entered
+pub mod Heeding
+pub mod Counted

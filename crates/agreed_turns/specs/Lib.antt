@@ -1,0 +1,4 @@
+pub mod Accords
+pub mod Agreed
+pub mod Heads
+pub mod States
