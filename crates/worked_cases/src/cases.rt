@@ -31,17 +31,40 @@ pub struct Wants {
     pub keeps: Option<usize>,
     /// How many bytes are given on the first socket.
     pub gives: Option<usize>,
+    /// Which bytes are given on sockets.
+    pub given: Vec<Given>,
     /// Which sockets are open at the end, by their numbers.
     pub open: Vec<u32>,
     /// Which sockets aren't open at the end.
     pub shut: Vec<u32>,
 }
 
-/// What a socket brings that comes to the station, and in pieces of how many bytes.
+/// The bytes that a socket of this number is given, all of them.
+#[derive(Drop)]
+pub struct Given {
+    pub socket: u32,
+    pub bytes: Vec<u8>,
+}
+
+/// What a socket brings, and how.
 #[derive(Drop)]
 pub struct Socket {
     pub bytes: Vec<u8>,
+    /// How many bytes a piece has.
     pub size: usize,
+    /// Whether each poll brings one piece, and not the opening all of them.
+    pub is_slow: bool,
+    /// Whether it ends behind its bytes.
+    pub is_lost: bool,
+}
+
+/// How a socket brings its bytes.
+#[derive(Clone, Copy)]
+pub enum How {
+    /// One piece a poll.
+    Slow,
+    /// It ends behind the last of them.
+    Lost,
 }
 
 /// What the program is run on.
@@ -55,7 +78,10 @@ pub struct Run {
     pub room: u32,
     /// How many bytes the station has room for.
     pub carries: u32,
+    /// Those that come to the station.
     pub sockets: Vec<Socket>,
+    /// Those that the program dials.
+    pub dialled: Vec<Socket>,
 }
 
 /// What lines with a mark say behind a line of a case.
@@ -68,8 +94,12 @@ pub enum Part {
     /// The last file.
     File,
     Input,
-    /// What the last socket brings.
+    /// What the last socket brings that comes to the station.
     Socket,
+    /// What the last socket brings that the program dials.
+    Dialled,
+    /// What the last socket is given of which that is said.
+    Given,
     Writes,
     Among,
     Ends,
@@ -111,6 +141,7 @@ impl Wants {
             polls: None,
             keeps: None,
             gives: None,
+            given: Vec::new(alloc),
             open: Vec::new(alloc),
             shut: Vec::new(alloc),
         }
@@ -120,7 +151,8 @@ impl Wants {
     pub fn is_nothing(&self) -> bool {
         let has_text = self.writes.is_some() || self.among.is_some() || self.ends.is_some();
         let has_end = self.lines.is_some() || self.status.is_some() || self.polls.is_some();
-        let has_bytes = self.keeps.is_some() || self.gives.is_some();
+        let has_counts = self.keeps.is_some() || self.gives.is_some();
+        let has_bytes = has_counts || !self.given.is_empty();
         let has_sockets = !self.open.is_empty() || !self.shut.is_empty();
         !has_text && !has_end && !has_bytes && !has_sockets
     }
@@ -143,6 +175,27 @@ impl Run {
             room: USUAL_ROOM,
             carries: USUALLY_CARRIED,
             sockets: Vec::new(alloc),
+            dialled: Vec::new(alloc),
+        }
+    }
+}
+
+impl Socket {
+    /// A socket that brings nothing yet, and then pieces of so many bytes.
+    pub fn new(alloc: Global, size: usize) -> Socket {
+        Socket {
+            bytes: Vec::new(alloc),
+            size,
+            is_slow: false,
+            is_lost: false,
+        }
+    }
+
+    /// It brings its bytes so too.
+    pub fn mark(&mut self, how: How) {
+        match how {
+            How::Slow => self.is_slow = true,
+            How::Lost => self.is_lost = true,
         }
     }
 }

@@ -1,6 +1,6 @@
 //! How a run differs from what a case wants.
 
-use crate::cases::Wants;
+use crate::cases::{Given, Wants};
 use crate::playing::Ran;
 use hex::encode;
 use std::alloc::{AllocError, Global};
@@ -177,6 +177,71 @@ fn sockets_otherwise(
     socket_differs(alloc, wants.shut.as_slice(), open, false)
 }
 
+/// The first place at which the bytes differ, or the end of the shorter ones.
+fn first_difference(wanted: &[u8], came: &[u8]) -> usize {
+    let least = wanted.len().min(came.len());
+    for at in 0..least {
+        if wanted.get(at) != came.get(at) {
+            return at;
+        }
+    }
+    least
+}
+
+/// How many bytes are shown of those that a socket was given otherwise.
+const MOST_SHOWN: usize = 40;
+
+/// The digits of the bytes from that place on, as many as are shown.
+fn digits_from(alloc: Global, bytes: &[u8], at: usize) -> Result<String, AllocError> {
+    let rest = bytes.get(at..).unwrap_or(b"");
+    if rest.is_empty() {
+        return String::from_str(alloc, "nothing more");
+    }
+    encode(alloc, &rest[..rest.len().min(MOST_SHOWN)])
+}
+
+/// How the bytes that a socket was given differ from those that are wanted, if they do.
+fn bytes_differ(alloc: Global, wanted: &Given, came: &[u8]) -> Result<Option<String>, AllocError> {
+    let due = wanted.bytes.as_slice();
+    if due == came {
+        return Ok(None);
+    }
+    let socket = wanted.socket;
+    let at = first_difference(due, came);
+    let due = digits_from(alloc, due, at)?;
+    let own = digits_from(alloc, came, at)?;
+    let text = format!(in alloc;
+        "  socket {socket} from byte {at} on: wanted {due}, and {own} came\n"
+    )?;
+    Ok(Some(text))
+}
+
+/// How a socket was given otherwise than it is wanted, if it was.
+fn socket_given_otherwise(
+    alloc: Global,
+    wanted: &Given,
+    ran: &Ran,
+) -> Result<Option<String>, AllocError> {
+    match ran.given_on(alloc, wanted.socket)? {
+        Some(came) => bytes_differ(alloc, wanted, came.as_slice()),
+        None => {
+            let socket = wanted.socket;
+            let text = format!(in alloc; "  there is no socket {socket}\n")?;
+            Ok(Some(text))
+        }
+    }
+}
+
+/// The first socket that was given otherwise than it is wanted, as a text, if there is one.
+fn given_otherwise(alloc: Global, wants: &Wants, ran: &Ran) -> Result<Option<String>, AllocError> {
+    for wanted in &wants.given {
+        if let Some(said) = socket_given_otherwise(alloc, wanted, ran)? {
+            return Ok(Some(said));
+        }
+    }
+    Ok(None)
+}
+
 /// The first thing in which a run differs from what the case wants, as a text, if there is one.
 pub fn differs(alloc: Global, wants: &Wants, ran: &Ran) -> Result<Option<String>, AllocError> {
     if let Some(said) = writes_otherwise(alloc, wants, ran.text.as_slice())? {
@@ -186,6 +251,9 @@ pub fn differs(alloc: Global, wants: &Wants, ran: &Ran) -> Result<Option<String>
         if let Some(said) = counts_otherwise(alloc, what, wanted, came)? {
             return Ok(Some(said));
         }
+    }
+    if let Some(said) = given_otherwise(alloc, wants, ran)? {
+        return Ok(Some(said));
     }
     sockets_otherwise(alloc, wants, ran.open.as_slice())
 }

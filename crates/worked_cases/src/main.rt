@@ -11,6 +11,7 @@
 #![tactic(auto)]
 
 mod book;
+mod bringing;
 mod cases;
 mod comparing;
 mod faults;
@@ -21,6 +22,7 @@ mod openings;
 mod playing;
 mod reading;
 mod saying;
+mod sockets;
 mod spelling;
 
 use reading::{Played, play_text};

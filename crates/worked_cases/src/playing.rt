@@ -2,9 +2,9 @@
 
 ghost use Rattle.std.specs.Prelude.{◌≡◌, [], IfOk};
 
-use crate::cases::{Fails, Run, Socket};
+use crate::cases::{Fails, Run};
 use crate::faults::Fault;
-use bytes::Bytes;
+use crate::sockets::CaseStation;
 use memory_station::MemoryStation;
 use rand_core::SeedableRng;
 use rand_pcg::Pcg32;
@@ -20,7 +20,7 @@ const MOST_WRITTEN: usize = 2_097_152;
 const MOST_SOCKETS: u32 = 512;
 
 /// How a run ended: its status, what it wrote, how many polls it made, how many bytes it kept, how
-/// many it gave on its first socket, and which sockets are open.
+/// many it gave on its first socket, which sockets are open, and the station that tells more.
 #[derive(Drop)]
 pub struct Ran {
     pub status: u8,
@@ -29,25 +29,7 @@ pub struct Ran {
     pub kept: usize,
     pub given: usize,
     pub open: Vec<u32>,
-}
-
-/// Brings a new socket, and what it brings in pieces.
-fn bring(alloc: Global, station: &mut MemoryStation, brought: &Socket) -> Result<(), Fault>
-    ensures { station.new.book.history ≡ station.old.book.history }
-{
-    let Some(socket) = station.bring_socket() else {
-        return Err(Fault::Wanted("at most 512 sockets"));
-    };
-    'pieces: for piece in brought.bytes.as_slice().chunks(brought.size.max(1)) {
-        if piece.is_empty() || !station.is_known(socket) {
-            return Err(Fault::Wanted("pieces that are not empty"));
-        }
-        let piece = Bytes::copy_from_slice(alloc, piece)?;
-        if station.bring(socket, piece).is_err() {
-            return Err(Fault::Wanted("at most 65536 pieces"));
-        }
-    }
-    Ok(())
+    station: MemoryStation,
 }
 
 /// The station of a run, to which nothing came yet.
@@ -65,12 +47,15 @@ fn bare_station(alloc: Global, asked: &Run) -> Result<MemoryStation, AllocError>
 }
 
 /// The station of a run, of which no call was made.
-fn station_of(alloc: Global, asked: &Run) -> Result<MemoryStation, Fault>
-    ensures { IfOk result (λ station. station.book.history ≡ []) }
+fn station_of(alloc: Global, asked: &Run) -> Result<CaseStation, Fault>
+    ensures { IfOk result (λ station. station.memory.book.history ≡ []) }
 {
-    let mut station = bare_station(alloc, asked)?;
+    let mut station = CaseStation::over(alloc, bare_station(alloc, asked)?);
     'sockets: for socket in &asked.sockets {
-        bring(alloc, &mut station, socket)?;
+        station.accept(alloc, socket)?;
+    }
+    'dialled: for socket in &asked.dialled {
+        station.expect(alloc, socket)?;
     }
     Ok(station)
 }
@@ -82,18 +67,37 @@ fn run_over(
     input: &mut MemorySource,
     out: &mut MemorySink,
     shelf: &mut MemoryShelf,
-    station: &mut MemoryStation,
+    station: &mut CaseStation,
 ) -> Status
-    requires { ⟦<MemoryStation as Station>⟧.history station.old ≡ [] }
+    requires { ⟦<CaseStation as Station>⟧.history station.old ≡ [] }
 {
     let mut chance = Pcg32::seed_from_u64(7);
     peer_cli::run(alloc, words, input, out, shelf, station, &mut chance)
 }
 
-/// How many bytes were given on the first socket.
-fn given_first(station: &MemoryStation) -> usize {
+/// The bytes that were given on a socket.
+fn given_on(alloc: Global, station: &MemoryStation, socket: u32) -> Result<Vec<u8>, AllocError> {
+    let mut given = Vec::new(alloc);
     let mut out = [0; 4096];
-    station.given(0, 0, &mut out)
+    for _piece in 0..u32::MAX {
+        let count = station.given(socket, given.len(), &mut out);
+        if count == 0 {
+            break;
+        }
+        given.extend_from_slice(&out[..count.min(4096)])?;
+    }
+    Ok(given)
+}
+
+impl Ran {
+    /// The bytes that were given on a socket, if it came to the station or was dialled.
+    pub fn given_on(&self, alloc: Global, socket: u32) -> Result<Option<Vec<u8>>, AllocError> {
+        if !self.station.is_known(socket) {
+            return Ok(None);
+        }
+        let given = given_on(alloc, &self.station, socket)?;
+        Ok(Some(given))
+    }
 }
 
 /// The numbers of the sockets that are open.
@@ -112,14 +116,14 @@ fn ran_of(
     alloc: Global,
     status: Status,
     out: &MemorySink,
-    station: &MemoryStation,
+    station: MemoryStation,
 ) -> Result<Ran, Fault> {
     let text = Vec::from_slice(alloc, out.bytes())?;
     let status = status.code();
     let polls = station.polls();
     let kept = station.kept().len();
-    let given = given_first(station);
-    let open = open_in(alloc, station)?;
+    let given = given_on(alloc, &station, 0)?.len();
+    let open = open_in(alloc, &station)?;
     Ok(Ran {
         status,
         text,
@@ -127,6 +131,7 @@ fn ran_of(
         kept,
         given,
         open,
+        station,
     })
 }
 
@@ -157,5 +162,6 @@ pub fn play(alloc: Global, asked: Run) -> Result<Ran, Fault> {
         &mut shelf,
         &mut station,
     );
-    ran_of(alloc, status, &out, &station)
+    station.refuse_short()?;
+    ran_of(alloc, status, &out, station.memory)
 }

@@ -1,7 +1,7 @@
 //! What the lines of a case say.
 
 use crate::book::Book;
-use crate::cases::{Case, Part, Run, Socket, Wants};
+use crate::cases::{Case, Given, How, Part, Run, Socket, Wants};
 use crate::faults::Fault;
 use crate::lines::{Line, line_of, number};
 use crate::spelling::spelled;
@@ -54,6 +54,15 @@ fn want_text(alloc: Global, wanted: &mut Option<Vec<u8>>, part: Part) -> Result<
     Ok(part)
 }
 
+/// The bytes of a socket are wanted from now on, of which none stands yet.
+fn want_given(alloc: Global, wanted: &mut Vec<Given>, text: &str) -> Result<Part, Fault> {
+    let socket = number::<u32>(text)?;
+    refuse_again(wanted.as_slice().iter().any(|given| given.socket == socket))?;
+    let bytes = Vec::new(alloc);
+    wanted.push(Given { socket, bytes })?;
+    Ok(Part::Given)
+}
+
 /// These calls fail from now on.
 fn fail_calls(calls: &mut Vec<u32>, numbers: Vec<u32>) -> Result<(), Fault> {
     refuse_again(!calls.is_empty())?;
@@ -68,6 +77,29 @@ fn fail_one_call(call: &mut Option<u32>, numbers: &[u32]) -> Result<(), Fault> {
         return Err(Fault::Wanted("one number"));
     };
     *call = Some(*number);
+    Ok(())
+}
+
+/// The last of the sockets brings its bytes so.
+fn mark_last(sockets: &mut Vec<Socket>, how: How) {
+    if let Some(socket) = sockets.last_mut() {
+        socket.mark(how);
+    }
+}
+
+/// The last of the sockets brings these bytes too.
+fn add_brought(sockets: &mut Vec<Socket>, bytes: &[u8]) -> Result<(), Fault> {
+    if let Some(socket) = sockets.last_mut() {
+        socket.bytes.extend_from_slice(bytes)?;
+    }
+    Ok(())
+}
+
+/// The last of the sockets is to be given these bytes too.
+fn add_given(wanted: &mut Vec<Given>, bytes: &[u8]) -> Result<(), Fault> {
+    if let Some(given) = wanted.last_mut() {
+        given.bytes.extend_from_slice(bytes)?;
+    }
     Ok(())
 }
 
@@ -134,13 +166,30 @@ impl Run {
     /// A socket comes, and what it brings comes in pieces of so many bytes.
     fn say_socket(&mut self, book: &Book, size: &str) -> Result<Part, Fault> {
         let size = number::<usize>(size)?;
-        let bytes = Vec::new(book.alloc);
-        self.sockets.push(Socket { bytes, size })?;
+        self.sockets.push(Socket::new(book.alloc, size))?;
         Ok(Part::Socket)
     }
 
-    /// What a line without a mark says of the run. None where it says nothing of that.
-    fn say(&mut self, book: &mut Book, line: Line<'_>) -> Result<Option<Part>, Fault> {
+    /// What the next socket brings that is dialled comes in pieces of so many bytes.
+    fn say_dialled(&mut self, book: &Book, size: &str) -> Result<Part, Fault> {
+        let size = number::<usize>(size)?;
+        self.dialled.push(Socket::new(book.alloc, size))?;
+        Ok(Part::Dialled)
+    }
+
+    /// How the socket of this part brings its bytes, if the part is that of one.
+    fn say_how(&mut self, part: Part, how: How) -> Result<Part, Fault> {
+        match part {
+            Part::Socket => mark_last(&mut self.sockets, how),
+            Part::Dialled => mark_last(&mut self.dialled, how),
+            _ => return Err(Fault::Wanted("socket or dialled before this")),
+        }
+        Ok(part)
+    }
+
+    /// What a line without a mark says of the run. None where it says nothing of that. The line
+    /// before it said this part.
+    fn say(&mut self, book: &mut Book, part: Part, line: Line<'_>) -> Result<Option<Part>, Fault> {
         let part = match line.word {
             "over" => self.say_over(book, line.rest)?,
             "words" => self.say_words(book, line.rest)?,
@@ -150,6 +199,9 @@ impl Run {
             "room" => self.say_room(line.rest)?,
             "socket" => self.say_socket(book, line.rest)?,
             "sockets" => self.say_sockets(book, line.rest)?,
+            "dialled" => self.say_dialled(book, line.rest)?,
+            "slow" => self.say_how(part, How::Slow)?,
+            "lost" => self.say_how(part, How::Lost)?,
             _ => return Ok(None),
         };
         Ok(Some(part))
@@ -159,8 +211,7 @@ impl Run {
     fn say_sockets(&mut self, book: &Book, count: &str) -> Result<Part, Fault> {
         let count = number::<u32>(count)?;
         for _ in 0..count {
-            let bytes = Vec::new(book.alloc);
-            self.sockets.push(Socket { bytes, size: 1 })?;
+            self.sockets.push(Socket::new(book.alloc, 1))?;
         }
         Ok(Part::Nothing)
     }
@@ -184,14 +235,6 @@ impl Run {
         self.words.push(word)?;
         Ok(())
     }
-
-    /// The last socket brings these bytes too.
-    fn add_brought(&mut self, bytes: &[u8]) -> Result<(), Fault> {
-        if let Some(socket) = self.sockets.last_mut() {
-            socket.bytes.extend_from_slice(bytes)?;
-        }
-        Ok(())
-    }
 }
 
 impl Wants {
@@ -206,6 +249,7 @@ impl Wants {
             "polls" => want_count(&mut self.polls, line.rest),
             "keeps" => want_count(&mut self.keeps, line.rest),
             "gives" => want_count(&mut self.gives, line.rest),
+            "given" => want_given(book.alloc, &mut self.given, line.rest),
             "open" => want_numbers(&mut self.open, book, line.rest),
             "shut" => want_numbers(&mut self.shut, book, line.rest),
             _ => Err(Fault::Wanted("a word of the format")),
@@ -216,7 +260,7 @@ impl Wants {
 impl Case {
     /// What a line without a mark says.
     pub fn say(&mut self, book: &mut Book, line: Line<'_>) -> Result<(), Fault> {
-        let said = self.run.say(book, line)?;
+        let said = self.run.say(book, self.part, line)?;
         self.part = match said {
             Some(part) => part,
             None => self.wants.say(book, line)?,
@@ -231,7 +275,9 @@ impl Case {
             Part::Words => self.run.add_word(bytes)?,
             Part::File => self.run.files.extend(bytes.as_slice())?,
             Part::Input => self.run.input.extend_from_slice(bytes.as_slice())?,
-            Part::Socket => self.run.add_brought(bytes.as_slice())?,
+            Part::Socket => add_brought(&mut self.run.sockets, bytes.as_slice())?,
+            Part::Dialled => add_brought(&mut self.run.dialled, bytes.as_slice())?,
+            Part::Given => add_given(&mut self.wants.given, bytes.as_slice())?,
             Part::Writes => add_wanted(&mut self.wants.writes, bytes.as_slice())?,
             Part::Among => add_wanted(&mut self.wants.among, bytes.as_slice())?,
             Part::Ends => add_wanted(&mut self.wants.ends, bytes.as_slice())?,
