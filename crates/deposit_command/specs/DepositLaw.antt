@@ -50,7 +50,7 @@ deposit_law d = record {
   names = source_names d;
   -- the roster is read only where the session has the player
   due = λ before after calls. (contents : Contents) → AreContents contents calls → (k : ℕ) → (item_or calls k [] ≡ []) ⊎ MayReadRoster d contents k;
-  -- the log's file is asked for at the places from which on the logger wants it
+  -- the log's file alone is asked for after that, at whatever places
   asks = λ before after. (failed : Bool) × Asks d.log failed before after;
   answer = λ contents input. undeposited_answer (source_for d contents);
   plays = λ contents before after status. DepositsLog d (source_for d contents) before after status;

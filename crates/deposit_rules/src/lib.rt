@@ -5,7 +5,7 @@
 //! logger wants. This crate says what the history of its station shows at each moment, which item
 //! may come next for a log of given bytes, and when a poll is licensed. It promises the laws of
 //! its functions, which return at once, and of each change of the socket that it is the one that
-//! the rules name. No code makes the calls yet. It takes no memory and touches nothing.
+//! the rules name. `live_deposit` makes the calls. It takes no memory and touches nothing.
 #![tactic(auto)]
 
 pub mod laws;

@@ -1,5 +1,5 @@
 -- Beginning: what stands after the first call.
-use Rattle.std.specs.Prelude.{◌≡◌, List, [], ◌∷◌, ◌++◌}
+use Rattle.std.specs.Prelude.{◌≡◌, false, List, [], ◌∷◌, ◌++◌}
 use Rattle.socket_station.specs.declared.answers.Did.{Did}
 use Rattle.socket_station.specs.declared.answers.Did.TheVariants.{Done, Failed}
 use Rattle.socket_station.specs.Items.{Item, listen_item}
@@ -13,10 +13,10 @@ pub record IsNew (items : List Item) (w : WatchState) : Type 0 where
   pub none : items ≡ []
   pub new : w ≡ new_watch w.view.setting.game w.view.setting.roster
 
--- it listens and is ready for a round, or that failed
+-- it listens and is ready for a round, or that failed, and no memory was wanting
 abbrev pub StandsBegun : Did → List Item → WatchState → Type 0
 StandsBegun Done items m = IsWatching items m
-StandsBegun Failed items m = IsTold items m.view × (m.view.phase ≡ PollFault)
+StandsBegun Failed items m = IsTold items m.view × (m.view.phase ≡ PollFault) × (m.is_out_of_memory ≡ false)
 
 -- the call of `listen` was made, and nothing else
 pub record Begins (did : Did) (before after : List Item) (w m : WatchState) : Type 0 where

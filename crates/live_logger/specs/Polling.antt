@@ -46,10 +46,10 @@ pub record Polls (done : Bool) (before after : List Item) (w m : WatchState) : T
 
 -- How a round ended. A poll was made at its end, which is licensed since the history allows it,
 -- and not every turn is agreed; or each is, all that is there was handled, and none was made; or a
--- poll failed at its end; or memory ran out, and what was told so far is told by the rules
--- all the same.
+-- poll failed at its end; or memory ran out for what came, and what was told so far is told by the
+-- rules all the same.
 abbrev pub Rounds : WatchRound → (before after : List Item) → (w m : WatchState) → Type 0
 Rounds On before after w m = GoesBy 1 before after w m × IsWatching after m × (all_agreed m.view ≡ false) × LastIsPoll after
 Rounds Agreed before after w m = Goes before after w m × (all_agreed m.view ≡ true) × (is_licensed m.view ≡ true)
 Rounds PollFault before after w m = GoesBy 0 before after w m × (m.view.phase ≡ P.PollFault) × (all_agreed m.view ≡ false) × LastPollFailed after
-Rounds NoMemory before after w m = AreTold (start w.view.setting) [] after
+Rounds NoMemory before after w m = AreTold (start w.view.setting) [] after × (m.is_out_of_memory ≡ true)

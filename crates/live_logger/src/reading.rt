@@ -61,6 +61,7 @@ impl Watch {
         requires wants { R.WantsAt self.old.view place }
         ensures all { OnOk result (R.Reads place (S.history station.old) (S.history station.new) self.old self.new) }
         ensures memory { OnErr result (AreTold (start self.old.view.setting) [] (S.history station.new)) }
+        ensures lacks { OnErr result (self.new.is_out_of_memory ≡ true) }
     {
         let most = MOST_TAKEN.min(self.board.room(place) as usize);
         let read = station.read(socket, &mut self.buffer[..most]);
@@ -78,6 +79,7 @@ impl Watch {
         requires ready { IsWatching (S.history station.old) self.old }
         ensures all { OnOk result (R.ReadsOut place (S.history station.old) (S.history station.new) self.old self.new) }
         ensures memory { OnErr result (AreTold (start self.old.view.setting) [] (S.history station.new)) }
+        ensures lacks { OnErr result (self.new.is_out_of_memory ≡ true) }
     {
         while self.board.wants_read(place) {
             self.read(station, place, socket)?;
@@ -90,6 +92,7 @@ impl Watch {
         requires ready { IsWatching (S.history station.old) self.old }
         ensures all { OnOk result (R.ReadsAll (length self.new.view.sockets.lines) (S.history station.old) (S.history station.new) self.old self.new) }
         ensures memory { OnErr result (AreTold (start self.old.view.setting) [] (S.history station.new)) }
+        ensures lacks { OnErr result (self.new.is_out_of_memory ≡ true) }
     {
         for place in 0..self.board.count() {
             let socket = self.board.socket_at(place);

@@ -11,7 +11,7 @@ use Rattle.run_frame.specs.declared.statuses.Status.{Status}
 use Rattle.watch_command.specs.declared.opening.WatchSource.{WatchSource}
 use Rattle.watch_command.specs.declared.watching.Watched.{Watched}
 use Rattle.watch_command.specs.declared.watching.Watched.TheVariants as W
-use Rattle.watch_command.specs.Plays.{PlaysLogger, known_at}
+use Rattle.watch_command.specs.Plays.{PlaysLogger}
 use Rattle.watch_command.specs.Watches.{IsShown, StandsWatched, watch_answer}
 
 -- what is printed is by the streams that the history gives
@@ -34,7 +34,7 @@ audit_same s items w h result =
     ∙ ap (λ (x : List Stream). watch_answer s.game x result) (shown_streams s items w h)
 
 answer_same : (s : Setting) (polls : ℕ) (result : Watched) (items : List Item) (w : WatchState) →
-    StandsWatched s polls result items (known_at result w) → Same s items w result
+    StandsWatched s polls result items w → Same s items w result
 answer_same s polls W.Agreed items w h = audit_same s items w h.shown W.Agreed
 answer_same s polls W.Spent items w h = audit_same s items w h.shown W.Spent
 answer_same s polls W.PollFault items w h = refl
@@ -43,17 +43,17 @@ answer_same s polls W.NoMemory items w h = refl
 -- a logger of what was opened was played to its end, which was written
 pub played : (s : WatchSource) (polls : ℕ) (items : List Item) (a b : SinkState) (status : Status)
     (result : Watched) (new w : WatchState) → new ≡ new_watch s.session s.roster →
-    StandsWatched new.view.setting polls result items (known_at result w) →
+    StandsWatched new.view.setting polls result items w →
     Ran a b (watch_answer w.view.setting.game w.view.streams result) true ⊥ ⊥ status →
     PlaysLogger s polls items a b status
 played s polls items a b status result new w is stands ran =
     let by : Setting = setting_for s.session s.roster in
     let same : new.view.setting ≡ by = ap (λ (x : WatchState). x.view.setting) is in
-    let Stands : Setting → Type 0 = λ x. StandsWatched x polls result items (known_at result w) in
+    let Stands : Setting → Type 0 = λ x. StandsWatched x polls result items w in
     let so : Stands by = subst Stands same stands in
     record {
       result = result;
-      last = known_at result w;
+      last = w;
       stands = so;
       written =
           subst (λ (x : Answer). Ran a b x true ⊥ ⊥ status)

@@ -7,7 +7,6 @@ use Rattle.live_logger.specs.Going.{polls_of}
 use Rattle.live_logger.specs.Polling.{LastIsPoll, Rounds, all_agreed}
 use Rattle.live_logger.specs.States.{IsWatching, WatchState}
 use Rattle.live_logger.proofs.Going.{polls_join}
-use Rattle.watch_command.specs.Plays.{known_at}
 use Rattle.watch_command.specs.Watches.{IsShown, StandsWatched}
 use Rattle.watch_command.specs.declared.watching.Watched.TheVariants as W
 
@@ -47,7 +46,7 @@ module _ (s : Setting) (polls made : ℕ) (before after : List Item) (w m : Watc
   }
 
   pub agreed : made < polls → Rounds Agreed before after w m →
-      StandsWatched s polls W.Agreed after (known_at W.Agreed m)
+      StandsWatched s polls W.Agreed after m
   agreed less r =
       let p = polls_on before after r.0.more made 0 r.0.grown u.polls r.0.polls in
       record {
@@ -58,11 +57,11 @@ module _ (s : Setting) (polls made : ℕ) (before after : List Item) (w m : Watc
       }
 
   pub deaf : made < polls → Rounds PollFault before after w m →
-      StandsWatched s polls W.PollFault after (known_at W.PollFault m)
+      StandsWatched s polls W.PollFault after m
   deaf less r =
       let p = polls_on before after r.0.more made 0 r.0.grown u.polls r.0.polls in
       record {
-        shown = record { told = r.0.told; setting = r.0.setting ∙ u.setting; whole = refl };
+        shown = record { told = r.0.told; setting = r.0.setting ∙ u.setting; whole = r.0.whole };
         fault = r.1;
         failed = (r.3.0, PollCall, r.3.1, refl);
         few = omega (arith, p);

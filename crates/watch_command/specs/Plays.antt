@@ -12,11 +12,6 @@ use Rattle.watch_command.specs.declared.watching.Watched.{Watched}
 use Rattle.watch_command.specs.declared.watching.Watched.TheVariants as W
 use Rattle.watch_command.specs.Watches.{StandsWatched, watch_answer}
 
--- a logger that came to its end so; where `listen` or `poll` failed, memory was not wanting
-abbrev pub known_at : Watched → WatchState → WatchState
-known_at W.PollFault w = record w { is_out_of_memory = false }
-known_at end w = w
-
 -- where what came is printed, the logger knows all of it
 abbrev pub IsKnown : Watched → WatchState → Type 0
 IsKnown W.Agreed w = w.is_out_of_memory ≡ false

@@ -58,7 +58,7 @@ abbrev pub StandsWatched : Setting → (polls : ℕ) → Watched → List Item �
 StandsWatched s polls W.Agreed items w = IsAgreed s polls items w
 StandsWatched s polls W.Spent items w = IsSpent s polls items w
 StandsWatched s polls W.PollFault items w = IsDeaf s polls items w
-StandsWatched s polls W.NoMemory items w = AreTold (start s) [] items
+StandsWatched s polls W.NoMemory items w = AreTold (start s) [] items × (w.is_out_of_memory ≡ true)
 
 -- ---- what is written
 

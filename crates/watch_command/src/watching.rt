@@ -3,7 +3,6 @@
 ghost use Rattle.std.specs.Prelude.{◌≡◌, ◌≤◌, []};
 ghost use Rattle.live_logger.specs.Going.{polls_of};
 ghost use Rattle.live_logger.specs.States.{IsWatching, new_watch};
-ghost use Rattle.watch_command.specs.Plays.{known_at};
 ghost use Rattle.watch_command.specs.Watches.{StandsWatched};
 
 use live_logger::{Watch, WatchRound};
@@ -28,7 +27,7 @@ fn play_rounds<S: Station>(watch: &mut Watch, station: &mut S, polls: u32) -> Wa
     requires none { polls_of (S.history station.old) ≡ 0 }
     requires granted { 1 ≤ polls }
     ensures { StandsWatched watch.old.view.setting polls result (S.history station.new)
-        (known_at result watch.new) }
+        watch.new }
 {
     let mut made = 0;
     'rounds: while made < polls {
@@ -49,7 +48,7 @@ pub(crate) fn watch_out<S: Station>(watch: &mut Watch, station: &mut S, polls: u
     requires first { S.history station.old ≡ [] }
     requires granted { 1 ≤ polls }
     ensures { StandsWatched watch.old.view.setting polls result (S.history station.new)
-        (known_at result watch.new) }
+        watch.new }
 {
     match watch.begin(station) {
         Did::Done => play_rounds(watch, station, polls),
