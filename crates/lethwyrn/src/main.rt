@@ -1,21 +1,30 @@
 //! The program `lethwyrn`. It makes the real objects of the outside, hands them with its words to
 //! `peer_cli::exit_status`, whose contract says what is then written and with which status it ends,
-//! and ends with that. It reads files, the standard input, its words and random bytes of the machine,
-//! and writes to the standard output; its `peer` also opens sockets at the addresses of its roster
-//! and creates the one file of its log. On the error stream it says that others can read a seed,
-//! where they can, and while keys are made how long that takes.
+//! and ends with that. It reads files, the standard input, its words and random bytes of the
+//! machine, and writes to the standard output. Its `peer`, `watch` and `deposit` also open sockets
+//! at the addresses of their roster, and the first creates the one file of its log.
+//!
+//! For people it says more on the error stream: that others can read a seed, where they can; while
+//! keys are made, how long that takes; before a run, what of an older log will be dropped; and
+//! after it why it ended so. None of that changes what it writes or its status.
 #![tactic(auto)]
 
+mod files;
+mod older;
 mod progress;
+mod reasons;
 mod seeds;
+mod usage;
 
 use file_shelf::FileShelf;
 use machine_files::MachineFiles;
 use mio_host::MioHost;
+use older::tell_of_older;
 use peer_cli::exit_status;
 use progress::{makes_keys, tell_while};
 use rand_chacha::ChaCha20Rng;
 use rand_core::SeedableRng;
+use reasons::{has_log, tell_reason};
 use run_frame::{Status, refuse};
 use seeds::warn_of_open_seed;
 use station::{StdSink, StdSource, words_of};
@@ -53,6 +62,8 @@ fn obey<W: io::Write>(
         return Ok(REFUSED);
     };
     warn_of_open_seed(rt, words);
+    tell_of_older(rt, words);
+    let was_there = has_log(rt, words);
     let mut input = StdSource::new(rt.reader());
     let mut shelf = FileShelf::new(rt.alloc(), MachineFiles::new(rt));
     let status = exit_status(
@@ -65,6 +76,7 @@ fn obey<W: io::Write>(
         &mut chance,
     );
     station.finish();
+    tell_reason(rt, words, status, was_there);
     Ok(status)
 }
 
