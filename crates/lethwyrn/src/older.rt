@@ -46,6 +46,16 @@ fn warn(rt: &HostRuntime) {
     let _unsaid = eprintln!(rt; "lethwyrn: if that may be, stop now, and look for a whole log");
 }
 
+/// More bytes than an entry has: a crash in the midst of one leaves fewer of it.
+const MORE_THAN_AN_ENTRY: usize = 96;
+
+/// Whether a crash may have left such an end. A length that was changed in the midst of a log reads
+/// as torn too, but more bytes stand after it.
+fn is_torn_end(len: usize, fault: LogFault) -> bool {
+    let rest = len.saturating_sub(fault.at as usize);
+    matches!(fault.why, LogWhy::Torn) && rest < MORE_THAN_AN_ENTRY
+}
+
 /// Says what becomes of a log that is used up to this fault.
 fn tell_fault(rt: &HostRuntime, path: &str, len: usize, fault: LogFault) {
     let at = fault.at;
@@ -55,7 +65,7 @@ fn tell_fault(rt: &HostRuntime, path: &str, len: usize, fault: LogFault) {
         );
         return warn(rt);
     }
-    if matches!(fault.why, LogWhy::Torn) {
+    if is_torn_end(len, fault) {
         let _unsaid = eprintln!(rt;
             "lethwyrn: {path} has a torn end, as after a crash: its bytes from {at} on are dropped"
         );

@@ -114,7 +114,9 @@ fn tell_unheard(rt: &HostRuntime, words: &[Vec<u8>]) {
         }
     }
     if let Some(log) = log_in(words) {
-        let _unsaid = eprintln!(rt; "lethwyrn: {log} was begun: name another file next time");
+        let _unsaid = eprintln!(rt;
+            "lethwyrn: {log} was begun: name another file, and this one as OLD if it has bytes"
+        );
     }
 }
 
