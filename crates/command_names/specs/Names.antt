@@ -8,7 +8,7 @@ use Rattle.command_names.specs.declared.names.Name.TheVariants as N
 
 -- all the names, in the order in which clap has their commands
 abbrev pub all_names : List Name
-all_names = N.Accuse ∷ N.Audit ∷ N.Deposit ∷ N.Drive ∷ N.Judge ∷ N.Make ∷ N.Peer ∷ N.Root ∷ N.Schedule ∷ N.Seal ∷ N.Upgrade ∷ N.Watch ∷ []
+all_names = N.Accuse ∷ N.Audit ∷ N.Deposit ∷ N.Drive ∷ N.Judge ∷ N.Make ∷ N.Peer ∷ N.Post ∷ N.Root ∷ N.Schedule ∷ N.Seal ∷ N.Upgrade ∷ N.Watch ∷ []
 
 -- how a name is written, and how many words stand after it at least and at most
 pub record Form : Type 0 where
@@ -32,6 +32,7 @@ form_of N.Drive = written (codes "drive") 2 3
 form_of N.Judge = written (codes "judge") 2 3
 form_of N.Make = written (codes "make") 1 1
 form_of N.Peer = written (codes "peer") 6 7
+form_of N.Post = written (codes "post") 6 6
 form_of N.Root = written (codes "root") 3 3
 form_of N.Schedule = written (codes "schedule") 1 1
 form_of N.Seal = written (codes "seal") 4 4

@@ -22,6 +22,8 @@ pub enum Name {
     Make,
     /// A match is played over sockets.
     Peer,
+    /// A match is played over datagrams.
+    Post,
     /// The root of a player's keys is told.
     Root,
     /// The honest peers of a match are stepped by the input.
@@ -43,6 +45,7 @@ pub const ALL: &[Name] = &[
     Name::Judge,
     Name::Make,
     Name::Peer,
+    Name::Post,
     Name::Root,
     Name::Schedule,
     Name::Seal,
@@ -83,6 +86,7 @@ impl Name {
             Name::Judge => Form::new("judge", 2, 3),
             Name::Make => Form::new("make", 1, 1),
             Name::Peer => Form::new("peer", 6, 7),
+            Name::Post => Form::new("post", 6, 6),
             Name::Root => Form::new("root", 3, 3),
             Name::Schedule => Form::new("schedule", 1, 1),
             Name::Seal => Form::new("seal", 4, 4),

@@ -3,14 +3,14 @@ use Rattle.std.proofs.Common.{◌≡◌, ℕ, Bool, true, false, refl, sym, ap, 
 use Rattle.std.proofs.lemmas.Bool.{and_from}
 use Rattle.definitions.specs.declared.logs.Entry.{Entry}
 use Rattle.datagram_post.specs.Items.{did_by, Item, BindCall, LogCall, Bound, LogBegun, Failed, log_item, bind_item}
-use Rattle.loop_rules.specs.Settings.{told_addr}
-use Rattle.loop_rules.specs.Rules.{is_fresh, is_logged}
-use Rattle.loop_rules.specs.declared.phases.Phase.{Phase}
-use Rattle.loop_rules.specs.declared.phases.Phase.TheVariants.{Fresh, Logged, Running, KeepFault, PollFault}
+use Rattle.peer_rules.specs.Addresses.{told_addr}
+use Rattle.peer_rules.specs.Phases.{is_fresh, is_logged}
+use Rattle.peer_rules.specs.declared.phases.Phase.{Phase}
+use Rattle.peer_rules.specs.declared.phases.Phase.TheVariants.{Fresh, Logged, Running, KeepFault, PollFault}
 use Rattle.post_rules.specs.Views.{new_settling, start}
 use Rattle.post_rules.specs.Histories.{Follows, BeginsLog}
 use Rattle.post_rules.proofs.Told.{follows_one, follows_then, follows_from}
-use Rattle.datagram_loop.specs.declared.beginning.Begun.TheVariants as B
+use Rattle.loop_ends.specs.declared.ends.Begun.TheVariants as B
 use Rattle.datagram_loop.specs.States.{LoopState, setting_of, view_of, in_phase, IsReady}
 use Rattle.datagram_loop.specs.Beginning.{IsNew, logged_on, bound_on, Begins}
 use Rattle.datagram_loop.proofs.Views.{same_addr}

@@ -18,11 +18,12 @@ use Rattle.rosters.specs.declared.roster.Link.{Link}
 use Rattle.session_log.specs.Writing.{Writing, fresh}
 use Rattle.session_log.specs.Writing as W
 use Rattle.letters.specs.declared.letter.Letter.{Letter}
-use Rattle.loop_rules.specs.declared.phases.Phase.{Phase}
-use Rattle.loop_rules.specs.declared.phases.Phase.TheVariants.{Fresh, KeepFault}
+use Rattle.peer_rules.specs.declared.phases.Phase.{Phase}
+use Rattle.peer_rules.specs.declared.phases.Phase.TheVariants.{Fresh, KeepFault}
 use Rattle.post_rules.specs.declared.partners.Partner.{Partner}
 use Rattle.post_rules.specs.Hearing.{tells, told_by}
-use Rattle.post_rules.specs.Views.{new_partners}
+use Rattle.post_rules.specs.declared.drops.Drops.{Drops}
+use Rattle.post_rules.specs.Views.{no_drops, new_partners}
 use Rattle.datagram_loop.specs.States.{LoopState, IsFit, kept_of, in_phase, offered, heard_by}
 use Rattle.datagram_loop.specs.Beginning.{new_loop}
 
@@ -97,6 +98,10 @@ fit_heard l w letter f =
       writer = g.writer;
     }
 
+-- a datagram is dropped
+pub fit_dropped : (l : LoopState) (w : Writing) (d : Drops) → IsFit l w → IsFit (record l { drops = d }) w
+fit_dropped l w d f = record { kept = f.kept; synced = f.synced; partners = f.partners; writer = f.writer }
+
 -- ---- a new loop
 
 below_more : (me q : ℕ) → EachIs (λ x. x < q + 1) (unless_me me q)
@@ -121,7 +126,7 @@ partners_each n [] e = tt
 partners_each n (l ∷ links) e = (e.0, partners_each n links e.1)
 
 pub new_fits : (p : PeerState) (r : Neighbours) (ps : List Partner) (links : List Link) (w : Writing) (game : Game) (me : ℕ) → LinksOthers p.me (players_of p.game) r → links ≡ r.links → ps ≡ new_partners links → game ≡ p.game → me ≡ p.me → w ≡ fresh game.id me →
-    IsFit (record { peer = p; roster = r; partners = ps; kept = 0; synced = 0; phase = Fresh }) w
+    IsFit (record { peer = p; roster = r; partners = ps; kept = 0; synced = 0; phase = Fresh; drops = no_drops }) w
 new_fits p r ps links w game me all same made of_game of_me begun = record {
   kept = omega arith;
   synced = omega arith;
@@ -130,11 +135,11 @@ new_fits p r ps links w game me all same made of_game of_me begun = record {
   writer = λ n. begun ∙ ap (λ (g : Game). fresh g.id me) of_game ∙ ap (fresh p.game.id) of_me;
 }
 
-pub new_is : (p : PeerState) (r : Neighbours) (ps : List Partner) (links : List Link) → links ≡ r.links → ps ≡ new_partners links → record { peer = p; roster = r; partners = ps; kept = 0; synced = 0; phase = Fresh } ≡ new_loop p r
+pub new_is : (p : PeerState) (r : Neighbours) (ps : List Partner) (links : List Link) → links ≡ r.links → ps ≡ new_partners links → record { peer = p; roster = r; partners = ps; kept = 0; synced = 0; phase = Fresh; drops = no_drops } ≡ new_loop p r
 new_is p r ps links same made = ap (λ (x : List Partner). with x) (made ∙ ap new_partners same)
   where
     with : List Partner → LoopState
-    with x = record { peer = p; roster = r; partners = x; kept = 0; synced = 0; phase = Fresh }
+    with x = record { peer = p; roster = r; partners = x; kept = 0; synced = 0; phase = Fresh; drops = no_drops }
 
 pub fit_heard_as : (l : LoopState) (w : Writing) (letter : Letter) (p : PeerState) (ps : List Partner) → p ≡ offered letter.player letter.frame l.peer → ps ≡ told_by letter.player letter.next l.partners → IsFit l w → IsFit (record l { peer = p; partners = ps }) w
 fit_heard_as l w letter p ps e g f =

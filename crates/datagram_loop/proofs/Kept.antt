@@ -12,15 +12,14 @@ use Rattle.definitions.specs.Advance.{next_made}
 use Rattle.session_log.specs.Spelling.{entry_text, chained, FitsEntry}
 use Rattle.session_log.specs.Entries.{entry_of}
 use Rattle.session_log.specs.Writing.{Writing, mark_of, chain_of, written}
-use Rattle.session_log.specs.Writing as W
 use Rattle.session_log.proofs.Found.{length-sha256}
 use Rattle.session_log.proofs.Texts.{entry_read}
 use Rattle.datagram_post.specs.Items.{did_by, Item, KeepCall, SyncCall, Failed, Kept, Synced, keep_item, sync_item}
-use Rattle.loop_rules.specs.declared.arrivals.Arrival.{Arrival}
-use Rattle.loop_rules.specs.declared.phases.Phase.{Phase}
-use Rattle.loop_rules.specs.declared.phases.Phase.TheVariants.{Running, KeepFault}
-use Rattle.loop_rules.specs.Keeping.{entry_in}
-use Rattle.loop_rules.specs.Licence.{is_running}
+use Rattle.peer_rules.specs.declared.arrivals.Arrival.{Arrival}
+use Rattle.peer_rules.specs.declared.phases.Phase.{Phase}
+use Rattle.peer_rules.specs.declared.phases.Phase.TheVariants.{Running, KeepFault}
+use Rattle.peer_rules.specs.Entries.{entry_in}
+use Rattle.peer_rules.specs.Phases.{is_running}
 use Rattle.post_rules.specs.Views.{Settling, View}
 use Rattle.post_rules.specs.Handling.{still_new}
 use Rattle.post_rules.specs.Keeping.{may_log, waiting_after, may_keep_as, spells_next, kept_entry}

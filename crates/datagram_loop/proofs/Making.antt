@@ -7,9 +7,9 @@ use Rattle.definitions.specs.Advance.{next_made}
 use Rattle.peer_core.specs.Views.{PeerState}
 use Rattle.own_moves.specs.declared.making.Moves.{Moves}
 use Rattle.own_moves.specs.Choices.{Chooser, ChoosesBy}
-use Rattle.own_moves.specs.Order.{OwnRun}
+use Rattle.peer_rules.specs.Order.{OwnRun}
 use Rattle.own_moves.specs.Making.{MakesAll, is_refused}
-use Rattle.loop_rules.specs.declared.arrivals.Arrival.{Arrival}
+use Rattle.peer_rules.specs.declared.arrivals.Arrival.{Arrival}
 use Rattle.post_rules.specs.Views.{Settling}
 use Rattle.datagram_loop.specs.States.{LoopState, kept_of, view_of}
 use Rattle.datagram_loop.specs.Pending.{Explained, IsPending}

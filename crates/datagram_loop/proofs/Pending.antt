@@ -19,10 +19,10 @@ use Rattle.definitions.specs.Advance.{next_made}
 use Rattle.definitions.specs.Answers.{is_beyond, is_far, is_same, is_new, is_of_another}
 use Rattle.definition_laws.proofs.Alike.{frame_eq_same}
 use Rattle.definition_laws.proofs.Silent.{findings_made, findings_chose, got_push}
-use Rattle.loop_rules.specs.declared.arrivals.Arrival.{Arrival}
-use Rattle.own_moves.specs.Order.{comes_next, IsOwn, OwnRun}
+use Rattle.peer_rules.specs.declared.arrivals.Arrival.{Arrival}
+use Rattle.peer_rules.specs.Order.{comes_next, IsOwn, OwnRun}
 use Rattle.post_rules.specs.Handling.{is_new_to, still_new}
-use Rattle.loop_rules.specs.Keeping.{is_first}
+use Rattle.peer_rules.specs.Entries.{is_first}
 use Rattle.post_rules.specs.Keeping.{may_log, waiting_after}
 use Rattle.datagram_loop.specs.Pending.{Explained}
 

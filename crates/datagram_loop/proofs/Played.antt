@@ -7,14 +7,14 @@ use Rattle.datagram_post.specs.Items.{did_by, Item, PollCall, Polled, Failed, po
 use Rattle.own_moves.specs.Choices.{Chooser, ChoosesBy}
 use Rattle.own_moves.specs.Making.{IsOwnMove}
 use Rattle.own_moves.proofs.Choices.{chose_none, chose_then}
-use Rattle.loop_rules.specs.declared.phases.Phase.TheVariants.{Running, PollFault}
+use Rattle.peer_rules.specs.declared.phases.Phase.TheVariants.{Running, PollFault}
 use Rattle.post_rules.specs.Views.{Setting, View, settling_after}
 use Rattle.post_rules.specs.Histories.{Follows}
 use Rattle.post_rules.proofs.Told.{follows_still, follows_one, follows_then}
 use Rattle.datagram_loop.specs.declared.settling.Settled.{Settled}
 use Rattle.datagram_loop.specs.declared.settling.Settled.TheVariants as S
-use Rattle.datagram_loop.specs.declared.playing.Ended.{Ended}
-use Rattle.datagram_loop.specs.declared.playing.Ended.TheVariants as E
+use Rattle.loop_ends.specs.declared.ends.Ended.{Ended}
+use Rattle.loop_ends.specs.declared.ends.Ended.TheVariants as E
 use Rattle.datagram_loop.specs.States.{LoopState, setting_of, view_of, in_phase, polled_on, IsReady}
 use Rattle.datagram_loop.specs.Settling.{is_idle, Refuses, StandsSettled, Settles}
 use Rattle.datagram_loop.specs.Playing.{ended_of, StandsEnded, RefusesEnded, Ends}

@@ -25,8 +25,8 @@ use Rattle.datagram_post.specs.declared.answers.Sent.{Sent}
 use Rattle.datagram_post.specs.declared.answers.Sent.TheVariants as S
 use Rattle.datagram_post.specs.Items.{Item, send_item}
 use Rattle.datagram_post.specs.Moved.{Mail}
-use Rattle.loop_rules.specs.Licence.{is_running}
-use Rattle.loop_rules.specs.declared.arrivals.Arrival.{Arrival}
+use Rattle.peer_rules.specs.Phases.{is_running}
+use Rattle.peer_rules.specs.declared.arrivals.Arrival.{Arrival}
 use Rattle.post_rules.specs.declared.limits.TheConstants.{MOST_FRAMES}
 use Rattle.post_rules.specs.declared.partners.Partner.{Partner}
 use Rattle.post_rules.specs.Views.{Settling, View}

@@ -15,7 +15,7 @@ use Rattle.own_moves.specs.declared.making.Moves.{Moves}
 use Rattle.own_moves.specs.declared.making.Moves.TheVariants as M
 use Rattle.own_moves.specs.Choices.{Chooser, ChoosesBy}
 use Rattle.own_moves.specs.Making.{IsOwnMove, is_refused}
-use Rattle.loop_rules.specs.declared.phases.Phase.TheVariants.{Running}
+use Rattle.peer_rules.specs.declared.phases.Phase.TheVariants.{Running}
 use Rattle.post_rules.specs.Views.{Settling, View, settling_after}
 use Rattle.post_rules.specs.Sending.{batch}
 use Rattle.post_rules.specs.Histories.{Follows}

@@ -18,24 +18,26 @@ use Rattle.letters.specs.declared.letter.Letter.{Letter}
 use Rattle.letters.specs.Reading.{letter_in}
 use Rattle.datagram_post.specs.Items.{Item, Took}
 use Rattle.own_moves.specs.declared.making.Moves.{Moves}
-use Rattle.own_moves.specs.declared.making.Moves.TheVariants as M
 use Rattle.own_moves.specs.Choices.{Chooser, ChoosesBy}
 use Rattle.own_moves.specs.Making.{StandsAs, are_legal, is_refused}
 use Rattle.own_moves.proofs.Adding.{legal_is}
 use Rattle.own_moves.proofs.Choices.{chose_none, chose_then}
-use Rattle.loop_rules.specs.Licence.{is_running}
-use Rattle.loop_rules.specs.declared.arrivals.Arrival.{Arrival}
+use Rattle.peer_rules.specs.Phases.{is_running}
+use Rattle.peer_rules.specs.declared.arrivals.Arrival.{Arrival}
 use Rattle.post_rules.specs.declared.limits.TheConstants.{MOST_DATAGRAMS}
 use Rattle.post_rules.specs.declared.partners.Partner.{Partner}
+use Rattle.post_rules.specs.declared.drops.Cause.{Cause}
+use Rattle.post_rules.specs.declared.drops.Cause.TheVariants as C
+use Rattle.post_rules.specs.declared.drops.Drops.{Drops}
 use Rattle.std.proofs.lemmas.List.{length-append}
 use Rattle.post_rules.specs.Views.{Settling, View, settling_after}
-use Rattle.post_rules.specs.Hearing.{is_good, brought_by, heard, heard_if, heard_letter, counted, received}
+use Rattle.post_rules.specs.Hearing.{is_good, cause_of, brought_by, heard, heard_if, heard_letter, counted, received}
 use Rattle.post_rules.specs.Handling.{is_new_to}
 use Rattle.post_rules.specs.After.{after}
 use Rattle.post_rules.specs.Rules.{is_allowed, may_receive}
 use Rattle.post_rules.specs.Histories.{Follows}
 use Rattle.post_rules.proofs.Told.{follows_still, follows_one, follows_then, follows_to}
-use Rattle.datagram_loop.specs.States.{LoopState, kept_of, view_of, offered, heard_by, hears_if, hears, IsReady}
+use Rattle.datagram_loop.specs.States.{LoopState, kept_of, view_of, offered, heard_by, dropped_by, hears_if, hears, IsReady}
 use Rattle.datagram_loop.specs.Pending.{Explained, IsPending}
 use Rattle.datagram_loop.specs.Receiving.{MakesMoves, BringsNone, ReceivesOne, StepsOn, Steps, taking, goes_on, Receives}
 use Rattle.datagram_loop.proofs.Fits.{offered_more}
@@ -93,10 +95,10 @@ offered_pending w l q (Some f) k = go (is_taken_in game me l.peer.entries q f) r
 
 heard_pending : (w : List Arrival) (l : LoopState) (x : Letter) (b : Bool) → IsOpen w l → IsPending (hears_if b x l) (w ++ (if b then brought_by x.player x.frame else []))
 heard_pending w l x true k = offered_pending w l x.player x.frame k
-heard_pending w l x false k = subst (IsPending l) (sym (append-nil w)) k.pending
+heard_pending w l x false k = subst (IsPending (hears_if false x l)) (sym (append-nil w)) k.pending
 
 pub hears_pending : (w : List Arrival) (l : LoopState) (o : Option Letter) → IsOpen w l → IsPending (hears o l) (w ++ brought o l)
-hears_pending w l None k = subst (IsPending l) (sym (append-nil w)) k.pending
+hears_pending w l None k = subst (IsPending (hears None l)) (sym (append-nil w)) k.pending
 hears_pending w l (Some x) k = heard_pending w l x (is_good l.peer.game.id l.partners x) k
 
 offered_view : (w : List Arrival) (settling : Settling) (l : LoopState) (x : Letter) → l.kept ≤ length l.peer.entries → heard x (view_of w settling l) ≡ view_of (w ++ brought_by x.player x.frame) settling (heard_by x l)
@@ -107,10 +109,10 @@ offered_view w settling l x h =
 
 heard_view : (w : List Arrival) (settling : Settling) (l : LoopState) (x : Letter) (b : Bool) → l.kept ≤ length l.peer.entries → heard_if b x (view_of w settling l) ≡ view_of (w ++ (if b then brought_by x.player x.frame else [])) settling (hears_if b x l)
 heard_view w settling l x true h = offered_view w settling l x h
-heard_view w settling l x false h = ap (λ (ws : List Arrival). view_of ws settling l) (sym (append-nil w))
+heard_view w settling l x false h = ap (λ (ws : List Arrival). view_of ws settling (hears_if false x l)) (sym (append-nil w))
 
 hears_view : (w : List Arrival) (settling : Settling) (l : LoopState) (o : Option Letter) → l.kept ≤ length l.peer.entries → heard_letter o (view_of w settling l) ≡ view_of (w ++ brought o l) settling (hears o l)
-hears_view w settling l None h = ap (λ (ws : List Arrival). view_of ws settling l) (sym (append-nil w))
+hears_view w settling l None h = ap (λ (ws : List Arrival). view_of ws settling (hears None l)) (sym (append-nil w))
 hears_view w settling l (Some x) h = heard_view w settling l x (is_good l.peer.game.id l.partners x) h
 
 pub took_view : (w : List Arrival) (settling : Settling) (l : LoopState) (bytes : List ℕ) → l.kept ≤ length l.peer.entries →
@@ -119,7 +121,7 @@ took_view w settling l bytes h = ap (λ (v : View). record v { settling = counte
 
 -- what stays as it was
 pub record Heard (l m : LoopState) : Type 0 where
-  pub same : m ≡ record l { peer = m.peer; partners = m.partners }
+  pub same : m ≡ record l { peer = m.peer; partners = m.partners; drops = m.drops }
   pub more : List Entry
   pub peer : m.peer ≡ record l.peer { entries = l.peer.entries ++ more }
   pub chose : chosen l.peer.me (l.peer.entries ++ more) ≡ chosen l.peer.me l.peer.entries
@@ -132,15 +134,15 @@ offered_chose q (Some f) p = go (is_taken_in p.game p.me p.entries q f)
     go true = (Got q f ∷ [], refl, chosen_push p.me p.entries (Got q f) ∙ append-nil (chosen p.me p.entries))
     go false = ([], ap (λ (es : List Entry). record p { entries = es }) (sym (append-nil p.entries)), ap (chosen p.me) (append-nil p.entries))
 
-heard_none : (l : LoopState) → Heard l l
-heard_none l = record { same = refl; more = []; peer = ap (λ (es : List Entry). record l.peer { entries = es }) (sym (append-nil l.peer.entries)); chose = ap (chosen l.peer.me) (append-nil l.peer.entries) }
+heard_none : (cause : Cause) (l : LoopState) → Heard l (dropped_by cause l)
+heard_none cause l = record { same = refl; more = []; peer = ap (λ (es : List Entry). record l.peer { entries = es }) (sym (append-nil l.peer.entries)); chose = ap (chosen l.peer.me) (append-nil l.peer.entries) }
 
 heard_if_so : (b : Bool) (x : Letter) (l : LoopState) → Heard l (hears_if b x l)
 heard_if_so true x l = (let m = offered_chose x.player x.frame l.peer in record { same = refl; more = m.0; peer = m.1; chose = m.2 })
-heard_if_so false x l = heard_none l
+heard_if_so false x l = heard_none (cause_of l.peer.game.id l.partners x) l
 
 pub hears_so : (o : Option Letter) (l : LoopState) → Heard l (hears o l)
-hears_so None l = heard_none l
+hears_so None l = heard_none C.Spelling l
 hears_so (Some x) l = heard_if_so (is_good l.peer.game.id l.partners x) x l
 
 -- ---- receiving goes on
@@ -150,7 +152,7 @@ pub record Receiving (by to : Chooser) (made : Moves) (taken : ℕ) (before item
   pub waiting : List Arrival
   pub follows : (polls : ℕ) → Follows (view_of [] (settling_after polls) l) (view_of waiting (taking polls taken (taken == MOST_DATAGRAMS)) m) before items
   pub pending : IsPending m waiting
-  pub same : m ≡ record l { peer = m.peer; partners = m.partners }
+  pub same : m ≡ record l { peer = m.peer; partners = m.partners; drops = m.drops }
   pub ready : IsReady l
   pub few : m.kept ≤ length m.peer.entries
   pub game : (m.peer.game ≡ l.peer.game) × (m.peer.me ≡ l.peer.me)
@@ -158,6 +160,12 @@ pub record Receiving (by to : Chooser) (made : Moves) (taken : ℕ) (before item
   pub still : next_made m.peer.game m.peer.me m.peer.entries ≡ None
   pub stands : StandsAs by.plan made m.peer
   pub limit : taken ≤ MOST_DATAGRAMS
+
+-- named by its own fields
+same_of : (l n : LoopState) (partners : List Partner) (drops : Drops) → n ≡ record l { peer = n.peer; partners = partners; drops = drops } → n ≡ record l { peer = n.peer; partners = n.partners; drops = n.drops }
+same_of l n partners drops e =
+    e ∙ ap (λ (ps : List Partner). record l { peer = n.peer; partners = ps; drops = drops }) (sym (ap (λ (x : LoopState). x.partners) e))
+    ∙ ap (λ (d : Drops). record l { peer = n.peer; partners = n.partners; drops = d }) (sym (ap (λ (x : LoopState). x.drops) e))
 
 pub receiving_first : (by to : Chooser) (made : Moves) (items : List Item) (l m : LoopState) → IsReady l → MakesMoves by to made l m → Receiving by to made 0 items items l m
 receiving_first by to made items l m r k =
@@ -167,7 +175,7 @@ receiving_first by to made items l m r k =
       waiting = [];
       follows = λ polls. follows_to (view_of [] (settling_after polls) l) (view_of [] (settling_after polls) l) (view_of [] (taking polls 0 (0 == MOST_DATAGRAMS)) m) items items (follows_still (view_of [] (settling_after polls) l) items) (sym (made_view by to made [] (settling_after polls) l m k h));
       pending = made_pending by to made [] l m k h (subst (λ (es : List Entry). Explained l.peer.game l.peer.me (kept_of l) [] es) (sym (none_rest l r)) refl);
-      same = k.same ∙ ap (λ (ps : List Partner). record l { peer = m.peer; partners = ps }) (sym (ap (λ (x : LoopState). x.partners) k.same));
+      same = same_of l m l.partners l.drops k.same;
       ready = r;
       few = made_few by to made l m k h;
       game = game;
@@ -207,8 +215,8 @@ receiving_on by mid to made next taken before items now l m n k lt on s =
           (receive_may by mid made taken before items l m w polls k lt)
           (took_view w (settling polls) m bytes k.few ∙ sym (made_view mid to next (w ++ brought o m) (taking polls (taken + 1) (taken + 1 == MOST_DATAGRAMS)) (hears o m) n made_so few)));
       pending = made_pending mid to next (w ++ brought o m) (hears o m) n made_so few (hears_pending w m o (record { few = k.few; pending = k.pending; made = k.still; chosen = subst (λ (x : Moves). StandsAs by.plan x m.peer) (legal_is made on) k.stands }));
-      same = made_so.same ∙ ap (λ (x : LoopState). record x { peer = n.peer }) (h.same ∙ ap (λ (x : LoopState). record x { peer = (hears o m).peer; partners = (hears o m).partners }) k.same)
-          ∙ ap (λ (ps : List Partner). record l { peer = n.peer; partners = ps }) (sym (ap (λ (x : LoopState). x.partners) made_so.same));
+      same = same_of l n (hears o m).partners (hears o m).drops
+          (made_so.same ∙ ap (λ (x : LoopState). record x { peer = n.peer }) (h.same ∙ ap (λ (x : LoopState). record x { peer = (hears o m).peer; partners = (hears o m).partners; drops = (hears o m).drops }) k.same));
       ready = k.ready;
       few = made_few mid to next (hears o m) n made_so few;
       game = (game.0 ∙ ap (λ (p : PeerState). p.game) h.peer ∙ k.game.0, game.1 ∙ ap (λ (p : PeerState). p.me) h.peer ∙ k.game.1);

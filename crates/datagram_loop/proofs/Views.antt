@@ -13,8 +13,8 @@ use Rattle.socket_station.specs.declared.answers.Addr.{Addr}
 use Rattle.peer_core.specs.Views.{PeerState}
 use Rattle.session_log.specs.Writing.{Writing, fresh}
 use Rattle.session_log.specs.Writing as W
-use Rattle.loop_rules.specs.Settings.{addr_eq}
-use Rattle.loop_rules.specs.declared.arrivals.Arrival.{Arrival}
+use Rattle.peer_rules.specs.Addresses.{addr_eq}
+use Rattle.peer_rules.specs.declared.arrivals.Arrival.{Arrival}
 use Rattle.post_rules.specs.Views.{Settling, View}
 use Rattle.datagram_loop.specs.States.{LoopState, kept_of, writer_of, view_of}
 use Rattle.datagram_loop.proofs.Fits.{take_next}

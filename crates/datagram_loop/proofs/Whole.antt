@@ -6,12 +6,12 @@ use Rattle.pilots.specs.Plans.{Plan}
 use Rattle.datagram_post.specs.Items.{Item}
 use Rattle.own_moves.specs.Choices.{ChoosesBy}
 use Rattle.own_moves.proofs.Choices.{chose_none, chose_then}
-use Rattle.loop_rules.specs.declared.phases.Phase.TheVariants.{KeepFault}
+use Rattle.peer_rules.specs.declared.phases.Phase.TheVariants.{KeepFault}
 use Rattle.post_rules.specs.Views.{Setting, View}
 use Rattle.post_rules.specs.Histories.{BeginsLog}
 use Rattle.post_rules.proofs.Whole.{runs_are_fair}
-use Rattle.datagram_loop.specs.declared.playing.Ended.{Ended}
-use Rattle.datagram_loop.specs.declared.playing.Ended.TheVariants as E
+use Rattle.loop_ends.specs.declared.ends.Ended.{Ended}
+use Rattle.loop_ends.specs.declared.ends.Ended.TheVariants as E
 use Rattle.datagram_loop.specs.States.{LoopState, setting_of, kept_of, view_of}
 use Rattle.datagram_loop.specs.Playing.{StandsEnded}
 use Rattle.datagram_loop.specs.Laws.{BeginningsAreRuns, PlaysGoOn}

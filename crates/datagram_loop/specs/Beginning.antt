@@ -3,16 +3,16 @@ use Rattle.std.specs.Prelude.{◌≡◌, ℕ, Bool, true, false, List, []}
 use Rattle.rosters.specs.Rosters.{Neighbours}
 use Rattle.datagram_post.specs.Items.{Item}
 use Rattle.peer_core.specs.Views.{PeerState}
-use Rattle.loop_rules.specs.declared.phases.Phase.TheVariants.{Fresh, Logged, Running, KeepFault, PollFault}
-use Rattle.post_rules.specs.Views.{new_partners, new_settling, start}
+use Rattle.peer_rules.specs.declared.phases.Phase.TheVariants.{Fresh, Logged, Running, KeepFault, PollFault}
+use Rattle.post_rules.specs.Views.{no_drops, new_partners, new_settling, start}
 use Rattle.post_rules.specs.Histories.{Follows, BeginsLog}
-use Rattle.datagram_loop.specs.declared.beginning.Begun.{Begun}
-use Rattle.datagram_loop.specs.declared.beginning.Begun.TheVariants as B
+use Rattle.loop_ends.specs.declared.ends.Begun.{Begun}
+use Rattle.loop_ends.specs.declared.ends.Begun.TheVariants as B
 use Rattle.datagram_loop.specs.States.{LoopState, setting_of, view_of, in_phase, IsReady}
 
 -- before the first call
 abbrev pub new_loop : PeerState → Neighbours → LoopState
-new_loop p r = record { peer = p; roster = r; partners = new_partners r.links; kept = 0; synced = 0; phase = Fresh }
+new_loop p r = record { peer = p; roster = r; partners = new_partners r.links; kept = 0; synced = 0; phase = Fresh; drops = no_drops }
 
 -- nothing was called yet, and the peer has no entries
 pub record IsNew (l : LoopState) : Type 0 where

@@ -1,8 +1,8 @@
 -- Keeping: what stands after the calls that keep and sync.
 use Rattle.std.specs.Prelude.{◌≡◌, Bool, true, false, List, [], length}
 use Rattle.datagram_post.specs.Items.{Item}
-use Rattle.loop_rules.specs.declared.arrivals.Arrival.{Arrival}
-use Rattle.loop_rules.specs.declared.phases.Phase.TheVariants.{Running, KeepFault}
+use Rattle.peer_rules.specs.declared.arrivals.Arrival.{Arrival}
+use Rattle.peer_rules.specs.declared.phases.Phase.TheVariants.{Running, KeepFault}
 use Rattle.post_rules.specs.Views.{Settling}
 use Rattle.post_rules.specs.Handling.{still_new}
 use Rattle.post_rules.specs.Histories.{Follows}

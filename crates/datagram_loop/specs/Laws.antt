@@ -2,14 +2,14 @@
 use Rattle.std.specs.Prelude.{◌≡◌, ◌≤◌, ℕ, Bool, false, List, [], ◌∷◌, ◌++◌}
 use Rattle.datagram_post.specs.Items.{Item}
 use Rattle.own_moves.specs.Choices.{Chooser, ChoosesBy}
-use Rattle.loop_rules.specs.declared.arrivals.Arrival.{Arrival}
-use Rattle.loop_rules.specs.declared.phases.Phase.TheVariants.{KeepFault}
+use Rattle.peer_rules.specs.declared.arrivals.Arrival.{Arrival}
+use Rattle.peer_rules.specs.declared.phases.Phase.TheVariants.{KeepFault}
 use Rattle.post_rules.specs.Views.{Setting, Settling}
 use Rattle.post_rules.specs.Histories.{BeginsLog}
 use Rattle.post_rules.specs.Laws.{joined, view_at, IsRun}
 use Rattle.post_rules.specs.Runs.{IsFairRun}
-use Rattle.datagram_loop.specs.declared.beginning.Begun.{Begun}
-use Rattle.datagram_loop.specs.declared.playing.Ended.{Ended}
+use Rattle.loop_ends.specs.declared.ends.Begun.{Begun}
+use Rattle.loop_ends.specs.declared.ends.Ended.{Ended}
 use Rattle.datagram_loop.specs.States.{LoopState, setting_of, kept_of, view_of}
 use Rattle.datagram_loop.specs.Beginning.{IsNew, Begins}
 use Rattle.datagram_loop.specs.Playing.{RefusesEnded, Ends}

@@ -2,7 +2,7 @@
 use Rattle.std.specs.Prelude.{◌≡◌, ℕ, true, List, [], ◌∷◌, ◌++◌, drop}
 use Rattle.definitions.specs.World.{Game}
 use Rattle.definitions.specs.declared.logs.Entry.{Entry}
-use Rattle.loop_rules.specs.declared.arrivals.Arrival.{Arrival}
+use Rattle.peer_rules.specs.declared.arrivals.Arrival.{Arrival}
 use Rattle.post_rules.specs.Handling.{still_new}
 use Rattle.post_rules.specs.Keeping.{may_log, waiting_after}
 use Rattle.datagram_loop.specs.States.{LoopState, kept_of}

@@ -3,15 +3,15 @@ use Rattle.std.specs.Prelude.{◌≡◌, ◌≤◌, ℕ, Bool, true, List, [], O
 use Rattle.pilots.specs.Plans.{Plan}
 use Rattle.datagram_post.specs.Items.{Item}
 use Rattle.own_moves.specs.Choices.{Chooser, ChoosesBy}
-use Rattle.loop_rules.specs.declared.arrivals.Arrival.{Arrival}
-use Rattle.loop_rules.specs.declared.phases.Phase.TheVariants.{PollFault}
+use Rattle.peer_rules.specs.declared.arrivals.Arrival.{Arrival}
+use Rattle.peer_rules.specs.declared.phases.Phase.TheVariants.{PollFault}
 use Rattle.post_rules.specs.Views.{Settling, View, new_settling}
 use Rattle.post_rules.specs.Licence.{is_licensed}
 use Rattle.post_rules.specs.Histories.{Follows}
 use Rattle.datagram_loop.specs.declared.settling.Settled.{Settled}
 use Rattle.datagram_loop.specs.declared.settling.Settled.TheVariants as S
-use Rattle.datagram_loop.specs.declared.playing.Ended.{Ended}
-use Rattle.datagram_loop.specs.declared.playing.Ended.TheVariants as E
+use Rattle.loop_ends.specs.declared.ends.Ended.{Ended}
+use Rattle.loop_ends.specs.declared.ends.Ended.TheVariants as E
 use Rattle.datagram_loop.specs.States.{LoopState, setting_of, view_of, IsReady}
 use Rattle.datagram_loop.specs.Settling.{StandsSettled, Refuses}
 

@@ -7,7 +7,7 @@ use Rattle.datagram_post.specs.Items.{Item, ReceiveCall, Took, ReceiveNotYet, Fa
 use Rattle.own_moves.specs.declared.making.Moves.{Moves}
 use Rattle.own_moves.specs.Choices.{Chooser, ChoosesBy}
 use Rattle.own_moves.specs.Making.{MakesAll, StandsAs, are_legal, is_refused}
-use Rattle.loop_rules.specs.declared.arrivals.Arrival.{Arrival}
+use Rattle.peer_rules.specs.declared.arrivals.Arrival.{Arrival}
 use Rattle.post_rules.specs.Views.{Settling, settling_after}
 use Rattle.post_rules.specs.Histories.{Follows}
 use Rattle.datagram_loop.specs.States.{LoopState, view_of, hears}
@@ -22,12 +22,12 @@ pub record MakesMoves (by to : Chooser) (made : Moves) (l m : LoopState) : Type 
 abbrev pub BringsNone : Item → Type 0
 BringsNone item = (item ≡ ReceiveNotYet) ⊎ (item ≡ Failed ReceiveCall)
 
--- a datagram came, and is heard; or none came
+-- a datagram came, and is heard or dropped; or none came
 abbrev pub ReceivesOne : (came : Bool) → (before after : List Item) → (l m : LoopState) → Type 0
 ReceivesOne true before after l m = (bytes : List ℕ) × (after ≡ before ++ Took bytes ∷ []) × (m ≡ hears (letter_in bytes) l)
 ReceivesOne false before after l m = (item : Item) × BringsNone item × (after ≡ before ++ item ∷ []) × (m ≡ l)
 
--- a datagram came, is heard, and own entries are added; or none came
+-- a datagram came, is heard or dropped, and own entries are added; or none came
 pub record StepsOn (by to : Chooser) (made : Moves) (before after : List Item) (l m : LoopState) : Type 0 where
   pub mid : LoopState
   pub received : ReceivesOne true before after l mid
@@ -54,7 +54,7 @@ pub record Receives (by to : Chooser) (made : Moves) (before after : List Item) 
   pub is_received : Bool
   pub follows : (polls : ℕ) → Follows (view_of [] (settling_after polls) l) (view_of waiting (taking polls taken is_received) m) before after
   pub pending : IsPending m waiting
-  pub same : m ≡ record l { peer = m.peer; partners = m.partners }
+  pub same : m ≡ record l { peer = m.peer; partners = m.partners; drops = m.drops }
   pub game : (m.peer.game ≡ l.peer.game) × (m.peer.me ≡ l.peer.me)
   pub choices : ChoosesBy l.peer.game l.peer.me by to (is_refused made) l.peer.entries m.peer.entries
   pub still : next_made m.peer.game m.peer.me m.peer.entries ≡ None

@@ -11,8 +11,8 @@ use Rattle.own_moves.specs.declared.making.Moves.{Moves}
 use Rattle.own_moves.specs.declared.making.Moves.TheVariants as M
 use Rattle.own_moves.specs.Choices.{Chooser, ChoosesBy}
 use Rattle.own_moves.specs.Making.{IsOwnMove}
-use Rattle.loop_rules.specs.declared.arrivals.Arrival.{Arrival}
-use Rattle.loop_rules.specs.declared.phases.Phase.TheVariants.{KeepFault}
+use Rattle.peer_rules.specs.declared.arrivals.Arrival.{Arrival}
+use Rattle.peer_rules.specs.declared.phases.Phase.TheVariants.{KeepFault}
 use Rattle.post_rules.specs.Views.{Settling, View, settling_after}
 use Rattle.post_rules.specs.Handling.{still_new}
 use Rattle.post_rules.specs.Sending.{batch}

@@ -5,17 +5,21 @@ use Rattle.definitions.specs.Lists.{EachIs}
 use Rattle.definitions.specs.declared.frames.TurnFrame.{TurnFrame}
 use Rattle.definitions.specs.declared.logs.Entry.{Entry}
 use Rattle.definitions.specs.World.{players_of}
+use Rattle.definitions.specs.Honest.{made_count}
 use Rattle.session_log.specs.Writing.{Writing, fresh, written}
 use Rattle.session_log.specs.Writing as W
 use Rattle.rosters.specs.Rosters.{Neighbours}
 use Rattle.peer_core.specs.Views.{PeerState, with_got}
 use Rattle.letters.specs.declared.letter.Letter.{Letter}
-use Rattle.loop_rules.specs.declared.arrivals.Arrival.{Arrival}
-use Rattle.loop_rules.specs.declared.phases.Phase.{Phase}
-use Rattle.loop_rules.specs.declared.phases.Phase.TheVariants.{Running, KeepFault, PollFault}
+use Rattle.peer_rules.specs.declared.arrivals.Arrival.{Arrival}
+use Rattle.peer_rules.specs.declared.phases.Phase.{Phase}
+use Rattle.peer_rules.specs.declared.phases.Phase.TheVariants.{Running, KeepFault, PollFault}
 use Rattle.post_rules.specs.declared.partners.Partner.{Partner}
+use Rattle.post_rules.specs.declared.drops.Cause.{Cause}
+use Rattle.post_rules.specs.declared.drops.Cause.TheVariants as C
+use Rattle.post_rules.specs.declared.drops.Drops.{Drops}
 use Rattle.post_rules.specs.Views.{Setting, Settling, View}
-use Rattle.post_rules.specs.Hearing.{is_good, told_by}
+use Rattle.post_rules.specs.Hearing.{is_good, cause_of, dropped_for, partner_of, told_by}
 use Rattle.post_rules.specs.Sending.{asked}
 
 -- what a loop knows
@@ -27,6 +31,8 @@ pub record LoopState : Type 0 where
   pub kept : ℕ
   pub synced : ℕ
   pub phase : Phase
+  -- how many datagrams were dropped since the loop was made, by cause
+  pub drops : Drops
 
 -- what the loop was given
 abbrev pub setting_of : LoopState → Setting
@@ -51,6 +57,7 @@ view_of waiting settling l = record {
   partners = l.partners;
   waiting = waiting;
   settling = settling;
+  drops = l.drops;
 }
 
 -- between two polls, before anything is done: the loop runs, and all is kept and synced
@@ -108,16 +115,24 @@ offered q (Some f) p = record p { entries = with_got p.game p.me p.entries q f }
 abbrev pub heard_by : Letter → LoopState → LoopState
 heard_by l s = record s { peer = offered l.player l.frame s.peer; partners = told_by l.player l.next s.partners }
 
--- a letter came that is good or not
+-- a datagram is dropped for this cause, which is counted
+abbrev pub dropped_by : Cause → LoopState → LoopState
+dropped_by cause s = record s { drops = dropped_for cause s.drops }
+
+-- a letter came that is good, or is dropped
 abbrev pub hears_if : (good : Bool) → Letter → LoopState → LoopState
-hears_if good l s = if good then heard_by l s else s
+hears_if good l s = if good then heard_by l s else dropped_by (cause_of s.peer.game.id s.partners l) s
 
 -- a datagram came that spells this letter, or none
 abbrev pub hears : Option Letter → LoopState → LoopState
-hears None s = s
+hears None s = dropped_by C.Spelling s
 hears (Some l) s = hears_if (is_good s.peer.game.id s.partners l) l s
 
 -- the place that the player wants next, among so many own frames
 abbrev pub asked_by : (made : ℕ) → Option Partner → ℕ
 asked_by made None = 0
 asked_by made (Some p) = asked made p
+
+-- how many own frames each player has, as far as it told
+abbrev pub held_by : LoopState → (q : ℕ) → ℕ
+held_by l q = asked_by (made_count l.peer.entries) (partner_of l.partners q)

@@ -2,25 +2,15 @@
 
 ghost use Rattle.std.specs.Prelude.{◌≡◌, ◌++◌, ◌∷◌, []};
 ghost use Rattle.datagram_post.specs.Items.{did_by, log_item, bind_item};
-ghost use Rattle.loop_rules.specs.Settings.{told_addr};
+ghost use Rattle.peer_rules.specs.Addresses.{told_addr};
 ghost use Rattle.datagram_loop.specs.States.{in_phase};
 ghost use Rattle.datagram_loop.specs.Beginning.{IsNew, Begins, logged_on, bound_on};
 
 use crate::looping::PostLoop;
 use datagram_post::Post;
-use loop_rules::Phase;
+use loop_ends::Begun;
+use peer_rules::Phase;
 use socket_station::{Addr, Did};
-
-/// How a beginning ended.
-#[derive(Clone, Copy, Debug, PartialEq, Eq)]
-pub enum Begun {
-    /// The log is begun and the own address bound: the loop may play.
-    Ready,
-    /// `log_to` failed.
-    KeepFault,
-    /// `bind` failed.
-    PollFault,
-}
 
 impl PostLoop {
     /// Begins the log.

@@ -1,15 +1,15 @@
-//! Datagrams that come are heard.
+//! Datagrams that come are heard or dropped.
 
-ghost use Rattle.std.specs.Prelude.{◌≡◌, map};
+ghost use Rattle.std.specs.Prelude.{◌≡◌, map, is_none};
 ghost use Rattle.letters.specs.Reading.{letter_in};
 ghost use Rattle.post_rules.specs.Hearing as H;
-ghost use Rattle.datagram_loop.specs.States.{hears, hears_if, heard_by, offered};
+ghost use Rattle.datagram_loop.specs.States.{hears, hears_if, heard_by, dropped_by, offered};
 
 use crate::looping::PostLoop;
 use definitions::{Place, PlayerId, TurnFrame};
 use letters::{Letter, read_letter};
 use peer_core::Peer;
-use post_rules::Partner;
+use post_rules::{Cause, Drops, Partner};
 
 /// Whether the letter is good: it has the session's id, and the pass wanted of its player, who is
 /// one of these partners.
@@ -22,6 +22,44 @@ fn is_good(partners: &[Partner], id: &[u8; 32], letter: &Letter) -> bool
         }
     }
     false
+}
+
+/// Whether the player is none of these partners.
+fn is_stranger(partners: &[Partner], player: PlayerId) -> bool
+    ensures { result ≡ is_none (H.partner_of partners.now player) }
+{
+    for partner in partners {
+        if partner.link.player == player {
+            return false;
+        }
+    }
+    true
+}
+
+/// Why the letter is dropped, which is not good: its session is judged first, then its player, and
+/// then its pass.
+fn cause_of(partners: &[Partner], id: &[u8; 32], letter: &Letter) -> Cause
+    ensures { result ≡ H.cause_of id.now partners.now letter.now }
+{
+    if letter.id != *id {
+        Cause::Session
+    } else if is_stranger(partners, letter.player) {
+        Cause::Player
+    } else {
+        Cause::Pass
+    }
+}
+
+/// One more datagram was dropped for this cause.
+fn count(drops: &mut Drops, cause: Cause)
+    ensures { drops.new ≡ H.dropped_for cause drops.old }
+{
+    match cause {
+        Cause::Spelling => drops.spelling = drops.spelling.saturating_add(1),
+        Cause::Session => drops.session = drops.session.saturating_add(1),
+        Cause::Player => drops.player = drops.player.saturating_add(1),
+        Cause::Pass => drops.pass = drops.pass.saturating_add(1),
+    }
 }
 
 /// The player told the place that it wants next: the greatest one counts.
@@ -59,6 +97,20 @@ impl PostLoop {
         is_good(self.partners.as_slice(), self.peer.session().id(), letter)
     }
 
+    /// Why the letter is dropped, which is not good.
+    fn cause_of(&self, letter: &Letter) -> Cause
+        ensures { result ≡ H.cause_of self.now.peer.game.id self.now.partners letter.now }
+    {
+        cause_of(self.partners.as_slice(), self.peer.session().id(), letter)
+    }
+
+    /// A datagram is dropped for this cause: that is counted, and nothing else changes.
+    fn drop_for(&mut self, cause: Cause)
+        ensures { self.new ≡ dropped_by cause self.old }
+    {
+        count(&mut self.drops, cause);
+    }
+
     /// A good letter is heard: the place that its player wants is noted, and its frame, if it
     /// brings one, is offered to the peer.
     fn hear(&mut self, letter: &Letter)
@@ -74,6 +126,9 @@ impl PostLoop {
     {
         if self.is_good(letter) {
             self.hear(letter);
+        } else {
+            let cause = self.cause_of(letter);
+            self.drop_for(cause);
         }
     }
 
@@ -81,8 +136,18 @@ impl PostLoop {
     pub(crate) fn take(&mut self, bytes: &[u8])
         ensures { self.new ≡ hears (letter_in bytes.now) self.old }
     {
-        if let Some(letter) = read_letter(bytes) {
-            self.hear_good(&letter);
+        match read_letter(bytes) {
+            Some(letter) => self.hear_good(&letter),
+            None => self.drop_for(Cause::Spelling),
         }
+    }
+
+    /// How many of the datagrams that came were dropped for each cause, from the making of the loop
+    /// through all plays. Each is counted once, by the first cause that holds of it, and one that is
+    /// heard never is. A count that reaches `u64::MAX` stays there.
+    pub fn drops(&self) -> Drops
+        ensures { result ≡ self.now.drops }
+    {
+        self.drops
     }
 }

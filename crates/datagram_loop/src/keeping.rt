@@ -11,7 +11,7 @@ ghost use Rattle.datagram_loop.specs.Keeping.{KeepsNew, KeepsAll};
 use crate::fitting::fits;
 use crate::looping::PostLoop;
 use datagram_post::Post;
-use loop_rules::Phase;
+use peer_rules::Phase;
 use socket_station::Did;
 
 impl PostLoop {

@@ -5,12 +5,14 @@
 //! player its next own frames, each once between two polls; and polls. It promises that what its
 //! post tells of these calls is a history by the rules (`post_rules`), whatever the post answers.
 //! Its own moves are the pilot's and their nonces the generator's, and it stops exactly where a
-//! poll is licensed or a named end has come. It takes memory only when it is made, and touches
-//! nothing but the post, the pilot and the generator that it is given.
+//! poll is licensed or a named end has come. It counts the datagrams that it drops, by cause. It
+//! takes memory only when it is made, and touches nothing but the post, the pilot and the generator
+//! that it is given.
 #![tactic(auto)]
 
 mod beginning;
 mod counts;
+mod ending;
 mod fitting;
 mod hearing;
 mod keeping;
@@ -21,7 +23,6 @@ mod receiving;
 mod sending;
 mod settling;
 
-pub use beginning::Begun;
+pub use loop_ends::{Begun, Ended};
 pub use looping::PostLoop;
-pub use playing::Ended;
 pub use settling::Settled;

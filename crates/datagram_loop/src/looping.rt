@@ -10,9 +10,9 @@ ghost use Rattle.post_rules.specs.Views.{new_partner, new_partners};
 ghost use Rattle.datagram_loop.specs.Beginning.{new_loop};
 
 use definitions::Finding;
-use loop_rules::Phase;
 use peer_core::Peer;
-use post_rules::Partner;
+use peer_rules::Phase;
+use post_rules::{Drops, Partner};
 use rosters::{Link, Roster};
 use session_log::LogWriter;
 use std::alloc::{AllocError, Global};
@@ -29,6 +29,8 @@ pub struct PostLoop {
     pub(crate) synced: usize,
     pub(crate) phase: Phase,
     pub(crate) writer: LogWriter,
+    // how many datagrams were dropped, by cause
+    pub(crate) drops: Drops,
 }
 
 impl Model for PostLoop {
@@ -36,10 +38,18 @@ impl Model for PostLoop {
 
     ghost Value = { LoopState };
 
-    ghost view = { λ l. record { peer = l.peer; roster = l.roster; partners = l.partners.items; kept = l.kept; synced = l.synced; phase = l.phase } };
+    ghost view = { λ l. record { peer = l.peer; roster = l.roster; partners = l.partners.items; kept = l.kept; synced = l.synced; phase = l.phase; drops = l.drops } };
 
-    ghost invariant = { λ l. IsFit (record { peer = l.peer; roster = l.roster; partners = l.partners.items; kept = l.kept; synced = l.synced; phase = l.phase }) l.writer };
+    ghost invariant = { λ l. IsFit (record { peer = l.peer; roster = l.roster; partners = l.partners.items; kept = l.kept; synced = l.synced; phase = l.phase; drops = l.drops }) l.writer };
 }
+
+/// Nothing was dropped.
+const NONE: Drops = Drops {
+    spelling: 0,
+    session: 0,
+    player: 0,
+    pass: 0,
+};
 
 /// The other players, of whom nothing is known.
 fn partners_of(alloc: Global, links: &[Link]) -> Result<Vec<Partner>, AllocError>
@@ -73,6 +83,7 @@ impl PostLoop {
             synced: 0,
             phase: Phase::Fresh,
             writer,
+            drops: NONE,
         })
     }
 

@@ -10,28 +10,11 @@ ghost use Rattle.datagram_loop.specs.Playing.{Ends, ended_of};
 use crate::looping::PostLoop;
 use crate::settling::Settled;
 use datagram_post::Post;
-use definitions::{Finding, MoveFault, Turn};
-use loop_rules::Phase;
+use loop_ends::Ended;
+use peer_rules::Phase;
 use pilots::Pilot;
 use rand_core::Rng;
 use socket_station::Did;
-
-/// How a play ended.
-#[derive(Clone, Copy, Debug, PartialEq, Eq)]
-pub enum Ended {
-    /// All own turns are made, nobody is waited for, and no player wants an own frame.
-    Done,
-    /// The log has a finding: this is its first.
-    Caught(Finding),
-    /// `poll` failed.
-    PollFault,
-    /// `keep` or `sync` failed.
-    KeepFault,
-    /// The pilot's move of this turn, counted from 0, is not legal: this is its first fault.
-    OwnMove(Turn, MoveFault),
-    /// All polls were made, what they brought is handled, and a further one is licensed.
-    GaveUp,
-}
 
 /// How a run ended whose last settling ended so.
 fn ended_of(settled: &Settled) -> Ended

@@ -60,7 +60,7 @@ deposit_law d = record {
   late = false;
   first = true;
   cause = λ contents input status. deposit_cause (source_for d contents) status;
-  good = λ contents input answered. IsGoodDeposit (source_for d contents) answered;
+  good = λ contents input answered. IsGoodDeposit (source_for d contents) answered.station;
   -- all was sent, or all polls were made
   ends = λ status. (status ≡ Done) ⊎ (status ≡ GaveUp);
   meant = λ contents input. IsDeposit;

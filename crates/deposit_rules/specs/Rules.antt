@@ -3,7 +3,7 @@ use Rattle.std.specs.Prelude.{ℕ, Bool, true, false, not, ◌&&◌, ◌||◌, �
 use Rattle.definitions.specs.Lists.{is_empty}
 use Rattle.socket_station.specs.declared.answers.Addr.{Addr}
 use Rattle.socket_station.specs.Items.{Item, Call, ListenCall, LogCall, DialCall, PollCall, ReadCall, WriteCall, KeepCall, SyncCall, Listening, LogBegun, Dialled, Polled, Took, Gave, ReadNotYet, WriteNotYet, Ended, Failed, Shut, Kept, Synced}
-use Rattle.loop_rules.specs.Settings.{addr_eq}
+use Rattle.peer_rules.specs.Addresses.{addr_eq}
 use Rattle.loop_rules.specs.Rules.{is_front}
 use Rattle.deposit_rules.specs.declared.phases.DepositPhase.{DepositPhase}
 use Rattle.deposit_rules.specs.declared.phases.DepositPhase.TheVariants.{Giving, PollFault}

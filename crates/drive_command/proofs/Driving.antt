@@ -89,7 +89,7 @@ module _ (rest : Outside) (i i' : SourceState) (a b : SinkState) (h h' : ShelfSt
     files = record { reads = o.reads; due = o.log_due };
     asked = refl;
     input = record { same = p.drew.same; grows = p.drew.grows };
-    text = λ contents behind m. inl (record { station = refl; chance = refl }, begun_ran _ _ a b s d.player _ r _ (o.due contents m.given) (p.ends behind m.follows) (source_failed i i' a b due [] s p));
+    text = λ contents behind m. inl (record { station = refl; post = refl; chance = refl }, begun_ran _ _ a b s d.player _ r _ (o.due contents m.given) (p.ends behind m.follows) (source_failed i i' a b due [] s p));
     memory = where_no_memory s ((drive_law d).memory ≡ true) refl;
     faults = ended_counts (with_input rest i a h) (with_input rest i' b h') _ s p.drew o.counted (p.ends [] (λ e. refl));
     untouched = record {
@@ -111,7 +111,7 @@ module _ (rest : Outside) (a : SinkState) (h h' : ShelfState) (d : Driving) (s :
     files = record { reads = o.reads; due = o.log_due };
     asked = refl;
     input = record { same = refl; grows = grows_none rest.input.seen };
-    text = λ contents behind m. inl (record { station = refl; chance = refl }, unbegun_ran _ _ a d.player _ _ s (o.due contents m.given) (λ e. (o.counted ∙ ap (λ f. faults_behind f h.faults) (ap is_input_fault e), refl)));
+    text = λ contents behind m. inl (record { station = refl; post = refl; chance = refl }, unbegun_ran _ _ a d.player _ _ s (o.due contents m.given) (λ e. (o.counted ∙ ap (λ f. faults_behind f h.faults) (ap is_input_fault e), refl)));
     memory = where_no_memory s ((drive_law d).memory ≡ true) refl;
     faults = unbegun_counts rest a h h' d.player _ s start.1 o.counted;
     untouched = record { over = λ contents behind m over. refl; no_memory = where_no_memory s ((drive_law d).first ≡ true → rest.input ≡ rest.input) (λ e. refl) };

@@ -14,6 +14,7 @@ fn is_read(name: Name, place: usize) -> bool {
         Name::Drive | Name::Root => matches!(place, 0 | 2),
         Name::Make => false,
         Name::Peer => matches!(place, 0 | 1 | 2 | 6),
+        Name::Post => matches!(place, 0..=2),
         Name::Schedule | Name::Upgrade => place == 0,
         Name::Seal => matches!(place, 0 | 2 | 3),
         Name::Watch => matches!(place, 0 | 1),
@@ -28,7 +29,7 @@ fn is_text(name: Name, place: usize) -> bool {
         Name::Schedule | Name::Upgrade => place == 0,
         Name::Judge => true,
         Name::Make => false,
-        Name::Peer => matches!(place, 0..=2),
+        Name::Peer | Name::Post => matches!(place, 0..=2),
     }
 }
 

@@ -1,13 +1,15 @@
 //! The program `lethwyrn`. It makes the real objects of the outside, hands them with its words to
 //! `peer_cli::exit_status`, whose contract says what is then written and with which status it ends,
 //! and ends with that. It reads files, the standard input, its words and random bytes of the
-//! machine, and writes to the standard output. Its `peer`, `watch` and `deposit` also open sockets
-//! at the addresses of their roster, and the first creates the one file of its log.
+//! machine, and writes to the standard output. Its `peer`, `post`, `watch` and `deposit` also open
+//! sockets at the addresses of their roster, and the first two create the one file of their log.
 //!
 //! For people it says more on the error stream: that others can read a seed, where they can; while
-//! keys are made, how long that takes; before a run, what of an older log will be dropped; and
-//! after it why it ended so. None of that changes what it writes or its status.
+//! keys are made, how long that takes; before a run, what of an older log will be dropped; and after
+//! it why it ended so. None of that changes what it writes or its status.
 #![tactic(auto)]
+
+ghost use Rattle.std.specs.Prelude.{◌≡◌, []};
 
 mod files;
 mod older;
@@ -16,17 +18,20 @@ mod reasons;
 mod seeds;
 mod usage;
 
+use datagram_post::Post;
 use file_shelf::FileShelf;
 use machine_files::MachineFiles;
 use mio_host::MioHost;
 use older::tell_of_older;
 use peer_cli::exit_status;
+use post_mio::MioPost;
 use progress::{makes_keys, tell_while};
 use rand_chacha::ChaCha20Rng;
 use rand_core::SeedableRng;
 use reasons::{has_log, tell_reason};
 use run_frame::{Status, refuse};
 use seeds::warn_of_open_seed;
+use socket_station::Station;
 use station::{StdSink, StdSource, words_of};
 use station_mio::MioStation;
 use std::alloc::AllocError;
@@ -51,15 +56,19 @@ fn tell_no_memory<W: io::Write>(out: &mut StdSink<W>) -> u8 {
     refuse(Status::NoMemory, out).code()
 }
 
-/// Does what the words ask for. Memory is wanting only before anything is done.
-fn obey<W: io::Write>(
+/// Does what the words ask for, over this station and this post.
+fn obey_over<S: Station, D: Post, W: io::Write>(
     rt: &HostRuntime,
     words: &[Vec<u8>],
     out: &mut StdSink<W>,
-) -> Result<u8, AllocError> {
-    let mut station = MioStation::new(MioHost::new(rt, rt.alloc())?, rt.alloc())?;
+    station: &mut S,
+    post: &mut D,
+) -> u8
+    requires first { S.history station.old ≡ [] }
+    requires unposted { D.history post.old ≡ [] }
+{
     let Some(mut chance) = chance_of(rt) else {
-        return Ok(REFUSED);
+        return REFUSED;
     };
     warn_of_open_seed(rt, words);
     tell_of_older(rt, words);
@@ -72,12 +81,37 @@ fn obey<W: io::Write>(
         &mut input,
         out,
         &mut shelf,
-        &mut station,
+        station,
+        post,
         &mut chance,
     );
-    station.finish();
     tell_reason(rt, words, status, was_there);
-    Ok(status)
+    status
+}
+
+/// Does what the words ask for, over this station and a post of the machine.
+fn obey_at<S: Station, W: io::Write>(
+    rt: &HostRuntime,
+    words: &[Vec<u8>],
+    out: &mut StdSink<W>,
+    station: &mut S,
+) -> Result<u8, AllocError>
+    requires { S.history station.old ≡ [] }
+{
+    let mut post = MioPost::new(MioHost::new(rt, rt.alloc())?);
+    Ok(obey_over(rt, words, out, station, &mut post))
+}
+
+/// Does what the words ask for. Memory is wanting only before anything is done.
+fn obey<W: io::Write>(
+    rt: &HostRuntime,
+    words: &[Vec<u8>],
+    out: &mut StdSink<W>,
+) -> Result<u8, AllocError> {
+    let mut station = MioStation::new(MioHost::new(rt, rt.alloc())?, rt.alloc())?;
+    let done = obey_at(rt, words, out, &mut station);
+    station.finish();
+    done
 }
 
 fn main(rt: HostRuntime) -> ExitCode {

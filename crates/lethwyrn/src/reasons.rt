@@ -6,13 +6,13 @@ use crate::usage::{name_in, tell_usage};
 use command_names::Name;
 use machine_host::text_of;
 use std::io::{self, ErrorKind};
-use std::net::{Ipv4Addr, SocketAddr, TcpListener};
+use std::net::{Ipv4Addr, SocketAddr, TcpListener, UdpSocket};
 use std::{fs, str};
 
 /// Of a run that begins a log, the path of that.
 fn log_in(words: &[Vec<u8>]) -> Option<&str> {
     match (name_in(words)?, words) {
-        (Name::Peer, [_, _, _, _, _, _, log, ..]) => text_of(log.as_slice()).ok(),
+        (Name::Peer | Name::Post, [_, _, _, _, _, _, log, ..]) => text_of(log.as_slice()).ok(),
         _ => None,
     }
 }
@@ -103,6 +103,7 @@ fn tell_unheard(rt: &HostRuntime, words: &[Vec<u8>]) {
     };
     let why = match name {
         Name::Peer | Name::Watch => refusal_of(&TcpListener::bind(rt, address)),
+        Name::Post => refusal_of(&UdpSocket::bind(rt, address)),
         _ => None,
     };
     match why {

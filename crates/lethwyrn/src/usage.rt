@@ -12,6 +12,7 @@ fn words_after(name: Name) -> &'static str {
         Name::Judge => "SESSION EVIDENCE [ROOTS]",
         Name::Make => "N",
         Name::Peer => "SESSION ROSTER MOVES PLAYER POLLS LOG [OLD]",
+        Name::Post => "SESSION ROSTER MOVES PLAYER POLLS LOG",
         Name::Root => "SESSION PLAYER SEED",
         Name::Schedule => "SESSION",
         Name::Seal => "SESSION PLAYER SEED LOG",

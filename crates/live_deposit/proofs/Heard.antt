@@ -14,7 +14,7 @@ use Rattle.socket_station.specs.Items.{Item, Dialled, Shut, Failed, DialCall, re
 use Rattle.socket_station.specs.Standings.{OpensNew, standing_in}
 use Rattle.socket_station.specs.Withins.{TakesWithin}
 use Rattle.socket_station.proofs.Histories.{standing-more}
-use Rattle.loop_rules.specs.Settings.{addr_eq}
+use Rattle.peer_rules.specs.Addresses.{addr_eq}
 use Rattle.deposit_rules.specs.declared.phases.DepositPhase.TheVariants.{Giving}
 use Rattle.deposit_rules.specs.declared.line.DepositLine.{DepositLine}
 use Rattle.deposit_rules.specs.Lines.{asks_shut, closed, new_line, quieted, room_of, took}

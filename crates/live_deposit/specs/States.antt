@@ -2,7 +2,7 @@
 use Rattle.std.specs.Prelude.{ℕ, List}
 use Rattle.definitions.specs.World.{Game}
 use Rattle.rosters.specs.declared.logger.Logger.{Logger}
-use Rattle.loop_rules.specs.Settings.{told_addr}
+use Rattle.peer_rules.specs.Addresses.{told_addr}
 use Rattle.deposit_rules.specs.Views.{Setting}
 
 -- the session's id, the player, and the logger

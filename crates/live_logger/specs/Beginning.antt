@@ -3,7 +3,7 @@ use Rattle.std.specs.Prelude.{◌≡◌, false, List, [], ◌∷◌, ◌++◌}
 use Rattle.socket_station.specs.declared.answers.Did.{Did}
 use Rattle.socket_station.specs.declared.answers.Did.TheVariants.{Done, Failed}
 use Rattle.socket_station.specs.Items.{Item, listen_item}
-use Rattle.loop_rules.specs.Settings.{told_addr}
+use Rattle.peer_rules.specs.Addresses.{told_addr}
 use Rattle.watch_rules.specs.declared.phases.WatchPhase.TheVariants.{PollFault}
 use Rattle.watch_rules.specs.Told.{IsTold}
 use Rattle.live_logger.specs.States.{WatchState, IsWatching, new_watch}

@@ -9,10 +9,11 @@ ghost use Rattle.log_streams.specs.Streams.{Stream, count_at, entries_of, lists_
 
 use crate::pages::{Page, take};
 use agreed_turns::AgreedTurns;
-use auditor::{Auditor, Exhibit, Report};
-use definitions::{Finding, PlayerId};
+use auditor::{Auditor, BATCH, Exhibit, Report};
+use definitions::{Entry, Finding, PlayerId};
 use grid_world::Session;
 use record::Record;
+use session_log::NO_ENTRY;
 use std::alloc::{AllocError, Global};
 use std::marker::Model;
 
@@ -24,6 +25,8 @@ pub struct Books {
     // the turns on which the logs agree, as far as they came
     pub(crate) agreed: AgreedTurns,
     pub(crate) pages: Vec<Page>,
+    // where the entries of a piece stand until they are taken: made once, since a piece may be a byte
+    room: [Entry; BATCH],
     // what came of whom, piece by piece, which only proofs read
     took: Record,
     // whether the auditor had no memory for what came
@@ -66,6 +69,7 @@ impl Books {
             auditor,
             agreed,
             pages,
+            room: [NO_ENTRY; BATCH],
             took: Record::new(),
             is_out_of_memory: false,
         })
@@ -144,6 +148,7 @@ impl Books {
             &mut self.pages[usize::from(player)],
             player,
             bytes,
+            &mut self.room,
         );
         self.is_out_of_memory = taken.is_err();
         taken

@@ -11,11 +11,11 @@ ghost use Rattle.log_books.specs.Heeding as H;
 ghost use Rattle.log_books.specs.Pages as P;
 
 use agreed_turns::AgreedTurns;
-use auditor::{Auditor, BATCH, MOST_LOGS};
+use auditor::{Auditor, MOST_LOGS};
 use definitions::limits::LONGEST_LOG;
 use definitions::{Entry, PlayerId};
 use grid_world::Session;
-use session_log::{LogFault, LogFeed, NO_ENTRY};
+use session_log::{LogFault, LogFeed};
 use std::alloc::AllocError;
 
 /// How far a player's log came, whichever sockets brought it.
@@ -124,17 +124,19 @@ fn take_on(
 }
 
 /// Feeds the bytes of the player's log that come next. The auditor takes the entries that end in
-/// them, and the agreed turns heed them.
+/// them, and the agreed turns heed them, as many at a time as the room has places for.
 fn take_bytes(
     auditor: &mut Auditor,
     agreed: &mut AgreedTurns,
     player: PlayerId,
     feed: &mut LogFeed,
     bytes: &[u8],
+    room: &mut [Entry],
 ) -> Result<(), AllocError>
     requires log { player < MOST_LOGS }
     requires player { player < players_of agreed.old.game }
     requires game { agreed.old.game ≡ auditor.old.session }
+    requires places { 0 < length room.old }
     requires few { feed.old.used + length bytes.now ≤ LONGEST_LOG }
     requires feeding { IsFeeding auditor.old player feed.old }
     ensures all { OnOk result ((f : LogFeeding) → IsFeedOf feed.old f → H.ComesAll auditor.old.session auditor.old auditor.new agreed.old agreed.new player feed.old feed.new bytes.now f) }
@@ -145,27 +147,28 @@ fn take_bytes(
     ensures owner { owner_in auditor.new player ≡ feed.new.owner }
     ensures others { LeavesOthers auditor.old auditor.new player }
 {
-    let mut room = [NO_ENTRY; BATCH];
     let mut at = 0;
-    'batches: while let Some(next) = take_on(auditor, agreed, player, feed, bytes, at, &mut room)? {
+    'batches: while let Some(next) = take_on(auditor, agreed, player, feed, bytes, at, room)? {
         at = next;
     }
     Ok(())
 }
 
 /// Bytes came of the player's log, one at least, and no more than may still be taken. They are fed
-/// to its page, the auditor takes the entries that end in them, and the agreed turns heed them. An
-/// error comes where the auditor has no memory.
+/// to its page, the auditor takes the entries that end in them, and the agreed turns heed them. The
+/// room is where these entries stand until then. An error comes where the auditor has no memory.
 pub fn take(
     auditor: &mut Auditor,
     agreed: &mut AgreedTurns,
     page: &mut Page,
     player: PlayerId,
     bytes: &[u8],
+    room: &mut [Entry],
 ) -> Result<(), AllocError>
     requires log { player < MOST_LOGS }
     requires player { player < players_of agreed.old.game }
     requires game { agreed.old.game ≡ auditor.old.session }
+    requires places { 0 < length room.old }
     requires some { 0 < length bytes.now }
     requires room { page.old.count + length bytes.now ≤ LONGEST_LOG }
     requires used { page.old.feed.used ≤ page.old.count }
@@ -178,7 +181,7 @@ pub fn take(
         page.is_closed = true;
         return Ok(());
     }
-    take_bytes(auditor, agreed, player, &mut page.feed, bytes)?;
+    take_bytes(auditor, agreed, player, &mut page.feed, bytes, room)?;
     page.count += bytes.len() as u32;
     page.is_closed = page.feed.fault().is_some();
     Ok(())

@@ -34,7 +34,8 @@ use Rattle.loop_rules.specs.Tables.{Table, line_of, seat_of, seat_by, at_line, a
 use Rattle.loop_rules.specs.Views.{View, start, safe_frames}
 use Rattle.loop_rules.specs.Hearing.{Hearer, names, named, heard_first, obeyed, arrived, heard_named, heard_by, heard_on, heard, heard_all, counted, read_on, took_on, took_with}
 use Rattle.loop_rules.specs.Handling.{hearer_of, sorted}
-use Rattle.loop_rules.specs.Keeping.{entry_in, with_entry, kept_entry}
+use Rattle.loop_rules.specs.Keeping.{with_entry, kept_entry}
+use Rattle.peer_rules.specs.Entries.{entry_in}
 use Rattle.loop_rules.specs.After.{after, gave_by, gave_on, gave_with, listed, own_at, rested, view_of, with_table}
 use Rattle.loop_rules.specs.Rules.{due_at, are_due, is_allowed, is_front, may_write_line}
 use Rattle.loop_rules.specs.Histories.{IsHistory}

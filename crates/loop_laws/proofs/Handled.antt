@@ -17,21 +17,23 @@ use Rattle.session_log.specs.Spelling.{log_bytes}
 use Rattle.socket_station.specs.Items.{Item, ListenCall, LogCall, DialCall, PollCall, ReadCall, WriteCall, KeepCall, SyncCall, Listening, LogBegun, Dialled, Polled, Took, Gave, ReadNotYet, WriteNotYet, Ended, Failed, Shut, Kept, Synced}
 use Rattle.socket_lines.specs.declared.line.Line.{Line}
 use Rattle.socket_lines.specs.Giving.{Desk, Speaker}
-use Rattle.loop_rules.specs.declared.arrivals.Arrival.{Arrival}
-use Rattle.loop_rules.specs.declared.phases.Phase.{Phase}
-use Rattle.loop_rules.specs.declared.phases.Phase.TheVariants.{Fresh, Logged, Running, KeepFault, PollFault}
+use Rattle.peer_rules.specs.declared.arrivals.Arrival.{Arrival}
+use Rattle.peer_rules.specs.declared.phases.Phase.{Phase}
+use Rattle.peer_rules.specs.declared.phases.Phase.TheVariants.{Fresh, Logged, Running, KeepFault, PollFault}
 use Rattle.loop_rules.specs.Settings.{Setting, speaker_of}
 use Rattle.loop_rules.specs.Tables.{Table, line_of, desk_of, room_on}
 use Rattle.loop_rules.specs.Views.{View, start, safe_frames}
 use Rattle.loop_rules.specs.Hearing.{took_on, took_with}
 use Rattle.loop_rules.specs.Handling.{hearer_of, sorted, sorted_out}
-use Rattle.loop_rules.specs.Keeping.{entry_in, is_first, may_keep_in, may_keep_as, waiting_behind, with_entry, kept_entry}
+use Rattle.loop_rules.specs.Keeping.{may_keep_in, may_keep_as, waiting_behind, with_entry, kept_entry}
+use Rattle.peer_rules.specs.Entries.{entry_in, is_first}
 use Rattle.loop_rules.specs.After.{after, view_after, view_of, with_table, gave_by, gave_with, own_at}
-use Rattle.loop_rules.specs.Licence.{is_running, is_licensed}
-use Rattle.loop_rules.specs.Rules.{is_allowed, is_fresh, may_read_line}
+use Rattle.loop_rules.specs.Licence.{is_licensed}
+use Rattle.peer_rules.specs.Phases.{is_running, is_fresh}
+use Rattle.loop_rules.specs.Rules.{is_allowed, may_read_line}
 use Rattle.loop_rules.specs.Histories.{IsHistory, are_allowed}
 use Rattle.loop_rules.proofs.Prefixes.{before, behind}
-use Rattle.loop_rules.proofs.Fair.{same_entry}
+use Rattle.peer_rules.proofs.Entries.{same_entry}
 use Rattle.loop_rules.proofs.Kept.{keeps_sorted, keeps_took, kept_bytes_are_the_log}
 use Rattle.loop_laws.specs.Sockets.{SocketsAreNew, came_on}
 use Rattle.loop_laws.specs.Handling.{GoesOn, Handles, from_new, turns_of}

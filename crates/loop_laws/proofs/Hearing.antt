@@ -20,7 +20,7 @@ use Rattle.socket_lines.specs.Lines.{is_player, doomed, moved_to, named_line}
 use Rattle.loop_rules.specs.Settings.{Setting}
 use Rattle.loop_rules.specs.Tables.{Table, line_of, seat_of, in_seats, at_line, at_seat}
 use Rattle.loop_rules.specs.Hearing.{Hearer, ousted, lets_seat_name, names, with_name_free, named, heard_first, obeyed, arrived, heard_named, heard_by, heard_on, heard, heard_all}
-use Rattle.loop_rules.specs.Laws.{IsWanted}
+use Rattle.peer_rules.specs.Passes.{IsWanted}
 use Rattle.loop_laws.specs.Speaking.{IsAsked}
 use Rattle.loop_laws.proofs.Finds.{line_in, IfLine, on_line, line_mapped, ousted_keeps, if_own, if_other, if_either, if_ousted}
 use Rattle.loop_laws.proofs.Frames.{asked_last}

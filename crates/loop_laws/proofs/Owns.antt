@@ -10,7 +10,8 @@ use Rattle.definitions.specs.Logs.{made, made_in}
 use Rattle.session_log.specs.Spelling.{log_bytes}
 use Rattle.socket_station.specs.Items.{Item, ListenCall, LogCall, DialCall, PollCall, ReadCall, WriteCall, KeepCall, SyncCall, Listening, LogBegun, Dialled, Polled, Took, Gave, ReadNotYet, WriteNotYet, Ended, Failed, Shut, Kept, Synced}
 use Rattle.socket_station.specs.Moved.{Log, log_after, log_in, kept_in}
-use Rattle.loop_rules.specs.Keeping.{entry_in, with_entry, kept_entry}
+use Rattle.loop_rules.specs.Keeping.{with_entry, kept_entry}
+use Rattle.peer_rules.specs.Entries.{entry_in}
 use Rattle.loop_rules.specs.Views.{View, safe_frames}
 use Rattle.loop_rules.specs.After.{after}
 use Rattle.loop_rules.proofs.Kept.{keeps_sorted, keeps_took}

@@ -21,7 +21,8 @@ use Rattle.loop_rules.specs.Tables.{Table, line_of, at_line, desk_with, in_lines
 use Rattle.loop_rules.specs.Views.{View, start, safe_frames}
 use Rattle.loop_rules.specs.Hearing.{counted, counted_on, read_on, took_on, took_with}
 use Rattle.loop_rules.specs.Handling.{hearer_of, sorted}
-use Rattle.loop_rules.specs.Keeping.{entry_in, with_entry, kept_entry}
+use Rattle.loop_rules.specs.Keeping.{with_entry, kept_entry}
+use Rattle.peer_rules.specs.Entries.{entry_in}
 use Rattle.loop_rules.specs.After.{after, gave_by, gave_on, gave_with, listed, own_at, rested, view_of, with_table}
 use Rattle.loop_rules.specs.Rules.{is_allowed, may_dial_at}
 use Rattle.loop_rules.specs.Histories.{IsHistory}

@@ -31,7 +31,8 @@ use Rattle.loop_rules.specs.Tables.{Table, line_of, seat_of, at_line, at_seat, d
 use Rattle.loop_rules.specs.Views.{View, start, safe_frames}
 use Rattle.loop_rules.specs.Hearing.{Hearer, arrived, counted, counted_on, heard, heard_all, heard_by, heard_first, heard_named, heard_on, lets_seat_name, named, names, obeyed, ousted, read_at, read_on, took_on, took_with, with_name_free}
 use Rattle.loop_rules.specs.Handling.{hearer_of, sorted}
-use Rattle.loop_rules.specs.Keeping.{entry_in, with_entry, kept_entry}
+use Rattle.loop_rules.specs.Keeping.{with_entry, kept_entry}
+use Rattle.peer_rules.specs.Entries.{entry_in}
 use Rattle.loop_rules.specs.After.{after, gave_by, gave_on, gave_with, listed, own_at, rested, view_of, with_table}
 use Rattle.loop_rules.specs.Rules.{is_allowed, may_read_line, may_shut_line}
 use Rattle.loop_rules.specs.Histories.{IsHistory}

@@ -11,7 +11,7 @@ use Rattle.wire_frames.specs.Spelling.{spelling}
 use Rattle.socket_lines.specs.declared.line.Line.{Line}
 use Rattle.socket_lines.specs.Lines.{doomed, moved_to, named_line}
 use Rattle.loop_rules.specs.Settings.{Setting}
-use Rattle.loop_rules.specs.Laws.{IsWanted}
+use Rattle.peer_rules.specs.Passes.{IsWanted}
 use Rattle.loop_laws.specs.Speaking.{IsNamed, IsAsked, IsOwnHello, AnyNamed, Speaks}
 use Rattle.loop_laws.proofs.Frames.{OwnMore, AskedMore, NamedMore, HasMore, Goes, asked_more, named_more, asked_last, goes_follows, goes_more, follows_more, hello_more, any_more}
 

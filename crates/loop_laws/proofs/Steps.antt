@@ -23,13 +23,14 @@ use Rattle.socket_lines.specs.declared.seat.Seat.{Seat}
 use Rattle.socket_lines.specs.Seats.{asks, is_asked_for, dials, rests, spends}
 use Rattle.socket_lines.specs.Asks.{is_asked}
 use Rattle.socket_lines.specs.Lines.{accepted_line, dialled_line, blocked, closed, quieted, woken, player_of}
-use Rattle.loop_rules.specs.declared.arrivals.Arrival.{Arrival}
+use Rattle.peer_rules.specs.declared.arrivals.Arrival.{Arrival}
 use Rattle.loop_rules.specs.Settings.{Setting, speaker_of}
 use Rattle.loop_rules.specs.Tables.{Table, line_of, seat_by, at_line, at_seat}
 use Rattle.loop_rules.specs.Views.{View, safe_frames}
 use Rattle.loop_rules.specs.Hearing.{counted, counted_on, read_at, read_on, heard_all, took_on, took_with}
 use Rattle.loop_rules.specs.Handling.{with_waiting, hearer_of, next_of, passed, is_new_to, sorted}
-use Rattle.loop_rules.specs.Keeping.{entry_in, with_entry, kept_entry}
+use Rattle.loop_rules.specs.Keeping.{with_entry, kept_entry}
+use Rattle.peer_rules.specs.Entries.{entry_in}
 use Rattle.loop_rules.specs.After.{after, with_table, listed, rested, gave_by}
 use Rattle.loop_rules.specs.Rules.{is_allowed, are_due}
 use Rattle.loop_rules.specs.Told.{Differ}

@@ -15,7 +15,7 @@ use Rattle.socket_lines.specs.declared.line.Line.{Line}
 use Rattle.socket_lines.specs.declared.seat.Seat.{Seat}
 use Rattle.socket_lines.specs.Seats.{asks, may_want, obeys, reaches}
 use Rattle.socket_lines.specs.Lines.{doomed, moved_to}
-use Rattle.loop_rules.specs.declared.arrivals.Arrival.{Arrival}
+use Rattle.peer_rules.specs.declared.arrivals.Arrival.{Arrival}
 use Rattle.loop_rules.specs.Tables.{Table, line_of, seat_of, at_line, at_seat}
 use Rattle.loop_rules.specs.Views.{View}
 use Rattle.loop_rules.specs.Hearing.{Hearer, obeyed, arrived, heard_named, heard_by, heard_on, heard, counted, counted_on, read_at, read_on, took_with}

@@ -4,7 +4,8 @@ use Rattle.definition_laws.specs.Members.{Has}
 use Rattle.rosters.specs.declared.roster.Link.{Link}
 use Rattle.socket_station.specs.declared.answers.Addr.{Addr}
 use Rattle.socket_station.specs.Items.{Item, DialCall, Dialled, Polled, Failed}
-use Rattle.loop_rules.specs.Settings.{Setting, addr_eq, told_addr}
+use Rattle.loop_rules.specs.Settings.{Setting}
+use Rattle.peer_rules.specs.Addresses.{addr_eq, told_addr}
 
 -- the player was dialled, or that failed
 abbrev pub IsDialFor : (q : ℕ) → Item → Type 0

@@ -6,7 +6,7 @@ use Rattle.wire_frames.specs.declared.frames.Frame.{Frame}
 use Rattle.wire_frames.specs.declared.frames.Frame.TheVariants.{Hello, Turn, Want}
 use Rattle.rosters.specs.declared.roster.Link.{Link}
 use Rattle.loop_rules.specs.Settings.{Setting}
-use Rattle.loop_rules.specs.Laws.{IsWanted}
+use Rattle.peer_rules.specs.Passes.{IsWanted}
 
 -- the first frame that came is a HELLO of the session and of this player, with the pass that the
 -- roster wants of it

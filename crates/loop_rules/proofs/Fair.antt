@@ -1,30 +1,26 @@
 -- Fair: the log kept is one that an honest peer may have.
-use Rattle.std.proofs.Common.{◌≡◌, ℕ, Bool, true, refl, sym, ap, ◌∙◌, List, [], ◌∷◌, ◌++◌, append_assoc}
-use Rattle.std.specs.Prelude.{Option, Some, None, length, slice_get, ◌||◌}
-use Rattle.std.proofs.lemmas.Bool.{and_parts, eqb-true, false≢true, or_left}
+use Rattle.std.proofs.Common.{◌≡◌, ℕ, true, refl, sym, ap, ◌∙◌, List, [], ◌∷◌, ◌++◌, append_assoc}
+use Rattle.std.specs.Prelude.{Option, Some, None, length, slice_get}
+use Rattle.std.proofs.lemmas.Bool.{and_parts, false≢true, or_left}
 use Rattle.definitions.specs.declared.logs.Entry.{Entry}
-use Rattle.definitions.specs.declared.logs.Entry.TheVariants.{Chose, Made, Got}
-use Rattle.definitions.specs.Logs.{entry_eq}
 use Rattle.definitions.specs.Honest.{allowed, honest_from, IsHonest}
-use Rattle.definition_laws.proofs.Alike.{frame_eq_true, move_eq_true, nonce_eq_true}
 use Rattle.definition_laws.proofs.Permits.{IsHonest_prefix}
 use Rattle.definition_laws.proofs.ForPeers.{honest_push}
 use Rattle.definition_laws.proofs.Behind.{reveal_behind_received}
 use Rattle.socket_station.specs.Items.{Item, ListenCall, LogCall, DialCall, PollCall, ReadCall, WriteCall, KeepCall, SyncCall, Listening, LogBegun, Dialled, Polled, Took, Gave, ReadNotYet, WriteNotYet, Ended, Failed, Shut, Kept, Synced}
+use Rattle.peer_rules.proofs.Entries.{entry_is}
 use Rattle.loop_rules.specs.Settings.{Setting}
-use Rattle.loop_rules.specs.declared.phases.Phase.{Phase}
-use Rattle.loop_rules.specs.declared.phases.Phase.TheVariants.{Fresh, Logged, Running, KeepFault, PollFault}
+use Rattle.peer_rules.specs.declared.phases.Phase.{Phase}
+use Rattle.peer_rules.specs.declared.phases.Phase.TheVariants.{Fresh, Logged, Running, KeepFault, PollFault}
 use Rattle.loop_rules.specs.Views.{View, start}
-use Rattle.loop_rules.specs.Keeping.{entry_in, is_entry, may_keep_in, may_keep_as, with_entry, kept_entry}
+use Rattle.loop_rules.specs.Keeping.{may_keep_in, may_keep_as, with_entry, kept_entry}
+use Rattle.peer_rules.specs.Entries.{entry_in, is_entry}
 use Rattle.loop_rules.specs.After.{after, view_after}
-use Rattle.loop_rules.specs.Rules.{is_fresh, is_logged, is_allowed}
+use Rattle.loop_rules.specs.Rules.{is_allowed}
+use Rattle.peer_rules.specs.Phases.{is_early}
 use Rattle.loop_rules.specs.Histories.{are_allowed}
 use Rattle.loop_rules.specs.Laws.{KeptIsHonest, RevealsKeptStandBehind}
 use Rattle.loop_rules.proofs.Kept.{Keeps, keeps_same, keeps_took, keeps_sorted}
-
--- before the loop listens
-abbrev pub is_early : Phase → Bool
-is_early p = is_fresh p || is_logged p
 
 -- the log is honest, and before the loop listens it is a front of the entries taken over
 abbrev pub Fair : Setting → View → Type 0
@@ -41,31 +37,6 @@ next_over : (kept rest : List Entry) (d : Entry) → slice_get (kept ++ rest) (l
 next_over [] [] d e = absurd (cc)
 next_over [] (r ∷ rest) d e = (rest, cc)
 next_over (k ∷ kept) rest d e = next_over kept rest d e
-
-pub same_entry : (d e : Entry) → entry_eq d e ≡ true → d ≡ e
-same_entry (Chose t m n) (Chose u k o) h =
-    let both = and_parts _ _ h in
-    let first = and_parts _ _ both.0 in
-    let turn = eqb-true t u first.0 in
-    let move = move_eq_true m k first.1 in
-    let nonce = nonce_eq_true n o both.1 in
-    cc
-same_entry (Chose t m n) (Made f) h = absurd (false≢true h)
-same_entry (Chose t m n) (Got q f) h = absurd (false≢true h)
-same_entry (Made f) (Chose u k o) h = absurd (false≢true h)
-same_entry (Made f) (Made g) h = let frame = frame_eq_true f g h in cc
-same_entry (Made f) (Got q g) h = absurd (false≢true h)
-same_entry (Got p f) (Chose u k o) h = absurd (false≢true h)
-same_entry (Got p f) (Made g) h = absurd (false≢true h)
-same_entry (Got p f) (Got q g) h =
-    let both = and_parts _ _ h in
-    let player = eqb-true p q both.0 in
-    let frame = frame_eq_true f g both.1 in
-    cc
-
-pub entry_is : (o : Option Entry) (e : Entry) → is_entry o e ≡ true → o ≡ Some e
-entry_is None e h = absurd (false≢true h)
-entry_is (Some d) e h = ap (λ (x : Entry). Some x) (same_entry d e h)
 
 fair_over : (s : Setting) (v : View) (e : Entry) → IsHonest s.game s.me s.over → v.phase ≡ Logged → is_entry (slice_get v.setting.over (length v.kept)) e ≡ true → Fair s v → Fair s (with_entry e v)
 fair_over s v e over same h r =

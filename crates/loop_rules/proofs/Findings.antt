@@ -8,14 +8,16 @@ use Rattle.socket_station.specs.declared.answers.Addr.{Addr}
 use Rattle.socket_station.specs.Items.{Item, ListenCall, LogCall, DialCall, PollCall, ReadCall, WriteCall, KeepCall, SyncCall, Listening, LogBegun, Dialled, Polled, Took, Gave, ReadNotYet, WriteNotYet, Ended, Failed, Shut, Kept, Synced}
 use Rattle.socket_lines.specs.declared.line.Line.{Line}
 use Rattle.socket_lines.specs.declared.seat.Seat.{Seat}
-use Rattle.loop_rules.specs.declared.phases.Phase.{Phase}
-use Rattle.loop_rules.specs.declared.phases.Phase.TheVariants.{Running}
+use Rattle.peer_rules.specs.declared.phases.Phase.{Phase}
+use Rattle.peer_rules.specs.declared.phases.Phase.TheVariants.{Running}
 use Rattle.loop_rules.specs.Tables.{asks_shut, line_of, seat_of}
 use Rattle.loop_rules.specs.Views.{View, start}
-use Rattle.loop_rules.specs.Keeping.{entry_in, may_keep_in, may_keep_as}
+use Rattle.loop_rules.specs.Keeping.{may_keep_in, may_keep_as}
+use Rattle.peer_rules.specs.Entries.{entry_in}
 use Rattle.loop_rules.specs.After.{view_of}
 use Rattle.loop_rules.specs.Licence.{is_licensed}
-use Rattle.loop_rules.specs.Rules.{is_fresh, is_logged, may_dial_at, may_write_line, may_listen, is_allowed, wants_read}
+use Rattle.loop_rules.specs.Rules.{may_dial_at, may_write_line, may_listen, is_allowed, wants_read}
+use Rattle.peer_rules.specs.Phases.{is_fresh, is_logged}
 use Rattle.loop_rules.specs.Laws.{IsSync, FindingsAreLast}
 use Rattle.loop_rules.proofs.Prefixes.{behind}
 use Rattle.loop_rules.proofs.Serving.{serves, serving_where}

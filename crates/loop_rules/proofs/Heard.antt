@@ -17,11 +17,11 @@ use Rattle.socket_lines.specs.declared.seat.Seat.{Seat}
 use Rattle.socket_lines.specs.Seats as S
 use Rattle.socket_lines.specs.Seats.{may_want, obeys, reaches}
 use Rattle.socket_lines.specs.Lines.{doomed, moved_to, named_line}
-use Rattle.loop_rules.specs.declared.arrivals.Arrival.{Arrival}
+use Rattle.peer_rules.specs.declared.arrivals.Arrival.{Arrival}
 use Rattle.loop_rules.specs.Settings.{Setting}
 use Rattle.loop_rules.specs.Tables.{Table, line_of, seat_of, at_line, at_seat}
 use Rattle.loop_rules.specs.Hearing.{Hearer, lets_seat_name, names, with_name_free, named, heard_first, obeyed, arrived, heard_named, heard_by, heard_on, heard, heard_all}
-use Rattle.loop_rules.specs.Laws.{IsWanted}
+use Rattle.peer_rules.specs.Passes.{IsWanted}
 use Rattle.loop_rules.proofs.Named.{NameIs, Named, Stands, found_is, stands_weaker, named_at, named_ousted, stands_line, stands_seat, stands_obeyed}
 
 -- each of the frames that wait is such a one

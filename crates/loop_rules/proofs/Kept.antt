@@ -13,12 +13,13 @@ use Rattle.session_log.proofs.Logs.{log_written}
 use Rattle.socket_station.specs.Items.{Item, ListenCall, LogCall, DialCall, PollCall, ReadCall, WriteCall, KeepCall, SyncCall, Listening, LogBegun, Dialled, Polled, Took, Gave, ReadNotYet, WriteNotYet, Ended, Failed, Shut, Kept, Synced}
 use Rattle.socket_station.specs.Moved.{kept_in}
 use Rattle.socket_lines.specs.Seats.{asks}
-use Rattle.loop_rules.specs.declared.arrivals.Arrival.{Arrival}
+use Rattle.peer_rules.specs.declared.arrivals.Arrival.{Arrival}
 use Rattle.loop_rules.specs.Tables.{at_seat}
 use Rattle.loop_rules.specs.Views.{View, start}
 use Rattle.loop_rules.specs.Hearing.{took_on}
 use Rattle.loop_rules.specs.Handling.{with_waiting, hearer_of, next_of, passed, is_new_to, sorted, sorted_out}
-use Rattle.loop_rules.specs.Keeping.{entry_in, may_keep_as, with_entry, kept_entry}
+use Rattle.loop_rules.specs.Keeping.{may_keep_as, with_entry, kept_entry}
+use Rattle.peer_rules.specs.Entries.{entry_in}
 use Rattle.loop_rules.specs.After.{after, with_table, view_after}
 use Rattle.loop_rules.specs.Rules.{is_allowed}
 use Rattle.loop_rules.specs.Histories.{are_allowed}

@@ -25,21 +25,23 @@ use Rattle.socket_lines.specs.declared.line.Line.{Line}
 use Rattle.socket_lines.specs.Seats.{asks, dials, new_seat}
 use Rattle.socket_lines.specs.Lines.{blocked, closed, dialled_line, quieted}
 use Rattle.socket_lines.specs.Giving.{Desk, Speaker}
-use Rattle.loop_rules.specs.declared.arrivals.Arrival.{Arrival}
-use Rattle.loop_rules.specs.declared.phases.Phase.{Phase}
-use Rattle.loop_rules.specs.declared.phases.Phase.TheVariants.{Fresh, Logged, Running, KeepFault, PollFault}
+use Rattle.peer_rules.specs.declared.arrivals.Arrival.{Arrival}
+use Rattle.peer_rules.specs.declared.phases.Phase.{Phase}
+use Rattle.peer_rules.specs.declared.phases.Phase.TheVariants.{Fresh, Logged, Running, KeepFault, PollFault}
 use Rattle.loop_rules.specs.Settings.{Setting, last_place, speaker_of}
 use Rattle.loop_rules.specs.Tables.{Table, line_of, at_line, at_seat, desk_of}
 use Rattle.loop_rules.specs.Views.{View, start, safe_frames}
 use Rattle.loop_rules.specs.Hearing.{counted, heard_all, read_at, read_on, took_on, took_with}
 use Rattle.loop_rules.specs.Handling.{with_waiting, hearer_of, next_of, passed, is_new_to, sorted, sorted_out}
-use Rattle.loop_rules.specs.Keeping.{entry_in, is_first, may_keep_in, may_keep_as, with_entry, kept_entry, waiting_behind}
+use Rattle.loop_rules.specs.Keeping.{may_keep_in, may_keep_as, with_entry, kept_entry, waiting_behind}
+use Rattle.peer_rules.specs.Entries.{entry_in, is_first}
 use Rattle.loop_rules.specs.After.{after, dialled_on, gave_with, gave_by, in_phase, listed, own_at, polled_on, rested, view_of, with_table}
 use Rattle.loop_rules.specs.Rules.{is_allowed}
 use Rattle.loop_rules.specs.Histories.{are_allowed}
-use Rattle.loop_rules.specs.Laws.{HasHello, IsBrought, IsGreeted, IsWanted, ReceiptsStandBehind}
+use Rattle.loop_rules.specs.Laws.{HasHello, IsBrought, IsGreeted, ReceiptsStandBehind}
+use Rattle.peer_rules.specs.Passes.{IsWanted}
 use Rattle.loop_rules.proofs.Kept.{Keeps, keeps_same, keeps_sorted}
-use Rattle.loop_rules.proofs.Fair.{same_entry, entry_is}
+use Rattle.peer_rules.proofs.Entries.{same_entry, entry_is}
 use Rattle.loop_rules.proofs.Named.{Named, Stands, stands_asks, stands_gave, stands_line, stands_listed, stands_more, stands_read, stands_rested, stands_seat, stands_weaker}
 use Rattle.loop_rules.proofs.Heard.{Waits, heard_so}
 

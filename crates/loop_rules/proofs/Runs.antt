@@ -21,16 +21,20 @@ use Rattle.definition_laws.proofs.ForPeers.{advance_step, advance_still}
 use Rattle.definition_laws.proofs.Waits.{may_choose_allowed}
 use Rattle.socket_station.specs.declared.answers.Addr.{Addr}
 use Rattle.socket_station.specs.Items.{Item, ListenCall, LogCall, DialCall, PollCall, ReadCall, WriteCall, KeepCall, SyncCall, Listening, LogBegun, Dialled, Polled, Took, Gave, ReadNotYet, WriteNotYet, Ended, Failed, Shut, Kept, Synced}
-use Rattle.loop_rules.specs.declared.phases.Phase.{Phase}
-use Rattle.loop_rules.specs.declared.phases.Phase.TheVariants.{Fresh, Logged, Running, KeepFault, PollFault}
+use Rattle.peer_rules.specs.declared.phases.Phase.{Phase}
+use Rattle.peer_rules.specs.declared.phases.Phase.TheVariants.{Fresh, Logged, Running, KeepFault, PollFault}
 use Rattle.loop_rules.specs.Settings.{Setting}
 use Rattle.loop_rules.specs.Views.{View, start}
-use Rattle.loop_rules.specs.Keeping.{entry_in, is_frame, is_next, may_keep_in, may_keep_as, own_next, with_entry, kept_entry}
+use Rattle.loop_rules.specs.Keeping.{is_next, may_keep_in, may_keep_as, own_next, with_entry, kept_entry}
+use Rattle.peer_rules.specs.Entries.{entry_in}
+use Rattle.peer_rules.specs.Order.{is_frame}
 use Rattle.loop_rules.specs.After.{after, view_after}
 use Rattle.loop_rules.specs.Rules.{is_allowed}
 use Rattle.loop_rules.specs.Histories.{are_allowed}
-use Rattle.loop_rules.specs.Runs.{GoesAsRun, LogsAreRuns, steps_told}
-use Rattle.loop_rules.proofs.Fair.{Fair, fair_entry, fair_first, fair_item, is_early}
+use Rattle.loop_rules.specs.Runs.{GoesAsRun, LogsAreRuns}
+use Rattle.peer_rules.specs.Steps.{steps_told}
+use Rattle.loop_rules.proofs.Fair.{Fair, fair_entry, fair_first, fair_item}
+use Rattle.peer_rules.specs.Phases.{is_early}
 use Rattle.loop_rules.proofs.Kept.{Keeps, keeps_sorted, keeps_took}
 
 -- ---- one more entry

@@ -20,13 +20,14 @@ use Rattle.definitions.specs.Findings.{is_clean}
 use Rattle.definitions.specs.Answers.{is_far}
 use Rattle.socket_station.specs.declared.answers.Addr.{Addr}
 use Rattle.socket_lines.specs.Seats.{asks}
-use Rattle.loop_rules.specs.declared.arrivals.Arrival.{Arrival}
+use Rattle.peer_rules.specs.declared.arrivals.Arrival.{Arrival}
 use Rattle.loop_rules.specs.Settings.{Setting, speaker_of}
 use Rattle.loop_rules.specs.Tables.{Table, line_of, in_lines, at_seat}
 use Rattle.loop_rules.specs.Views.{View, start, safe_frames}
 use Rattle.loop_rules.specs.Hearing.{took_on}
 use Rattle.loop_rules.specs.Handling.{with_waiting, hearer_of, next_of, passed, is_new_to, sorted}
-use Rattle.loop_rules.specs.Keeping.{entry_in, with_entry, kept_entry}
+use Rattle.loop_rules.specs.Keeping.{with_entry, kept_entry}
+use Rattle.peer_rules.specs.Entries.{entry_in}
 use Rattle.loop_rules.specs.After.{after, with_table, listed, rested, view_of}
 use Rattle.loop_rules.specs.Rules.{is_allowed}
 use Rattle.loop_rules.specs.Told.{LineStands, IsNotIn, Differ, IsTold}

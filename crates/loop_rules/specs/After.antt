@@ -10,8 +10,8 @@ use Rattle.socket_lines.specs.declared.line.Line.{Line}
 use Rattle.socket_lines.specs.Seats.{dials, rests}
 use Rattle.socket_lines.specs.Lines.{accepted_line, dialled_line, closed, quieted, blocked, woken}
 use Rattle.socket_lines.specs.Giving.{Desk, Speaker, gave}
-use Rattle.loop_rules.specs.declared.phases.Phase.{Phase}
-use Rattle.loop_rules.specs.declared.phases.Phase.TheVariants.{Logged, Running, KeepFault, PollFault}
+use Rattle.peer_rules.specs.declared.phases.Phase.{Phase}
+use Rattle.peer_rules.specs.declared.phases.Phase.TheVariants.{Logged, Running, KeepFault, PollFault}
 use Rattle.loop_rules.specs.Settings.{Setting, speaker_of}
 use Rattle.loop_rules.specs.Tables.{Table, line_of, at_line, at_seat, desk_of, with_desk}
 use Rattle.loop_rules.specs.Views.{View, start, safe_frames}

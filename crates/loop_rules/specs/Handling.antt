@@ -5,7 +5,7 @@ use Rattle.definitions.specs.Held.{next_place}
 use Rattle.definitions.specs.Findings.{is_clean}
 use Rattle.definitions.specs.Answers.{is_far, is_new, is_of_another}
 use Rattle.socket_lines.specs.Seats.{asks}
-use Rattle.loop_rules.specs.declared.arrivals.Arrival.{Arrival}
+use Rattle.peer_rules.specs.declared.arrivals.Arrival.{Arrival}
 use Rattle.loop_rules.specs.Tables.{at_seat}
 use Rattle.loop_rules.specs.Hearing.{Hearer}
 use Rattle.loop_rules.specs.Views.{View}

@@ -3,7 +3,7 @@ use Rattle.std.specs.Prelude.{◌≡◌, ◌⊎◌, ℕ, Bool, true, ◌&&◌, L
 use Rattle.definitions.specs.declared.logs.Entry.{Entry}
 use Rattle.definitions.specs.Needs.{may_choose}
 use Rattle.socket_station.specs.Items.{Item, Call, LogCall, LogBegun, Failed}
-use Rattle.loop_rules.specs.declared.phases.Phase.TheVariants.{KeepFault}
+use Rattle.peer_rules.specs.declared.phases.Phase.TheVariants.{KeepFault}
 use Rattle.loop_rules.specs.Settings.{Setting}
 use Rattle.loop_rules.specs.Views.{View, start}
 use Rattle.loop_rules.specs.After.{after, view_of}

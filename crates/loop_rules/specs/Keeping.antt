@@ -1,41 +1,24 @@
 -- Keeping: which entry may be kept next, and what is shown behind it.
-use Rattle.std.specs.Prelude.{ℕ, ◌-◌, Bool, false, ◌&&◌, List, [], ◌∷◌, ◌++◌, drop, take, Option, Some, None, length, is_none, slice_get}
+use Rattle.std.specs.Prelude.{ℕ, Bool, false, ◌&&◌, List, [], ◌∷◌, ◌++◌, drop, Option, Some, None, length, is_none, slice_get}
 use Rattle.std.specs.Str.{bytes_eq}
 use Rattle.definitions.specs.declared.frames.TurnFrame.{TurnFrame}
 use Rattle.definitions.specs.declared.logs.Entry.{Entry}
 use Rattle.definitions.specs.declared.logs.Entry.TheVariants.{Chose, Made, Got}
-use Rattle.definitions.specs.Logs.{entry_eq, frame_eq}
 use Rattle.definitions.specs.Honest.{allowed}
 use Rattle.definitions.specs.Advance.{next_made}
-use Rattle.session_log.specs.Entries.{entry_of}
-use Rattle.session_log.specs.Writing.{Writing, mark_of, written}
+use Rattle.session_log.specs.Writing.{written}
 use Rattle.session_log.specs.Writing as W
-use Rattle.loop_rules.specs.declared.arrivals.Arrival.{Arrival}
-use Rattle.loop_rules.specs.declared.phases.Phase.{Phase}
-use Rattle.loop_rules.specs.declared.phases.Phase.TheVariants.{Fresh, Logged, Running, KeepFault, PollFault}
+use Rattle.peer_rules.specs.declared.arrivals.Arrival.{Arrival}
+use Rattle.peer_rules.specs.declared.phases.Phase.{Phase}
+use Rattle.peer_rules.specs.declared.phases.Phase.TheVariants.{Fresh, Logged, Running, KeepFault, PollFault}
+use Rattle.peer_rules.specs.Entries.{entry_in, is_first, is_entry}
+use Rattle.peer_rules.specs.Order.{is_frame}
 use Rattle.loop_rules.specs.Views.{View}
 use Rattle.loop_rules.specs.Handling.{with_waiting, sorted_out}
-
--- the entry that bytes spell in front of the digest that chains it
-abbrev pub entry_in : Writing → List ℕ → Option Entry
-entry_in w bytes = entry_of (take (length bytes - length (mark_of w) - 32) (drop (length (mark_of w)) bytes))
 
 -- an own frame that the log allows now: one that is made before anything else is logged
 abbrev pub own_next : View → Option TurnFrame
 own_next v = next_made v.setting.game v.setting.me v.kept
-
-abbrev pub is_frame : Option TurnFrame → TurnFrame → Bool
-is_frame None f = false
-is_frame (Some g) f = frame_eq g f
-
-abbrev pub is_entry : Option Entry → Entry → Bool
-is_entry None e = false
-is_entry (Some d) e = entry_eq d e
-
--- the first of the frames that wait is this one
-abbrev pub is_first : List Arrival → (q : ℕ) → TurnFrame → Bool
-is_first [] q f = false
-is_first (a ∷ more) q f = entry_eq (Got a.player a.frame) (Got q f)
 
 -- whose turn an entry is: the own frames come first, and then a choice or the first frame that waits
 abbrev pub is_next : View → Entry → Bool

@@ -24,9 +24,8 @@ use Rattle.socket_station.specs.Faults.{is_poll_call, is_keep_call}
 use Rattle.socket_station.specs.Moved.{kept_in}
 use Rattle.socket_station.specs.Standings.{OpensNew}
 use Rattle.session_log.specs.Spelling.{log_bytes}
-use Rattle.loop_rules.specs.declared.phases.Phase.TheVariants.{Running}
-use Rattle.rosters.specs.declared.roster.Link.{Link}
-use Rattle.rosters.specs.Rosters.{Neighbours}
+use Rattle.peer_rules.specs.declared.phases.Phase.TheVariants.{Running}
+use Rattle.peer_rules.specs.Passes.{IsWanted}
 use Rattle.loop_rules.specs.Settings.{Setting}
 use Rattle.socket_lines.specs.declared.line.Line.{Line}
 use Rattle.loop_rules.specs.Tables.{line_of}
@@ -122,10 +121,6 @@ RevealsKeptStandBehind = (s : Setting) (items : List Item) (g rest : List Entry)
 abbrev pub Brings : View → Item → (socket : ℕ) → List Frame → Type 0
 Brings v (Took n bytes) socket frames = (n ≡ socket) × ((l : Line) × (line_of v.table n ≡ Some l) × ((given_of l.reader bytes).frames ≡ frames))
 Brings v _ socket frames = ⊥
-
--- the pass is the one that the roster wants of the player
-abbrev pub IsWanted : Neighbours → (q : ℕ) → (pass : List ℕ) → Type 0
-IsWanted roster q pass = (link : Link) × Has roster.links link × (link.player ≡ q) × (pass ≡ link.wants)
 
 -- one of the frames is a HELLO of the session and this player, with the pass wanted of it
 pub record HasHello (s : Setting) (q : ℕ) (frames : List Frame) : Type 0 where

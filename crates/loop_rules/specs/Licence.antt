@@ -1,5 +1,5 @@
 -- Licence: when the loop may wait, point by point.
-use Rattle.std.specs.Prelude.{ℕ, Bool, true, false, not, ◌&&◌, ◌||◌, ◌==◌, nat_lt, Option, Some, None, length, is_some, is_none, IsTrue}
+use Rattle.std.specs.Prelude.{ℕ, Bool, false, not, ◌&&◌, ◌||◌, ◌==◌, nat_lt, Option, Some, None, length, is_some, is_none, IsTrue}
 use Rattle.std.specs.List.{list_all, list_any}
 use Rattle.definitions.specs.Lists.{is_empty}
 use Rattle.definitions.specs.Needs.{needs, may_choose}
@@ -8,18 +8,10 @@ use Rattle.socket_lines.specs.declared.line.Line.{Line}
 use Rattle.socket_lines.specs.declared.seat.Seat.{Seat}
 use Rattle.socket_lines.specs.Seats.{is_spent, lacks}
 use Rattle.socket_lines.specs.Giving.{Desk, has_due}
-use Rattle.loop_rules.specs.declared.phases.Phase.{Phase}
-use Rattle.loop_rules.specs.declared.phases.Phase.TheVariants.{Fresh, Logged, Running, KeepFault, PollFault}
+use Rattle.peer_rules.specs.Phases.{is_running}
 use Rattle.loop_rules.specs.Tables.{Table, asks_shut, is_served, desk_of}
 use Rattle.loop_rules.specs.Views.{View, made_kept}
 use Rattle.loop_rules.specs.Keeping.{own_next}
-
-abbrev pub is_running : Phase → Bool
-is_running Fresh = false
-is_running Logged = false
-is_running Running = true
-is_running KeepFault = false
-is_running PollFault = false
 
 -- Reading. Each open socket was read until nothing was there, after its opening and after the last poll that listed it.
 abbrev pub is_read : Line → Bool

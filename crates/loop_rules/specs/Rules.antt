@@ -1,5 +1,5 @@
 -- Rules: which item may come next, by what was shown before it.
-use Rattle.std.specs.Prelude.{ℕ, Bool, true, false, not, ◌&&◌, ◌||◌, ◌==◌, nat_lt, nat_le, List, [], Option, Some, None, length, take, IsTrue}
+use Rattle.std.specs.Prelude.{ℕ, Bool, false, not, ◌&&◌, ◌||◌, ◌==◌, nat_lt, nat_le, List, [], Option, Some, None, length, take, IsTrue}
 use Rattle.std.specs.Str.{bytes_eq}
 use Rattle.definitions.specs.declared.frames.TurnFrame.{TurnFrame}
 use Rattle.definitions.specs.Lists.{is_empty}
@@ -10,30 +10,16 @@ use Rattle.socket_lines.specs.declared.line.Line.{Line}
 use Rattle.socket_lines.specs.declared.seat.Seat.{Seat}
 use Rattle.socket_lines.specs.Seats.{is_spent}
 use Rattle.socket_lines.specs.Giving.{Desk, Speaker, due_bytes}
-use Rattle.loop_rules.specs.declared.phases.Phase.{Phase}
-use Rattle.loop_rules.specs.declared.phases.Phase.TheVariants.{Fresh, Logged, Running, KeepFault, PollFault}
-use Rattle.loop_rules.specs.Settings.{told_addr, addr_eq, speaker_of}
+use Rattle.loop_rules.specs.Settings.{speaker_of}
+use Rattle.peer_rules.specs.Addresses.{told_addr, addr_eq}
 use Rattle.loop_rules.specs.Tables.{Table, line_of, seat_of, is_served, desk_of, room_on, asks_shut}
 use Rattle.loop_rules.specs.Views.{View, safe_frames}
 use Rattle.loop_rules.specs.Keeping.{may_keep}
 use Rattle.loop_rules.specs.After.{own_at}
-use Rattle.loop_rules.specs.Licence.{is_running, is_licensed}
+use Rattle.loop_rules.specs.Licence.{is_licensed}
+use Rattle.peer_rules.specs.Phases.{is_running, is_fresh, is_logged}
 
 -- ---- beginning: a new log, then the entries taken over, kept and synced, then listening at the own address
-
-abbrev pub is_fresh : Phase → Bool
-is_fresh Fresh = true
-is_fresh Logged = false
-is_fresh Running = false
-is_fresh KeepFault = false
-is_fresh PollFault = false
-
-abbrev pub is_logged : Phase → Bool
-is_logged Fresh = false
-is_logged Logged = true
-is_logged Running = false
-is_logged KeepFault = false
-is_logged PollFault = false
 
 abbrev pub may_begin : View → Bool
 may_begin v = is_fresh v.phase

@@ -1,21 +1,14 @@
 -- Runs: the log kept, as the protocol's run over its own choices and the frames that came.
-use Rattle.std.specs.Prelude.{◌≡◌, ◌≤◌, List, [], ◌∷◌, ◌++◌, length}
+use Rattle.std.specs.Prelude.{◌≡◌, ◌≤◌, List, ◌++◌, length}
 use Rattle.definitions.specs.declared.logs.Entry.{Entry}
-use Rattle.definitions.specs.declared.logs.Entry.TheVariants.{Chose, Made, Got}
 use Rattle.definitions.specs.Honest.{IsHonest}
 use Rattle.definitions.specs.Advance.{advance}
-use Rattle.definitions.specs.Steps.{LogStep, Chooses, Comes, log_run}
+use Rattle.definitions.specs.Steps.{log_run}
 use Rattle.socket_station.specs.Items.{Item}
+use Rattle.peer_rules.specs.Steps.{steps_told}
 use Rattle.loop_rules.specs.Settings.{Setting}
 use Rattle.loop_rules.specs.After.{view_of}
 use Rattle.loop_rules.specs.Histories.{IsHistory}
-
--- the steps that entries tell: the choices, and the frames that came; own frames are no steps, since the protocol makes them by itself
-abbrev pub steps_told : List Entry → List LogStep
-steps_told [] = []
-steps_told (Chose t m n ∷ es) = Chooses m n ∷ steps_told es
-steps_told (Made f ∷ es) = steps_told es
-steps_told (Got q f ∷ es) = Comes q f ∷ steps_told es
 
 -- The log begins with the entries taken over. With the own frames that may be made by now, it is what the protocol's run comes to that begins with
 -- those entries, advanced, and takes as its steps the choices and the frames that came behind them, in their order.

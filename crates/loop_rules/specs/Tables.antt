@@ -6,7 +6,7 @@ use Rattle.socket_lines.specs.declared.seat.Seat.{Seat}
 use Rattle.socket_lines.specs.Seats.{room_of}
 use Rattle.socket_lines.specs.Lines.{serves, unnamed_room, player_of}
 use Rattle.socket_lines.specs.Giving.{Desk}
-use Rattle.loop_rules.specs.declared.arrivals.Arrival.{Arrival}
+use Rattle.peer_rules.specs.declared.arrivals.Arrival.{Arrival}
 
 pub record Table : Type 0 where
   -- the sockets in the order in which they were opened; one that is closed stays until the next poll

@@ -6,8 +6,8 @@ use Rattle.definitions.specs.Logs.{made}
 use Rattle.definitions.specs.Honest.{made_count}
 use Rattle.session_log.specs.Writing.{Writing, fresh}
 use Rattle.socket_lines.specs.Seats.{new_seat}
-use Rattle.loop_rules.specs.declared.phases.Phase.{Phase}
-use Rattle.loop_rules.specs.declared.phases.Phase.TheVariants.{Fresh}
+use Rattle.peer_rules.specs.declared.phases.Phase.{Phase}
+use Rattle.peer_rules.specs.declared.phases.Phase.TheVariants.{Fresh}
 use Rattle.loop_rules.specs.Settings.{Setting, last_place}
 use Rattle.loop_rules.specs.Tables.{Table}
 

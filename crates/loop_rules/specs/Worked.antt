@@ -15,8 +15,9 @@ use Rattle.rosters.specs.declared.addr.Addr.{Addr as RosterAddr}
 use Rattle.socket_station.specs.declared.answers.Ready.TheVariants.{Opened, Socket as Seems}
 use Rattle.socket_station.specs.Items.{Item, KeepCall, Listening, LogBegun, Dialled, Polled, Took, Gave, ReadNotYet, Failed, Shut, Kept, Synced}
 use Rattle.socket_lines.specs.Seats.{reaches, dials}
-use Rattle.loop_rules.specs.declared.phases.Phase.TheVariants.{Running}
-use Rattle.loop_rules.specs.Settings.{Setting, told_addr}
+use Rattle.peer_rules.specs.declared.phases.Phase.TheVariants.{Running}
+use Rattle.loop_rules.specs.Settings.{Setting}
+use Rattle.peer_rules.specs.Addresses.{told_addr}
 use Rattle.loop_rules.specs.Tables.{Table}
 use Rattle.loop_rules.specs.Views.{View, start, first_table}
 use Rattle.loop_rules.specs.After.{view_of, view_after}

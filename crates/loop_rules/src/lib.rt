@@ -5,10 +5,5 @@
 //! and touches nothing.
 #![tactic(auto)]
 
-mod arrivals;
 pub mod laws;
-mod phases;
 pub mod worked;
-
-pub use arrivals::Arrival;
-pub use phases::Phase;

@@ -40,13 +40,21 @@ pub data Ask : Type 0 where
   FileSynced : Option HostFault → Ask
   -- which files the folder has stays after a crash
   FolderSynced : Option HostFault → Ask
+  -- the address that datagrams are received and sent at
+  Bound : Addr → Option HostFault → Ask
+  -- the readiness of what datagrams are received by is reported
+  MailboxWatched : Option HostFault → Ask
+  -- the bytes of the next datagram, or the first of them
+  Received : Result (List ℕ) HostFault → Ask
+  -- the address, the bytes of the datagram, and how many of them went
+  Sent : Addr → List ℕ → Result ℕ HostFault → Ask
 
 -- why a call failed, if it did
 abbrev pub error_of : {A : Type 0} → Result A HostFault → Option HostFault
 error_of (Ok a) = None
 error_of (Err fault) = Some fault
 
--- a read of the socket answered so, and the bytes that came stand at the front of the buffer
+-- a read or a receive answered so, and the bytes that came stand at the front of the buffer
 abbrev pub bytes_of : Result ℕ HostFault → (buf : List ℕ) → Result (List ℕ) HostFault
 bytes_of (Ok count) buf = Ok (take count buf)
 bytes_of (Err fault) buf = Err fault

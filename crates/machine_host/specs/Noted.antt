@@ -1,12 +1,12 @@
 -- Noted: how the calls of a host are noted.
-use Rattle.std.specs.Prelude.{ℕ, ◌==◌, List, [], ◌∷◌, ◌++◌, get_or, Option, Some, None, Result, Ok, Err, if◌then◌else◌}
+use Rattle.std.specs.Prelude.{ℕ, ◌==◌, List, [], ◌∷◌, ◌++◌, drop, get_or, Option, Some, None, Result, Ok, Err, if◌then◌else◌}
 use Rattle.std.specs.List.{fold}
 use Rattle.record.specs.Note.{Note}
 use Rattle.socket_station.specs.declared.answers.Addr.{Addr}
 use Rattle.machine_host.specs.declared.faults.HostFault.{HostFault}
 use Rattle.machine_host.specs.declared.faults.HostFault.TheVariants as F
 use Rattle.machine_host.specs.declared.notes.TheConstants as C
-use Rattle.machine_host.specs.Asks.{Ask, Clock, Selected, Listened, ListenerWatched, Accepted, Connected, Watched, Waited, Read, Wrote, WritesEnded, Closed, Created, FolderOpened, Appended, FileSynced, FolderSynced}
+use Rattle.machine_host.specs.Asks.{Ask, Clock, Selected, Listened, ListenerWatched, Accepted, Connected, Watched, Waited, Read, Wrote, WritesEnded, Closed, Created, FolderOpened, Appended, FileSynced, FolderSynced, Bound, MailboxWatched, Received, Sent}
 
 -- the fault of a number
 abbrev pub fault_said : ℕ → HostFault
@@ -56,7 +56,11 @@ ask_of note millis =
     else if call == C.OPEN_FOLDER then FolderOpened note.bytes (done_said code)
     else if call == C.APPEND then Appended note.bytes (answer_said code (number_at 0 note))
     else if call == C.SYNC_FILE then FileSynced (done_said code)
-    else FolderSynced (done_said code)
+    else if call == C.SYNC_FOLDER then FolderSynced (done_said code)
+    else if call == C.BIND then Bound (addr_of note.bytes (number_at 0 note)) (done_said code)
+    else if call == C.WATCH_MAILBOX then MailboxWatched (done_said code)
+    else if call == C.RECEIVE then Received (answer_said code note.bytes)
+    else Sent (addr_of (drop 2 note.name) (number_at 0 note)) note.bytes (answer_said code (number_at 1 note))
 
 -- the calls so far, and how long the wait that comes next may last
 pub record Noted : Type 0 where

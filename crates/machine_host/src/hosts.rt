@@ -17,6 +17,9 @@ pub type Tokens = ArrayVec<u64, MOST_EVENTS>;
 /// The token of what listens: no socket number is as great. The token of a socket is its number.
 pub const LISTENER: u64 = u64::MAX;
 
+/// The token of what datagrams are received by: no socket number is as great either.
+pub const MAILBOX: u64 = u64::MAX - 1;
+
 /// A socket of the machine knows the number that it was opened under.
 pub trait Numbered {
     /// The number.
@@ -27,7 +30,7 @@ pub trait Numbered {
         ensures { result ≡ number self.now };
 }
 
-/// A machine: its clock, its sockets, and one file with its folder. Each call adds one entry to
+/// A machine: its clock, its sockets, its datagrams, and one file with its folder. Each call adds one entry to
 /// the history, of what it was asked and what it answered.
 pub trait Host {
     /// What readiness is asked of.
@@ -44,6 +47,9 @@ pub trait Host {
 
     /// A folder that files were created in.
     type Folder: Drop;
+
+    /// What datagrams are received and sent by.
+    type Mailbox: Drop;
 
     /// What it was asked and answered so far, the first call first.
     ghost history: { Self → List Ask };
@@ -144,4 +150,31 @@ pub trait Host {
     /// So does which files the folder has.
     fn sync_folder(&mut self, folder: &mut Self::Folder) -> Result<(), HostFault>
         ensures { history self.new ≡ history self.old ++ A.FolderSynced (error_of result) ∷ [] };
+
+    /// Receives and sends datagrams at the address.
+    fn bind(&mut self, addr: Addr) -> Result<Self::Mailbox, HostFault>
+        ensures { history self.new ≡ history self.old ++ A.Bound addr (error_of result) ∷ [] };
+
+    /// Has waits report, by the token `MAILBOX`, that datagrams may be there.
+    fn watch_mailbox(
+        &mut self,
+        selector: &mut Self::Selector,
+        mailbox: &mut Self::Mailbox,
+    ) -> Result<(), HostFault>
+        ensures { history self.new ≡ history self.old ++ A.MailboxWatched (error_of result) ∷ [] };
+
+    /// Takes the next datagram, or as many of its first bytes as fit. It may have no bytes.
+    fn receive(&mut self, mailbox: &mut Self::Mailbox, buf: &mut [u8]) -> Result<usize, HostFault>
+        ensures within { IfOk result (λ count. count ≤ length buf.new) }
+        ensures after { history self.new ≡ history self.old ++ A.Received (bytes_of result buf.new) ∷ [] };
+
+    /// Gives these bytes as one datagram to the address, and says how many went.
+    fn send(
+        &mut self,
+        mailbox: &mut Self::Mailbox,
+        addr: Addr,
+        bytes: &[u8],
+    ) -> Result<usize, HostFault>
+        ensures within { IfOk result (λ count. count ≤ length bytes.now) }
+        ensures after { history self.new ≡ history self.old ++ A.Sent addr bytes.now result ∷ [] };
 }

@@ -15,5 +15,5 @@ pub mod notes;
 
 pub use faults::{Answer, HostFault, fault_of};
 pub use forms::{Socket, millis_of, socket_addr, text_of};
-pub use hosts::{Host, LISTENER, MOST_EVENTS, Numbered, Tokens};
+pub use hosts::{Host, LISTENER, MAILBOX, MOST_EVENTS, Numbered, Tokens};
 pub use notes::HostNotes;

@@ -15,7 +15,8 @@ use record::Record;
 use socket_station::{Addr, SocketId};
 use std::marker::Model;
 
-// Which call a note is of: the first byte of its name. The second one says how it ended.
+// Which call a note is of: the first byte of its name. The second one says how it ended. Behind them stands the machine
+// that a datagram goes to.
 const CLOCK: u8 = 0;
 
 const SELECT: u8 = 1;
@@ -51,6 +52,14 @@ const APPEND: u8 = 15;
 const SYNC_FILE: u8 = 16;
 
 const SYNC_FOLDER: u8 = 17;
+
+const BIND: u8 = 18;
+
+const WATCH_MAILBOX: u8 = 19;
+
+const RECEIVE: u8 = 20;
+
+const SEND: u8 = 21;
 
 /// The history of a host. Each note takes what a call was asked, then its answer, and then what
 /// that filled, and it hands the answer on.
@@ -339,6 +348,67 @@ impl HostNotes {
         ensures noted { self.new ≡ self.old ++ A.FolderSynced (error_of answer) ∷ [] }
     {
         self.record.note(&[], &[SYNC_FOLDER, code_of(&answer)], &[]);
+        answer
+    }
+
+    /// A `bind` at this address answered this.
+    pub fn bind<T>(&mut self, addr: Addr, answer: Result<T, HostFault>) -> Result<T, HostFault>
+        ensures same { result ≡ answer }
+        ensures noted { self.new ≡ self.old ++ A.Bound addr (error_of answer) ∷ [] }
+    {
+        let port = addr.port as u64;
+        self.record
+            .note(&[port], &[BIND, code_of(&answer)], &addr.ip);
+        answer
+    }
+
+    /// The watching of what datagrams are received by answered this.
+    pub fn watch_mailbox(&mut self, answer: Result<(), HostFault>) -> Result<(), HostFault>
+        ensures same { result ≡ answer }
+        ensures noted { self.new ≡ self.old ++ A.MailboxWatched (error_of answer) ∷ [] }
+    {
+        self.record
+            .note(&[], &[WATCH_MAILBOX, code_of(&answer)], &[]);
+        answer
+    }
+
+    /// A `receive` answered this. What came stands at the front of the buffer.
+    pub fn receive(
+        &mut self,
+        answer: Result<usize, HostFault>,
+        buf: &[u8],
+    ) -> Result<usize, HostFault>
+        requires within { IfOk answer (λ count. count ≤ length buf.now) }
+        ensures same { result ≡ answer }
+        ensures noted { self.new ≡ self.old ++ A.Received (bytes_of answer buf.now) ∷ [] }
+    {
+        match &answer {
+            Ok(count) => self.record.note(&[], &[RECEIVE, 0], &buf[..*count]),
+            Err(fault) => self.record.note(&[], &[RECEIVE, fault_code(*fault)], &[]),
+        }
+        answer
+    }
+
+    /// A `send` of these bytes to this address answered this.
+    pub fn send(
+        &mut self,
+        addr: Addr,
+        bytes: &[u8],
+        answer: Result<usize, HostFault>,
+    ) -> Result<usize, HostFault>
+        ensures same { result ≡ answer }
+        ensures noted { self.new ≡ self.old ++ A.Sent addr bytes.now answer ∷ [] }
+    {
+        let port = addr.port as u64;
+        let [a, b, c, d] = addr.ip;
+        match &answer {
+            Ok(count) => self
+                .record
+                .note(&[port, *count as u64], &[SEND, 0, a, b, c, d], bytes),
+            Err(fault) => self
+                .record
+                .note(&[port, 0], &[SEND, fault_code(*fault), a, b, c, d], bytes),
+        }
         answer
     }
 }

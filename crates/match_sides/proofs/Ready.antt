@@ -6,7 +6,7 @@ use Rattle.rosters.specs.Text.{IsReadFrom}
 use Rattle.socket_station.specs.Items.{Item}
 use Rattle.ready_loop.specs.declared.polling.Round.TheVariants as R
 use Rattle.ready_loop.specs.States.{LoopState}
-use Rattle.ready_loop.specs.Choices.{Chooser}
+use Rattle.own_moves.specs.Choices.{Chooser}
 use Rattle.ready_loop.specs.Beginning.{IsNew, new_loop}
 use Rattle.ready_loop.specs.Polling.{Rounds}
 use Rattle.ready_loop.specs.Settling.{IsReady}

@@ -40,7 +40,7 @@ fn opened(answer: Answer<()>, number: SocketId) -> Answer<MemoryStream>
 }
 
 impl<'a> Host for MemoryHost<'a> {
-    type Selector = ();
+    type Selector = u32;
 
     type Listener = ();
 
@@ -49,6 +49,8 @@ impl<'a> Host for MemoryHost<'a> {
     type File = ();
 
     type Folder = ();
+
+    type Mailbox = ();
 
     ghost history = { λ h. h.notes };
 
@@ -60,9 +62,9 @@ impl<'a> Host for MemoryHost<'a> {
         self.notes.clock(answer)
     }
 
-    fn select(&mut self) -> Answer<()> {
+    fn select(&mut self) -> Answer<u32> {
         let answer = match self.machine.try_borrow_mut() {
-            Ok(mut machine) => machine.ask(Call::Select),
+            Ok(mut machine) => machine.select(),
             Err(_) => Err(HostFault::Other),
         };
         self.notes.select(answer)
@@ -76,9 +78,9 @@ impl<'a> Host for MemoryHost<'a> {
         self.notes.listen(addr, answer)
     }
 
-    fn watch_listener(&mut self, _selector: &mut (), _listener: &mut ()) -> Answer<()> {
+    fn watch_listener(&mut self, selector: &mut u32, _listener: &mut ()) -> Answer<()> {
         let answer = match self.machine.try_borrow_mut() {
-            Ok(mut machine) => machine.watch_listener(),
+            Ok(mut machine) => machine.watch_listener(*selector),
             Err(_) => Err(HostFault::Other),
         };
         self.notes.watch_listener(answer)
@@ -100,17 +102,17 @@ impl<'a> Host for MemoryHost<'a> {
         self.notes.connect(number, addr, opened(answer, number))
     }
 
-    fn watch(&mut self, _selector: &mut (), stream: &mut MemoryStream) -> Answer<()> {
+    fn watch(&mut self, selector: &mut u32, stream: &mut MemoryStream) -> Answer<()> {
         let answer = match self.machine.try_borrow_mut() {
-            Ok(mut machine) => machine.watch(stream.number),
+            Ok(mut machine) => machine.watch(*selector, stream.number),
             Err(_) => Err(HostFault::Other),
         };
         self.notes.watch(stream.number, answer)
     }
 
-    fn wait(&mut self, _selector: &mut (), millis: u64, tokens: &mut Tokens) -> Answer<()> {
+    fn wait(&mut self, selector: &mut u32, millis: u64, tokens: &mut Tokens) -> Answer<()> {
         let answer = match self.machine.try_borrow_mut() {
-            Ok(mut machine) => machine.wait(millis, tokens),
+            Ok(mut machine) => machine.wait(*selector, millis, tokens),
             Err(_) => Err(HostFault::Other),
         };
         self.notes.wait(millis, answer, tokens)
@@ -149,7 +151,7 @@ impl<'a> Host for MemoryHost<'a> {
 
     fn create(&mut self, path: &[u8], mode: u32) -> Answer<()> {
         let answer = match self.machine.try_borrow_mut() {
-            Ok(mut machine) => machine.create(path),
+            Ok(mut machine) => machine.create(path, mode),
             Err(_) => Err(HostFault::Other),
         };
         self.notes.create(path, mode, answer)
@@ -185,5 +187,37 @@ impl<'a> Host for MemoryHost<'a> {
             Err(_) => Err(HostFault::Other),
         };
         self.notes.sync_folder(answer)
+    }
+
+    fn bind(&mut self, addr: Addr) -> Answer<()> {
+        let answer = match self.machine.try_borrow_mut() {
+            Ok(mut machine) => machine.bind(addr),
+            Err(_) => Err(HostFault::Other),
+        };
+        self.notes.bind(addr, answer)
+    }
+
+    fn watch_mailbox(&mut self, selector: &mut u32, _mailbox: &mut ()) -> Answer<()> {
+        let answer = match self.machine.try_borrow_mut() {
+            Ok(mut machine) => machine.watch_mailbox(*selector),
+            Err(_) => Err(HostFault::Other),
+        };
+        self.notes.watch_mailbox(answer)
+    }
+
+    fn receive(&mut self, _mailbox: &mut (), buf: &mut [u8]) -> Answer<usize> {
+        let answer = match self.machine.try_borrow_mut() {
+            Ok(mut machine) => machine.receive(buf),
+            Err(_) => Err(HostFault::Other),
+        };
+        self.notes.receive(answer, buf)
+    }
+
+    fn send(&mut self, _mailbox: &mut (), addr: Addr, bytes: &[u8]) -> Answer<usize> {
+        let answer = match self.machine.try_borrow_mut() {
+            Ok(mut machine) => machine.send(addr, bytes),
+            Err(_) => Err(HostFault::Other),
+        };
+        self.notes.send(addr, bytes, answer)
     }
 }

@@ -11,10 +11,12 @@ pub mod hosts;
 pub mod lines;
 pub mod log_file;
 pub mod machine;
+pub mod mailbox;
 pub mod refusals;
 
 pub use hosts::MemoryHost;
 pub use lines::Line;
 pub use log_file::LogFile;
 pub use machine::Machine;
+pub use mailbox::{Datagram, Mailbox};
 pub use refusals::{Call, Refusal};

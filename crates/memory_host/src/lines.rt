@@ -14,8 +14,8 @@ pub struct Line {
     pub number: SocketId,
     /// The address that it is connected to, unless it was accepted.
     pub addr: Option<Addr>,
-    /// Whether waits report it.
-    pub is_watched: bool,
+    /// Which selector's waits report it, if any do.
+    pub watcher: Option<u32>,
     /// Whether it stands, so that it may be read and written. One that is accepted stands at once.
     pub stands: bool,
     /// Whether something changed that no wait has reported.
@@ -45,7 +45,7 @@ impl Line {
         Line {
             number,
             addr,
-            is_watched: false,
+            watcher: None,
             stands,
             is_ready: stands,
             coming: Vec::new(alloc),

@@ -14,6 +14,8 @@ pub struct LogFile {
     pub synced: Vec<u8>,
     /// Whether its folder was synced, so that there is such a file after a crash.
     pub is_there: bool,
+    /// Who may read and write it.
+    pub mode: u32,
     /// How many bytes each append takes at most.
     pub most: usize,
     /// How many more bytes there is room for.
@@ -30,6 +32,7 @@ impl LogFile {
             bytes: Vec::new(alloc),
             synced: Vec::new(alloc),
             is_there: false,
+            mode: 0,
             most: usize::MAX,
             room: usize::MAX,
         }
@@ -55,15 +58,17 @@ impl LogFile {
         }
     }
 
-    /// A new file stands in its place, with the same room.
-    pub(crate) fn begin(&mut self)
+    /// A new file of this mode stands in its place, with the same room.
+    pub(crate) fn begin(&mut self, mode: u32)
         ensures bytes { self.new.bytes.items ≡ [] }
         ensures synced { self.new.synced.items ≡ [] }
         ensures gone { self.new.is_there ≡ false }
+        ensures mode { self.new.mode ≡ mode }
     {
         self.bytes.clear();
         self.synced.clear();
         self.is_there = false;
+        self.mode = mode;
     }
 
     /// What stands in it stays after a crash. Without memory it answers `Other`.

@@ -1,11 +1,12 @@
-//! A machine in memory: its clock, its sockets, and its one file.
+//! A machine in memory: its clock, its sockets, its datagrams, and its one file.
 
-ghost use Rattle.std.specs.Prelude.{◌≡◌, ◌≤◌, ◌<◌, ◌++◌, ◌⊎◌, [], true, IfOk, IfSome, length, take};
+ghost use Rattle.std.specs.Prelude.{◌≡◌, ◌≤◌, ◌<◌, ◌++◌, ◌⊎◌, [], true, Some, IfOk, IfSome, length, take};
 
 use crate::lines::Line;
 use crate::log_file::LogFile;
+use crate::mailbox::Mailbox;
 use crate::refusals::{Call, Refusal, refusal_of};
-use machine_host::{Answer, HostFault, LISTENER, Tokens};
+use machine_host::{Answer, HostFault, LISTENER, MAILBOX, Tokens};
 use socket_station::{Addr, SocketId};
 use std::alloc::{AllocError, Global};
 
@@ -19,14 +20,18 @@ pub struct Machine {
     pub waiting: u32,
     /// Whether one came that no wait has reported.
     pub is_knocked: bool,
-    /// Whether waits report that.
-    pub is_watched: bool,
+    /// Which selector's waits report that, if any do.
+    pub watcher: Option<u32>,
+    /// How many selectors were made. Each goes by the number of those before it.
+    pub selectors: u32,
     /// The sockets, in the order in which they were opened.
     pub lines: Vec<Line>,
     /// The names of the files that are there.
     pub names: Vec<Vec<u8>>,
     /// The file that was created last.
     pub log: LogFile,
+    /// What datagrams are received and sent by.
+    pub mailbox: Mailbox,
     /// Which calls are refused.
     pub refusals: Vec<Refusal>,
 }
@@ -43,10 +48,12 @@ impl Machine {
             millis: 0,
             waiting: 0,
             is_knocked: false,
-            is_watched: false,
+            watcher: None,
+            selectors: 0,
             lines: Vec::new(alloc),
             names: Vec::new(alloc),
             log: LogFile::new(alloc),
+            mailbox: Mailbox::new(alloc),
             refusals: Vec::new(alloc),
         }
     }
@@ -112,10 +119,18 @@ impl Machine {
         Ok(self.millis)
     }
 
-    /// It is reported from now on that connections wait.
-    pub(crate) fn watch_listener(&mut self) -> Answer<()> {
+    /// The number of a new selector.
+    pub(crate) fn select(&mut self) -> Answer<u32> {
+        self.ask(Call::Select)?;
+        let number = self.selectors;
+        self.selectors = number.saturating_add(1);
+        Ok(number)
+    }
+
+    /// This selector's waits report from now on that connections wait.
+    pub(crate) fn watch_listener(&mut self, selector: u32) -> Answer<()> {
         self.ask(Call::WatchListener)?;
-        self.is_watched = true;
+        self.watcher = Some(selector);
         Ok(())
     }
 
@@ -147,30 +162,35 @@ impl Machine {
         self.open(number, Some(addr))
     }
 
-    /// The readiness of the socket is reported from now on.
-    pub(crate) fn watch(&mut self, number: SocketId) -> Answer<()> {
+    /// This selector's waits report the readiness of the socket from now on.
+    pub(crate) fn watch(&mut self, selector: u32, number: SocketId) -> Answer<()> {
         self.ask(Call::Watch)?;
         match self.place(number) {
             None => Err(HostFault::Other),
             Some(place) => {
-                self.lines[place].is_watched = true;
+                self.lines[place].watcher = Some(selector);
                 Ok(())
             }
         }
     }
 
-    /// Lists what became ready. Where nothing did, so many milliseconds go by.
-    pub(crate) fn wait(&mut self, millis: u64, tokens: &mut Tokens) -> Answer<()>
+    /// Lists what became ready of what this selector watches. Where nothing did, so many milliseconds
+    /// go by.
+    pub(crate) fn wait(&mut self, selector: u32, millis: u64, tokens: &mut Tokens) -> Answer<()>
         ensures { IfOk result (λ u. (self.new.millis ≡ self.old.millis) ⊎ (tokens.new.items ≡ [])) }
     {
         self.ask(Call::Wait)?;
         tokens.clear();
-        if self.is_watched && self.is_knocked {
+        if self.watcher == Some(selector) && self.is_knocked {
             self.is_knocked = false;
             tokens.push(LISTENER);
         }
+        if self.mailbox.watcher == Some(selector) && self.mailbox.is_ready {
+            self.mailbox.is_ready = false;
+            tokens.push(MAILBOX);
+        }
         for line in self.lines.iter_mut() {
-            if line.is_watched && line.is_ready && !tokens.is_full() {
+            if line.watcher == Some(selector) && line.is_ready && !tokens.is_full() {
                 line.is_ready = false;
                 tokens.push(line.number as u64);
             }
@@ -219,7 +239,7 @@ impl Machine {
     pub(crate) fn close(&mut self, number: SocketId) {
         if let Some(place) = self.place(number) {
             self.lines[place].is_closed = true;
-            self.lines[place].is_watched = false;
+            self.lines[place].watcher = None;
         }
     }
 
@@ -233,8 +253,8 @@ impl Machine {
         false
     }
 
-    /// A new file of this name.
-    pub(crate) fn create(&mut self, name: &[u8]) -> Answer<()> {
+    /// A new file of this name, with this mode.
+    pub(crate) fn create(&mut self, name: &[u8], mode: u32) -> Answer<()> {
         self.ask(Call::Create)?;
         if self.is_there(name) {
             return Err(HostFault::Exists);
@@ -242,7 +262,7 @@ impl Machine {
         if self.have(name).is_err() {
             return Err(HostFault::Other);
         }
-        self.log.begin();
+        self.log.begin(mode);
         Ok(())
     }
 
@@ -270,5 +290,37 @@ impl Machine {
         self.ask(Call::SyncFolder)?;
         self.log.is_there = true;
         Ok(())
+    }
+
+    /// Receives and sends datagrams at the address from now on.
+    pub(crate) fn bind(&mut self, addr: Addr) -> Answer<()>
+        ensures { IfOk result (λ u. self.new.mailbox.addr ≡ Some addr) }
+    {
+        self.ask(Call::Bind)?;
+        self.mailbox.begin(addr);
+        Ok(())
+    }
+
+    /// This selector's waits report from now on that datagrams may be there.
+    pub(crate) fn watch_mailbox(&mut self, selector: u32) -> Answer<()> {
+        self.ask(Call::WatchMailbox)?;
+        self.mailbox.watcher = Some(selector);
+        Ok(())
+    }
+
+    /// Takes the next datagram, or as many of its first bytes as fit.
+    pub(crate) fn receive(&mut self, buf: &mut [u8]) -> Answer<usize>
+        ensures { IfOk result (λ count. count ≤ length buf.new) }
+    {
+        self.ask(Call::Receive)?;
+        self.mailbox.receive(buf)
+    }
+
+    /// Gives the first of these bytes as one datagram to the address.
+    pub(crate) fn send(&mut self, addr: Addr, bytes: &[u8]) -> Answer<usize>
+        ensures { IfOk result (λ count. count ≤ length bytes.now) }
+    {
+        self.ask(Call::Send)?;
+        self.mailbox.send(addr, bytes)
     }
 }

@@ -23,6 +23,10 @@ pub enum Call {
     Append,
     SyncFile,
     SyncFolder,
+    Bind,
+    WatchMailbox,
+    Receive,
+    Send,
 }
 
 /// One call that is refused.

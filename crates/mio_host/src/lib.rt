@@ -1,4 +1,4 @@
-//! The machine itself as a host: its clock, its sockets by mio, and one log file.
+//! The machine itself as a host: its clock, its sockets and datagrams by mio, and one log file.
 //!
 //! This is the trusted edge: each call makes the call of mio or std that its name says, notes its
 //! answer, and hands that on. Nothing here chooses or tries again. Mio and std are trusted with it.
@@ -9,8 +9,10 @@ ghost use Rattle.mio.specs.Events.{capacity as events_capacity};
 ghost use Rattle.machine_host.specs.declared.hosts.TheConstants.{MOST_EVENTS};
 
 use machine_host::forms::{Socket, millis_of, socket_addr, text_of};
-use machine_host::{Answer, Host, HostNotes, LISTENER, MOST_EVENTS, Tokens, fault_of as fault};
-use mio::net::{TcpListener, TcpStream};
+use machine_host::{
+    Answer, Host, HostNotes, LISTENER, MAILBOX, MOST_EVENTS, Tokens, fault_of as fault,
+};
+use mio::net::{TcpListener, TcpStream, UdpSocket};
 use mio::{Events, Interest, Poll, Token};
 use socket_station::{Addr, SocketId};
 use std::alloc::{AllocError, Global};
@@ -57,6 +59,8 @@ impl<R: Files + Net + Clock + Drop> Host for MioHost<R> {
     type File = R::File;
 
     type Folder = R::File;
+
+    type Mailbox = UdpSocket;
 
     ghost history = { λ h. h.notes };
 
@@ -146,5 +150,26 @@ impl<R: Files + Net + Clock + Drop> Host for MioHost<R> {
 
     fn sync_folder(&mut self, folder: &mut R::File) -> Answer<()> {
         self.notes.sync_folder(folder.sync_all().map_err(fault))
+    }
+
+    fn bind(&mut self, addr: Addr) -> Answer<UdpSocket> {
+        let bound = UdpSocket::bind(&self.machine, socket_addr(addr));
+        self.notes.bind(addr, bound.map_err(fault))
+    }
+
+    fn watch_mailbox(&mut self, poll: &mut Poll, mailbox: &mut UdpSocket) -> Answer<()> {
+        let (registry, token) = (poll.registry(), Token(MAILBOX as usize));
+        let done = registry.register(mailbox, token, Interest::READABLE);
+        self.notes.watch_mailbox(done.map_err(fault))
+    }
+
+    fn receive(&mut self, mailbox: &mut UdpSocket, buf: &mut [u8]) -> Answer<usize> {
+        let taken = mailbox.recv_from(buf).map(|(count, _)| count);
+        self.notes.receive(taken.map_err(fault), buf)
+    }
+
+    fn send(&mut self, mailbox: &mut UdpSocket, addr: Addr, bytes: &[u8]) -> Answer<usize> {
+        let count = mailbox.send_to(bytes, socket_addr(addr)).map_err(fault);
+        self.notes.send(addr, bytes, count)
     }
 }

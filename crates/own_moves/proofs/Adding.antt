@@ -23,9 +23,9 @@ use Rattle.peer_core.specs.declared.views.Choice.{Choice}
 use Rattle.own_moves.specs.declared.making.Moves.{Moves}
 use Rattle.own_moves.specs.declared.making.Moves.TheVariants as M
 use Rattle.own_moves.specs.Choices.{Chooser, ChoosesBy}
-use Rattle.own_moves.specs.Order.{OwnRun}
-use Rattle.own_moves.specs.Making.{with_more, are_legal, is_refused, illegal_of, IsOwnMove, PutsChoice, StandsAs, StandsChosen, Adds, Chooses, MakesAll}
-use Rattle.own_moves.proofs.Runs.{run_then, chose_next, Advanced, advanced, chosen_one}
+use Rattle.peer_rules.specs.Order.{OwnRun}
+use Rattle.own_moves.specs.Making.{with_more, are_legal, is_refused, illegal_of, IsOwnMove, PutsChoice, HasChoice, PutsMove, StandsAs, StandsChosen, Adds, Chooses, MakesAll}
+use Rattle.own_moves.proofs.Runs.{run_then, chose_next, Advanced, advanced, chosen_made, chosen_one}
 use Rattle.own_moves.proofs.Choices.{IsDrawn, chose_none, chose_then, chose_still, chose_one, chose_refused}
 
 -- with nothing more a peer is the same
@@ -58,73 +58,36 @@ adds_then by mid to refused p q r a b = record {
       (subst (λ (x : PeerState). ChoosesBy x.game x.me mid to refused x.entries (x.entries ++ b.more)) a.state b.choices));
 }
 
--- ---- one choice
-
--- the move is refused
-pub adds_refused : (by to : Chooser) (p q : PeerState) (mv : Move) (nonce : Nonce) → IsDrawn p by to mv nonce → next_made p.game p.me p.entries ≡ None → q ≡ p → Adds by to true p q
-adds_refused by to p q mv nonce d none e = record {
-  more = [];
-  state = e ∙ with_none p;
-  own = tt;
-  made = ap (next_made p.game p.me) (append-nil p.entries) ∙ none;
-  choices = chose_refused p by to mv nonce (p.entries ++ []) d (ap (chosen p.me) (append-nil p.entries));
-}
-
--- the choice is in the log
-chose_adds : (by to : Chooser) (p q r : PeerState) (mv : Move) (nonce : Nonce) → IsDrawn p by to mv nonce → next_made p.game p.me p.entries ≡ None →
-    q ≡ with_more (Chose (length (chosen p.me p.entries)) mv nonce ∷ []) p → IsStanding q → r ≡ record q { entries = advance q.game q.me q.entries } → Adds by to false p r
-chose_adds by to p q r mv nonce d none e s ad = record {
-  more = c ∷ a.more;
-  state = ad ∙ ap (λ (x : PeerState). record x { entries = advance x.game x.me x.entries }) e ∙ ap (λ (es : List Entry). record p { entries = es }) (a.is ∙ append_assoc p.entries (c ∷ []) a.more);
-  own = (tt, chose_next p.game p.me p.entries (length (chosen p.me p.entries)) mv nonce (subst IsStanding e s).honest none, a.run);
-  made = subst (λ (es : List Entry). next_made p.game p.me es ≡ None) (append_assoc p.entries (c ∷ []) a.more) a.ends;
-  choices = subst (λ (es : List Entry). ChoosesBy p.game p.me by to false p.entries es) (append_assoc p.entries (c ∷ []) a.more)
-      (chose_still p.game p.me by to false p.entries h (h ++ a.more) (chose_one p by to mv nonce d) a.chose);
-}
-  where
-    c : Entry
-    c = Chose (length (chosen p.me p.entries)) mv nonce
-
-    h : List Entry
-    h = p.entries ++ c ∷ []
-
-    a : Advanced p.game p.me h
-    a = advanced p.game p.me h (subst IsStanding e s).session.ahead.0
-
-chose_counts : (p q r : PeerState) (mv : Move) (nonce : Nonce) → q ≡ with_more (Chose (length (chosen p.me p.entries)) mv nonce ∷ []) p → IsStanding q → r ≡ record q { entries = advance q.game q.me q.entries } →
-    length (chosen r.me r.entries) ≡ length (chosen p.me p.entries) + 1
-chose_counts p q r mv nonce e s ad =
-    let h = p.entries ++ Chose (length (chosen p.me p.entries)) mv nonce ∷ [] in
-    let a = advanced p.game p.me h (subst IsStanding e s).session.ahead.0 in
-    ap (λ (x : PeerState). length (chosen x.me x.entries)) (ad ∙ ap (λ (x : PeerState). record x { entries = advance x.game x.me x.entries }) e)
-    ∙ ap (λ (es : List Entry). length (chosen p.me es)) a.is ∙ ap (λ (os : List Opening). length os) a.chose
-    ∙ chosen_one p.me p.entries (length (chosen p.me p.entries)) mv nonce
+-- ---- one choice is put into the log, or is not
 
 puts_none : (p q : PeerState) (mv : Move) (nonce : Nonce) (fault : Option MoveFault) → PutsChoice mv nonce fault p q → fault ≡ None → PutsChoice mv nonce None p q
 puts_none p q mv nonce fault w none = subst (λ (o : Option MoveFault). PutsChoice mv nonce o p q) none w
 
-pub chooses_on : (by to : Chooser) (p q r : PeerState) (mv : Move) (nonce : Nonce) (fault : Option MoveFault) → IsDrawn p by to mv nonce → next_made p.game p.me p.entries ≡ None →
-    PutsChoice mv nonce fault p q → fault ≡ None → r ≡ record q { entries = advance q.game q.me q.entries } → Chooses by to M.Legal p r
-chooses_on by to p q r mv nonce fault d none w is ad =
-    let k = puts_none p q mv nonce fault w is in
-    record { adds = chose_adds by to p q r mv nonce d none k.0 k.1 ad; stands = chose_counts p q r mv nonce k.0 k.1 ad }
-
-pub own_move : (by to : Chooser) (p q : PeerState) (choice : Choice) (mv : Move) (nonce : Nonce) (fault : Option MoveFault) (f : MoveFault) → IsDrawn p by to mv nonce → next_made p.game p.me p.entries ≡ None →
-    may_choose p.game p.me p.entries ≡ true → choice ≡ choice_of p.game p.me p.entries → PutsChoice mv nonce fault p q → fault ≡ Some f → Chooses by to (M.OwnMove choice.turn f) p q
-own_move by to p q choice mv nonce fault f d none may is w some =
-    let k = subst (λ (o : Option MoveFault). PutsChoice mv nonce o p q) some w in
+pub puts_move : (by to : Chooser) (p q : PeerState) (mv : Move) (nonce : Nonce) (fault : Option MoveFault) → IsDrawn p by to mv nonce → PutsChoice mv nonce fault p q → fault ≡ None → PutsMove by to M.Legal p q
+puts_move by to p q mv nonce fault d w none =
+    let k = puts_none p q mv nonce fault w none in
     record {
-      adds = adds_refused by to p q mv nonce d none k.0;
-      stands = subst (λ (x : PeerState). IsOwnMove by.plan choice.turn f x) (sym k.0) (record {
-        mv = mv;
-        chooses = may;
-        turn_is = ap (λ (x : Choice). x.turn) is;
-        planned = subst (λ (x : Choice). IfSome by.plan (λ plan. mv ≡ plan (chosen_track p.game p.me p.entries) x.turn)) (sym is) d.planned;
-        refused = k.1;
-      });
+      choices = subst (λ (x : PeerState). ChoosesBy p.game p.me by to false p.entries x.entries) (sym k.0) (chose_one p by to mv nonce d);
+      stands = record { mv = mv; nonce = nonce; state = k.0; standing = k.1 };
     }
 
--- ---- a choice that is put, or is not
+pub own_move : (by to : Chooser) (p q : PeerState) (choice : Choice) (mv : Move) (nonce : Nonce) (fault : Option MoveFault) (f : MoveFault) → IsDrawn p by to mv nonce → may_choose p.game p.me p.entries ≡ true →
+    choice ≡ choice_of p.game p.me p.entries → PutsChoice mv nonce fault p q → fault ≡ Some f → PutsMove by to (M.OwnMove choice.turn f) p q
+own_move by to p q choice mv nonce fault f d may is w some =
+    let k = subst (λ (o : Option MoveFault). PutsChoice mv nonce o p q) some w in
+    record {
+      choices = chose_refused p by to mv nonce q.entries d (ap (λ (x : PeerState). chosen p.me x.entries) k.0);
+      stands = (
+        k.0,
+        record {
+          mv = mv;
+          chooses = may;
+          turn_is = ap (λ (x : Choice). x.turn) is;
+          planned = subst (λ (x : Choice). IfSome by.plan (λ plan. mv ≡ plan (chosen_track p.game p.me p.entries) x.turn)) (sym is) d.planned;
+          refused = k.1;
+        },
+      );
+    }
 
 pub puts_choice : (p q : PeerState) (mv : Move) (nonce : Nonce) → q ≡ record p { entries = p.entries ++ Chose (length (chosen p.me p.entries)) mv nonce ∷ [] } → IsStanding q → PutsChoice mv nonce None p q
 puts_choice p q mv nonce e s = (e, s)
@@ -143,11 +106,65 @@ pub puts_fault : (p q : PeerState) (mv : Move) (nonce : Nonce) (fault : OwnFault
 puts_fault p q mv nonce NotNow may refused e = absurd (not_now p.game p.me p.entries mv may refused)
 puts_fault p q mv nonce (Illegal fault) may refused e = (e, refused)
 
--- ---- all choices
-
 pub legal_is : (made : Moves) → are_legal made ≡ true → made ≡ M.Legal
 legal_is M.Legal e = refl
 legal_is (M.OwnMove turn fault) e = absurd (false≢true e)
+
+-- ---- and the own frames are made that it lets be made
+
+-- the move is refused
+refused_adds : (by to : Chooser) (p q : PeerState) → next_made p.game p.me p.entries ≡ None → q ≡ p → ChoosesBy p.game p.me by to true p.entries q.entries → Adds by to true p q
+refused_adds by to p q none e c = record {
+  more = [];
+  state = e ∙ with_none p;
+  own = tt;
+  made = ap (next_made p.game p.me) (append-nil p.entries) ∙ none;
+  choices = chose_still p.game p.me by to true p.entries q.entries (p.entries ++ []) c (ap (chosen p.me) (append-nil p.entries) ∙ sym (ap (λ (x : PeerState). chosen p.me x.entries) e));
+}
+
+pub chooses_off : (by to : Chooser) (made : Moves) (r : Bool) (p q : PeerState) → next_made p.game p.me p.entries ≡ None → PutsMove by to made p q → r ≡ are_legal made → r ≡ false → Chooses by to made p q
+chooses_off by to M.Legal r p q none w is off = absurd (false≢true (sym off ∙ is))
+chooses_off by to (M.OwnMove turn fault) r p q none w is off = record {
+  adds = refused_adds by to p q none w.stands.0 w.choices;
+  stands = subst (IsOwnMove by.plan turn fault) (sym w.stands.0) w.stands.1;
+}
+
+-- the choice is in the log
+chose_adds : (by to : Chooser) (p q r : PeerState) → next_made p.game p.me p.entries ≡ None → PutsMove by to M.Legal p q → r ≡ record q { entries = advance q.game q.me q.entries } → Adds by to false p r
+chose_adds by to p q r none w ad = record {
+  more = c ∷ a.more;
+  state = ad ∙ ap (λ (x : PeerState). record x { entries = advance x.game x.me x.entries }) k.state ∙ ap (λ (es : List Entry). record p { entries = es }) (a.is ∙ append_assoc p.entries (c ∷ []) a.more);
+  own = (tt, chose_next p.game p.me p.entries (length (chosen p.me p.entries)) k.mv k.nonce (subst IsStanding k.state k.standing).honest none, a.run);
+  made = subst (λ (es : List Entry). next_made p.game p.me es ≡ None) (append_assoc p.entries (c ∷ []) a.more) a.ends;
+  choices = subst (λ (es : List Entry). ChoosesBy p.game p.me by to false p.entries es) (append_assoc p.entries (c ∷ []) a.more)
+      (chose_still p.game p.me by to false p.entries h (h ++ a.more) (subst (λ (x : PeerState). ChoosesBy p.game p.me by to false p.entries x.entries) k.state w.choices) a.chose);
+}
+  where
+    k : HasChoice p q
+    k = w.stands
+
+    c : Entry
+    c = Chose (length (chosen p.me p.entries)) k.mv k.nonce
+
+    h : List Entry
+    h = p.entries ++ c ∷ []
+
+    a : Advanced p.game p.me h
+    a = advanced p.game p.me h (subst IsStanding k.state k.standing).session.ahead.0
+
+chose_counts : (p q r : PeerState) → HasChoice p q → r ≡ record q { entries = advance q.game q.me q.entries } → length (chosen r.me r.entries) ≡ length (chosen p.me p.entries) + 1
+chose_counts p q r k ad =
+    let t = length (chosen p.me p.entries) in
+    ap (λ (x : PeerState). length (chosen x.me x.entries)) (ad ∙ ap (λ (x : PeerState). record x { entries = advance x.game x.me x.entries }) k.state)
+    ∙ ap (λ (os : List Opening). length os) (chosen_made p.game p.me (p.entries ++ Chose t k.mv k.nonce ∷ []))
+    ∙ chosen_one p.me p.entries t k.mv k.nonce
+
+pub chooses_on : (by to : Chooser) (made : Moves) (r : Bool) (p q s : PeerState) → next_made p.game p.me p.entries ≡ None → PutsMove by to made p q → r ≡ are_legal made → r ≡ true → s ≡ record q { entries = advance q.game q.me q.entries } → Chooses by to M.Legal p s
+chooses_on by to made r p q s none w is on ad =
+    let k = subst (λ (m : Moves). PutsMove by to m p q) (legal_is made (sym is ∙ on)) w in
+    record { adds = chose_adds by to p q s none k ad; stands = chose_counts p q s k.stands ad }
+
+-- ---- all choices
 
 pub adds_on : (by mid to : Chooser) (made : Moves) (r : Bool) (p q s : PeerState) → Adds by mid false p q → Chooses mid to made q s → r ≡ are_legal made → r ≡ true → Adds by to false p s
 adds_on by mid to made r p q s a c is on =

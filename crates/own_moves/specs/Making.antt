@@ -17,7 +17,7 @@ use Rattle.peer_core.specs.Standing.{IsStanding}
 use Rattle.own_moves.specs.declared.making.Moves.{Moves}
 use Rattle.own_moves.specs.declared.making.Moves.TheVariants as M
 use Rattle.own_moves.specs.Choices.{Chooser, ChoosesBy}
-use Rattle.own_moves.specs.Order.{OwnRun}
+use Rattle.peer_rules.specs.Order.{OwnRun}
 
 -- the peer with these entries more
 abbrev pub with_more : List Entry → PeerState → PeerState
@@ -50,6 +50,23 @@ pub record IsOwnMove (plan : Option Plan) (turn : ℕ) (fault : MoveFault) (q : 
 abbrev pub PutsChoice : Move → Nonce → Option MoveFault → PeerState → PeerState → Type 0
 PutsChoice mv nonce None p q = (q ≡ with_more (Chose (length (chosen p.me p.entries)) mv nonce ∷ []) p) × IsStanding q
 PutsChoice mv nonce (Some fault) p q = (q ≡ p) × (choice_fault p.game p.me p.entries mv ≡ Some (Illegal fault))
+
+-- the log is the one before and one choice more, and is honest
+pub record HasChoice (p q : PeerState) : Type 0 where
+  pub mv : Move
+  pub nonce : Nonce
+  pub state : q ≡ with_more (Chose (length (chosen p.me p.entries)) mv nonce ∷ []) p
+  pub standing : IsStanding q
+
+-- one choice is in the log, or the pilot's move is not legal and the log stays as it was
+abbrev pub StandsPut : Option Plan → Moves → (p q : PeerState) → Type 0
+StandsPut plan M.Legal p q = HasChoice p q
+StandsPut plan (M.OwnMove turn fault) p q = (q ≡ p) × IsOwnMove plan turn fault p
+
+-- one move is put into the log, or is not legal, and the choice is the chooser's; no frame is made
+pub record PutsMove (by to : Chooser) (made : Moves) (p q : PeerState) : Type 0 where
+  pub choices : ChoosesBy p.game p.me by to (is_refused made) p.entries q.entries
+  pub stands : StandsPut by.plan made p q
 
 -- why it ended so: nothing may be chosen, or a move is not legal
 abbrev pub StandsAs : Option Plan → Moves → PeerState → Type 0

@@ -4,7 +4,7 @@ ghost use Rattle.std.specs.Prelude.{◌≡◌, true, None};
 ghost use Rattle.definitions.specs.Needs.{may_choose};
 ghost use Rattle.definitions.specs.Advance.{next_made};
 ghost use Rattle.own_moves.specs.Choices.{chooser};
-ghost use Rattle.own_moves.specs.Making.{Chooses, MakesAll, PutsChoice, are_legal, illegal_of};
+ghost use Rattle.own_moves.specs.Making.{Chooses, MakesAll, PutsChoice, PutsMove, are_legal, illegal_of};
 
 use definitions::{Move, MoveFault, Nonce, OwnFault, Turn};
 use peer_core::Peer;
@@ -51,11 +51,12 @@ fn put_choice(peer: &mut Peer, mv: Move, nonce: Nonce) -> Option<MoveFault>
     None
 }
 
-/// Chooses the next own move, and makes the own frames that it lets be made.
-fn choose_next<P: Pilot, R: Rng>(peer: &mut Peer, pilot: &mut P, chance: &mut R) -> Moves
-    requires made { next_made peer.old.game peer.old.me peer.old.entries ≡ None }
+/// Chooses the next own move: the pilot's, with the nonce that the generator gives next. Both are
+/// put into the log, or where the move is not legal its first fault is told, and the log stays as
+/// it was. No own frame is made.
+pub fn choose_move<P: Pilot, R: Rng>(peer: &mut Peer, pilot: &mut P, chance: &mut R) -> Moves
     requires chooses { may_choose peer.old.game peer.old.me peer.old.entries ≡ true }
-    ensures { Chooses (chooser (P.plan pilot.old) (R.stream chance.old)) (chooser (P.plan pilot.new) (R.stream chance.new)) result peer.old peer.new }
+    ensures { PutsMove (chooser (P.plan pilot.old) (R.stream chance.old)) (chooser (P.plan pilot.new) (R.stream chance.new)) result peer.old peer.new }
 {
     let choice = peer.choice();
     let mv = pilot.choose(&choice.track, choice.turn);
@@ -63,6 +64,19 @@ fn choose_next<P: Pilot, R: Rng>(peer: &mut Peer, pilot: &mut P, chance: &mut R)
     chance.fill_bytes(&mut bytes);
     if let Some(fault) = put_choice(peer, mv, Nonce { bytes }) {
         return Moves::OwnMove(choice.turn, fault);
+    }
+    Moves::Legal
+}
+
+/// Chooses the next own move, and makes the own frames that it lets be made.
+fn choose_next<P: Pilot, R: Rng>(peer: &mut Peer, pilot: &mut P, chance: &mut R) -> Moves
+    requires made { next_made peer.old.game peer.old.me peer.old.entries ≡ None }
+    requires chooses { may_choose peer.old.game peer.old.me peer.old.entries ≡ true }
+    ensures { Chooses (chooser (P.plan pilot.old) (R.stream chance.old)) (chooser (P.plan pilot.new) (R.stream chance.new)) result peer.old peer.new }
+{
+    let made = choose_move(peer, pilot, chance);
+    if !are_legal(&made) {
+        return made;
     }
     peer.advance();
     Moves::Legal

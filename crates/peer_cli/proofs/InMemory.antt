@@ -18,6 +18,7 @@ use Rattle.run_frame.specs.Outside.{IsApart}
 use Rattle.run_frame.specs.Runs.{Acts, ReadsOn, Runs}
 use Rattle.rand_core.specs.Stream.{Stream}
 use Rattle.socket_station.specs.Items.{Item}
+use Rattle.datagram_post.specs.Items.{Item as Mailing}
 use Rattle.peer_cli.specs.Memory.{ActsInMemory, contents_of, outside_of}
 
 -- what was left is what was read and what is left
@@ -46,9 +47,9 @@ shown_are files (name ∷ names) (pieces ∷ calls) r (suc n) = shown_are files 
 files_are : (law : Law) (shelf : HeldShelf) (read : ShelfState) (calls : Calls) → ReadsFor law (shelf_state shelf) read calls → AreContents (contents_of law shelf) calls
 files_are law shelf read calls r = shown_are (content_in shelf.files) law.names calls r.reads.readings
 
-pub ran_in_memory : (law : Law) (i i' : HeldSource) (a b : HeldSink) (h h' : HeldShelf) (items items' : List Item) (chance later : Stream) (s : Status) →
-    Runs law (outside_of i a h items chance) (outside_of i' b h' items' later) s → ActsInMemory law i i' a b h h' items items' chance later s
-ran_in_memory law i i' a b h h' items items' chance later s r = record {
+pub ran_in_memory : (law : Law) (i i' : HeldSource) (a b : HeldSink) (h h' : HeldShelf) (items items' : List Item) (mails mails' : List Mailing) (chance later : Stream) (s : Status) →
+    Runs law (outside_of i a h items mails chance) (outside_of i' b h' items' mails' later) s → ActsInMemory law i i' a b h h' items items' mails mails' chance later s
+ran_in_memory law i i' a b h h' items items' mails mails' chance later s r = record {
   read = since i.seen i'.seen;
   input_is = left_is i i' r.input;
   text = elim (r.text (contents_of law h) (bytes_left i'.left) (record { given = files_are law h r.read r.calls r.files; follows = none_left i'.left })) [

@@ -38,6 +38,17 @@ judges_none (a ∷ b ∷ []) e = absurd (false≢true (sym e))
 judges_none (a ∷ b ∷ c ∷ []) e = absurd (false≢true (sym e))
 judges_none (a ∷ b ∷ c ∷ d ∷ more) e = refl
 
+-- of a command that takes six words
+posts_none : (words : List (List ℕ)) → takes N.Post (length words) ≡ false → command_in N.Post words ≡ None
+posts_none [] e = refl
+posts_none (a ∷ []) e = refl
+posts_none (a ∷ b ∷ []) e = refl
+posts_none (a ∷ b ∷ c ∷ []) e = refl
+posts_none (a ∷ b ∷ c ∷ d ∷ []) e = refl
+posts_none (a ∷ b ∷ c ∷ d ∷ f ∷ []) e = refl
+posts_none (a ∷ b ∷ c ∷ d ∷ f ∷ g ∷ []) e = absurd (false≢true (sym e))
+posts_none (a ∷ b ∷ c ∷ d ∷ f ∷ g ∷ h ∷ more) e = refl
+
 -- of a command that takes three words, or four
 roots_none : (words : List (List ℕ)) → takes N.Root (length words) ≡ false → command_in N.Root words ≡ None
 roots_none [] e = refl
@@ -133,6 +144,7 @@ untaken N.Drive words e = drives_none words e
 untaken N.Judge words e = judges_none words e
 untaken N.Make words e = one_none (command_in N.Make) words refl (λ a b more. refl) e
 untaken N.Peer words e = peers_none words e
+untaken N.Post words e = posts_none words e
 untaken N.Root words e = roots_none words e
 untaken N.Schedule words e = one_none (command_in N.Schedule) words refl (λ a b more. refl) e
 untaken N.Seal words e = seals_none words e

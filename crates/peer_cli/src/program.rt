@@ -11,6 +11,7 @@ ghost use Rattle.peer_cli.specs.Lines.{command_on};
 
 use crate::words;
 use command_line::{OwnLine, split_words};
+use datagram_post::Post;
 use peer_runs::{is_command, obey};
 use rand_core::Rng;
 use run_frame::{Status, refuse};
@@ -19,48 +20,52 @@ use station::{Shelf, Sink, Source};
 use std::alloc::Global;
 
 /// Does what a command line asks for, but for the last line of a refusal.
-fn obey_line<I: Source, O: Sink, H: Shelf, S: Station, R: Rng>(
+fn obey_line<I: Source, O: Sink, H: Shelf, S: Station, D: Post, R: Rng>(
     alloc: Global,
     line: &Option<OwnLine>,
     input: &mut I,
     out: &mut O,
     shelf: &mut H,
     station: &mut S,
+    post: &mut D,
     chance: &mut R,
 ) -> Status
     requires first { S.history station.old ≡ [] }
+    requires unposted { D.history post.old ≡ [] }
     ensures { Works (law_of (option_and_then command_on (option_map owned line.now)))
-        (outside (I.state input.old) (O.state out.old) (H.state shelf.old) (S.history station.old) (R.stream chance.old))
-        (outside (I.state input.new) (O.state out.new) (H.state shelf.new) (S.history station.new) (R.stream chance.new)) result }
+        (outside (I.state input.old) (O.state out.old) (H.state shelf.old) (S.history station.old) (D.history post.old) (R.stream chance.old))
+        (outside (I.state input.new) (O.state out.new) (H.state shelf.new) (S.history station.new) (D.history post.new) (R.stream chance.new)) result }
 {
     match words::command_on(line) {
         None => Status::Usage,
-        Some(command) => obey(alloc, command, input, out, shelf, station, chance),
+        Some(command) => obey(alloc, command, input, out, shelf, station, post, chance),
     }
 }
 
 /// Does what the words ask for, but for the last line of a refusal. Words that are no command are told so before clap is
 /// asked, which takes memory.
-fn work<I: Source, O: Sink, H: Shelf, S: Station, R: Rng>(
+fn work<I: Source, O: Sink, H: Shelf, S: Station, D: Post, R: Rng>(
     alloc: Global,
     words: &[Vec<u8>],
     input: &mut I,
     out: &mut O,
     shelf: &mut H,
     station: &mut S,
+    post: &mut D,
     chance: &mut R,
 ) -> Status
     requires first { S.history station.old ≡ [] }
+    requires unposted { D.history post.old ≡ [] }
     ensures { Works (law_of (command_of (map (λ w. w.items) words.now)))
-        (outside (I.state input.old) (O.state out.old) (H.state shelf.old) (S.history station.old) (R.stream chance.old))
-        (outside (I.state input.new) (O.state out.new) (H.state shelf.new) (S.history station.new) (R.stream chance.new)) result }
+        (outside (I.state input.old) (O.state out.old) (H.state shelf.old) (S.history station.old) (D.history post.old) (R.stream chance.old))
+        (outside (I.state input.new) (O.state out.new) (H.state shelf.new) (S.history station.new) (D.history post.new) (R.stream chance.new)) result }
 {
     if !is_command(words) {
         return Status::Usage;
     }
     match split_words(alloc, words) {
         Err(_) => Status::NoMemory,
-        Ok(line) => obey_line(alloc, &line, input, out, shelf, station, chance),
+        Ok(line) => obey_line(alloc, &line, input, out, shelf, station, post, chance),
     }
 }
 
@@ -78,6 +83,8 @@ fn work<I: Source, O: Sink, H: Shelf, S: Station, R: Rng>(
 /// - `peer SESSION ROSTER MOVES PLAYER POLLS LOG [OLD]` plays for the player with those of the roster,
 ///   over sockets, by the moves in the file MOVES, with nonces of the generator and a log of the name
 ///   LOG, with at most POLLS polls, from the log in the file OLD on, if one is named;
+/// - `post SESSION ROSTER MOVES PLAYER POLLS LOG` plays as `peer` does, over datagrams, which may be
+///   lost, repeated and reordered, and from no older log on;
 /// - `root SESSION PLAYER SEED` tells the root of the player's keys;
 /// - `schedule SESSION` steps the honest peers of a match by the lines of the input;
 /// - `seal SESSION PLAYER SEED LOG` writes each frame that the player made, with its seal;
@@ -86,45 +93,50 @@ fn work<I: Source, O: Sink, H: Shelf, S: Station, R: Rng>(
 ///   most POLLS polls, and prints what they show together.
 ///
 /// The words are asked first, then the session, the player, the other files in their order, and then
-/// the input line by line; the first that is refused decides. No call of the station was made before.
-pub fn run<I: Source, O: Sink, H: Shelf, S: Station, R: Rng>(
+/// the input line by line; the first that is refused decides. No call of the station or the post was
+/// made before.
+pub fn run<I: Source, O: Sink, H: Shelf, S: Station, D: Post, R: Rng>(
     alloc: Global,
     words: &[Vec<u8>],
     input: &mut I,
     out: &mut O,
     shelf: &mut H,
     station: &mut S,
+    post: &mut D,
     chance: &mut R,
 ) -> Status
     requires first { S.history station.old ≡ [] }
+    requires unposted { D.history post.old ≡ [] }
 
     // The law of the command that the words say: what is read and written, why each status comes, what is left alone,
     // when the run comes to its end, and what is behind it.
     ensures { Runs (law_of (command_of (map (λ w. w.items) words.now)))
-        (outside (I.state input.old) (O.state out.old) (H.state shelf.old) (S.history station.old) (R.stream chance.old))
-        (outside (I.state input.new) (O.state out.new) (H.state shelf.new) (S.history station.new) (R.stream chance.new)) result }
+        (outside (I.state input.old) (O.state out.old) (H.state shelf.old) (S.history station.old) (D.history post.old) (R.stream chance.old))
+        (outside (I.state input.new) (O.state out.new) (H.state shelf.new) (S.history station.new) (D.history post.new) (R.stream chance.new)) result }
 {
-    let status = work(alloc, words, input, out, shelf, station, chance);
+    let status = work(alloc, words, input, out, shelf, station, post, chance);
     refuse(status, out)
 }
 
 /// As [`run`], for a program: it answers the exit status that tells how the run ended.
-pub fn exit_status<I: Source, O: Sink, H: Shelf, S: Station, R: Rng>(
+pub fn exit_status<I: Source, O: Sink, H: Shelf, S: Station, D: Post, R: Rng>(
     alloc: Global,
     words: &[Vec<u8>],
     input: &mut I,
     out: &mut O,
     shelf: &mut H,
     station: &mut S,
+    post: &mut D,
     chance: &mut R,
 ) -> u8
     requires first { S.history station.old ≡ [] }
+    requires unposted { D.history post.old ≡ [] }
 
     // The run ended so by its law, and this is the number of that status.
     ensures { (status : Ended) × Runs (law_of (command_of (map (λ w. w.items) words.now)))
-        (outside (I.state input.old) (O.state out.old) (H.state shelf.old) (S.history station.old) (R.stream chance.old))
-        (outside (I.state input.new) (O.state out.new) (H.state shelf.new) (S.history station.new) (R.stream chance.new)) status ×
+        (outside (I.state input.old) (O.state out.old) (H.state shelf.old) (S.history station.old) (D.history post.old) (R.stream chance.old))
+        (outside (I.state input.new) (O.state out.new) (H.state shelf.new) (S.history station.new) (D.history post.new) (R.stream chance.new)) status ×
         (result ≡ code_of status) }
 {
-    run(alloc, words, input, out, shelf, station, chance).code()
+    run(alloc, words, input, out, shelf, station, post, chance).code()
 }

@@ -5,11 +5,12 @@ use Rattle.definitions.specs.declared.logs.Entry.{Entry}
 use Rattle.socket_station.specs.Faults.{is_keep_call, is_poll_call}
 use Rattle.socket_station.specs.Items.{Item, Call}
 use Rattle.socket_station.specs.Items as I
-use Rattle.loop_rules.specs.declared.phases.Phase.{Phase}
-use Rattle.loop_rules.specs.declared.phases.Phase.TheVariants.{Fresh, Logged, Running, KeepFault, PollFault}
+use Rattle.peer_rules.specs.declared.phases.Phase.{Phase}
+use Rattle.peer_rules.specs.declared.phases.Phase.TheVariants.{Fresh, Logged, Running, KeepFault, PollFault}
 use Rattle.loop_rules.specs.Settings.{Setting}
 use Rattle.loop_rules.specs.Views.{View, start}
-use Rattle.loop_rules.specs.Keeping.{entry_in, kept_entry, with_entry}
+use Rattle.loop_rules.specs.Keeping.{kept_entry, with_entry}
+use Rattle.peer_rules.specs.Entries.{entry_in}
 use Rattle.loop_rules.specs.After.{after, after_failed, view_of}
 use Rattle.loop_rules.specs.Histories.{IsHistory}
 use Rattle.loop_rules.specs.Laws.{FaultsAreLast, ends_run}

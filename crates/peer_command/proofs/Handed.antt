@@ -11,7 +11,7 @@ use Rattle.socket_station.specs.Items.{Item, ListenCall, LogCall, DialCall, Poll
 use Rattle.socket_station.specs.Moved.{kept_at, kept_in}
 use Rattle.loop_rules.specs.Settings.{Setting}
 use Rattle.loop_rules.specs.Views.{View, start}
-use Rattle.loop_rules.specs.Keeping.{entry_in}
+use Rattle.peer_rules.specs.Entries.{entry_in}
 use Rattle.loop_rules.specs.After.{after, view_after, view_of}
 use Rattle.loop_rules.specs.Rules.{is_allowed}
 use Rattle.loop_rules.specs.Histories.{are_allowed, IsHistory}

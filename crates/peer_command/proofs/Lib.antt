@@ -1,4 +1,3 @@
-pub mod Unsents
 pub mod Failures
 pub mod Steps
 pub mod Played
@@ -12,7 +11,6 @@ mod Left
 mod Honest
 mod Handed
 pub mod Survived
-mod Seated
 mod Completing
 pub mod PeerHolds
 mod OverSockets

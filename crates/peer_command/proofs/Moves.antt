@@ -11,15 +11,15 @@ use Rattle.session_log.specs.Writing.{Writing, chain_of, mark_of, written}
 use Rattle.session_log.proofs.Found.{length-sha256}
 use Rattle.socket_station.specs.Items.{Item, ListenCall, LogCall, DialCall, PollCall, ReadCall, WriteCall, KeepCall, SyncCall, Listening, LogBegun, Dialled, Polled, Took, Gave, ReadNotYet, WriteNotYet, Ended, Failed, Shut, Kept, Synced}
 use Rattle.socket_station.specs.Moved.{Log, log_after}
-use Rattle.loop_rules.specs.declared.phases.Phase.{Phase}
-use Rattle.loop_rules.specs.declared.phases.Phase.TheVariants.{Logged, Running, KeepFault, PollFault}
+use Rattle.peer_rules.specs.declared.phases.Phase.{Phase}
+use Rattle.peer_rules.specs.declared.phases.Phase.TheVariants.{Logged, Running, KeepFault, PollFault}
 use Rattle.loop_rules.specs.Tables.{Table}
 use Rattle.loop_rules.specs.Views.{View}
-use Rattle.loop_rules.specs.Keeping.{entry_in, may_keep_in, may_keep_as, with_entry, kept_entry}
+use Rattle.loop_rules.specs.Keeping.{may_keep_in, may_keep_as, with_entry, kept_entry}
+use Rattle.peer_rules.specs.Entries.{entry_in}
 use Rattle.loop_rules.specs.After.{after, with_table}
-use Rattle.loop_rules.specs.Licence.{is_running}
-use Rattle.loop_rules.specs.Rules.{is_logged, is_over_kept, is_allowed}
-use Rattle.loop_rules.proofs.Fair.{is_early}
+use Rattle.peer_rules.specs.Phases.{is_running, is_logged, is_early}
+use Rattle.loop_rules.specs.Rules.{is_over_kept, is_allowed}
 use Rattle.loop_rules.proofs.Kept.{Keeps, keeps_took, keeps_sorted}
 
 -- the entries taken over are kept: the loop listens, or is about to

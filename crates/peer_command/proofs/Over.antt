@@ -10,8 +10,8 @@ use Rattle.socket_station.specs.Items.{Item}
 use Rattle.socket_station.specs.Moved.{synced_in}
 use Rattle.loop_rules.specs.Settings.{Setting}
 use Rattle.loop_rules.specs.Views.{View, start}
-use Rattle.loop_rules.specs.Licence.{is_running}
-use Rattle.loop_rules.specs.Rules.{is_logged, is_over_kept}
+use Rattle.peer_rules.specs.Phases.{is_running, is_logged}
+use Rattle.loop_rules.specs.Rules.{is_over_kept}
 use Rattle.loop_rules.specs.After.{after, view_after, view_of}
 use Rattle.loop_rules.specs.Histories.{are_allowed, IsHistory}
 use Rattle.peer_command.proofs.Moves.{Moves, moves}

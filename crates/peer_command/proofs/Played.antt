@@ -1,7 +1,6 @@
 -- Played: a run from the first call of its loop to its end, and what its station told.
 use Rattle.std.proofs.Common.{inr, ◌≡◌, ℕ, false, List, [], Option, ap, sym, refl, ◌∙◌, subst, append-nil, take, arith}
 use Rattle.std.proofs.Math.Seq.{take-length}
-use Rattle.definitions.specs.declared.logs.Entry.{Entry}
 use Rattle.definitions.specs.Honest.{IsHonest}
 use Rattle.definitions.specs.Logs.{chosen}
 use Rattle.station.specs.Sinks.{SinkState}
@@ -10,8 +9,8 @@ use Rattle.rosters.specs.Rosters.{Neighbours}
 use Rattle.pilots.specs.Plans.{Plan}
 use Rattle.peer_core.specs.Standing.{IsStanding}
 use Rattle.peer_core.specs.Views.{PeerState}
-use Rattle.loop_rules.specs.declared.phases.Phase.{Phase}
-use Rattle.loop_rules.specs.declared.phases.Phase.TheVariants.{Running, KeepFault, PollFault}
+use Rattle.peer_rules.specs.declared.phases.Phase.{Phase}
+use Rattle.peer_rules.specs.declared.phases.Phase.TheVariants.{Running, KeepFault, PollFault}
 use Rattle.loop_rules.specs.Histories.{IsHistory}
 use Rattle.loop_rules.specs.Laws.{FailedPollsAreLicensed, FaultsAreLast, GivenIsDue, KeptIsHonest, PrefixesAreHistories, RevealsGivenAreFair}
 use Rattle.loop_rules.specs.Runs.{LogsAreRuns}
@@ -21,16 +20,17 @@ use Rattle.loop_rules.proofs.Kept.{keeps_sorted}
 use Rattle.definition_laws.proofs.Fair.{honest_fair}
 use Rattle.run_frame.specs.Frame.{Ends}
 use Rattle.run_frame.specs.declared.statuses.Status.{Status}
-use Rattle.ready_loop.specs.declared.beginning.Begun.TheVariants as B
-use Rattle.ready_loop.specs.declared.polling.Ended.{Ended}
-use Rattle.ready_loop.specs.declared.polling.Ended.TheVariants as E
+use Rattle.loop_ends.specs.declared.ends.Begun.TheVariants as B
+use Rattle.loop_ends.specs.declared.ends.Ended.{Ended}
+use Rattle.loop_ends.specs.declared.ends.Ended.TheVariants as E
 use Rattle.ready_loop.specs.States.{LoopState, base_of, rest_of, view_of}
-use Rattle.ready_loop.specs.Choices.{Chooser, ChoosesBy}
+use Rattle.own_moves.specs.Choices.{Chooser, ChoosesBy}
 use Rattle.ready_loop.specs.Beginning.{Begins, IsNew, given_by, new_loop}
 use Rattle.ready_loop.specs.Laws.{BeginningsAreHistories, RunsAreWhole}
 use Rattle.ready_loop.specs.Polling as L
 use Rattle.ready_loop.proofs.Whole.{new_setting}
-use Rattle.peer_command.specs.Ends.{peer_answer}
+use Rattle.ready_loop.specs.Counts.{held_by}
+use Rattle.match_ends.specs.Ends.{match_answer}
 use Rattle.peer_command.specs.Fair.{IsFairMatch}
 use Rattle.peer_command.specs.Faults.{StandsByFaults}
 use Rattle.peer_command.specs.Plays.{PlayedOut, PlaysOut}
@@ -53,7 +53,7 @@ module _ (prefixes : PrefixesAreHistories) (given_is_due : GivenIsDue) (reveals_
 
   -- the loop of a run, and what was written at its end
   pub a_match : (dropped : Option ℕ) (log : List ℕ) (polls : ℕ) (by to : Chooser) (ended : Ended) (l n : LoopState) (before now : SinkState) (status : Status) → l ≡ new_loop p r →
-      PlaysOut log by to polls ended l n items → Ends before now (peer_answer dropped polls ended n) status →
+      PlaysOut log by to polls ended l n items → Ends before now (match_answer dropped polls ended n.peer (held_by n)) status →
       PlayedOut (record { peer = p; roster = r; dropped = dropped; log = log; polls = polls }) by to items before now status
   a_match dropped log polls by to ended l n before now status new plays written =
       let w : PlaysOut log by to polls ended (new_loop p r) n items = subst (λ (x : LoopState). PlaysOut log by to polls ended x n items) new plays in

@@ -40,12 +40,12 @@ use Rattle.loop_rules.specs.Laws.{FailedPollsAreLicensed}
 use Rattle.loop_rules.specs.Runs.{GoesAsRun, LogsAreRuns}
 use Rattle.loop_rules.specs.Told.{IsTold}
 use Rattle.loop_rules.proofs.Kept.{Keeps, keeps_sorted}
-use Rattle.ready_loop.specs.declared.polling.Ended.{Ended}
-use Rattle.ready_loop.specs.declared.polling.Ended.TheVariants as E
+use Rattle.loop_ends.specs.declared.ends.Ended.{Ended}
+use Rattle.loop_ends.specs.declared.ends.Ended.TheVariants as E
 use Rattle.ready_loop.specs.States.{LoopState, base_of, kept_of, rest_of, view_of}
 use Rattle.ready_loop.specs.Beginning.{given_by, new_loop}
 use Rattle.ready_loop.specs.Laws.{IsRun}
-use Rattle.ready_loop.specs.Choices.{Chooser}
+use Rattle.own_moves.specs.Choices.{Chooser}
 use Rattle.ready_loop.specs.Polling.{StandsEnded}
 use Rattle.run_frame.specs.FailedCalls.{EndsBy, FailsNone}
 use Rattle.peer_command.specs.Faults.{StandsByFaults, is_listen_call}

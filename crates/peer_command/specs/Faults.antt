@@ -3,8 +3,8 @@ use Rattle.std.specs.Prelude.{Bool, true, false, List}
 use Rattle.socket_station.specs.Faults.{is_keep_call, is_poll_call}
 use Rattle.socket_station.specs.Items.{Item, Call, ListenCall}
 use Rattle.run_frame.specs.FailedCalls.{EndsBy, FailsNone}
-use Rattle.ready_loop.specs.declared.polling.Ended.{Ended}
-use Rattle.ready_loop.specs.declared.polling.Ended.TheVariants as E
+use Rattle.loop_ends.specs.declared.ends.Ended.{Ended}
+use Rattle.loop_ends.specs.declared.ends.Ended.TheVariants as E
 
 -- `listen` alone
 abbrev pub is_listen_call : Call → Bool

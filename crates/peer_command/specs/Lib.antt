@@ -1,9 +1,6 @@
-pub mod Words
-pub mod Ends
 pub mod Fair
 pub mod Faults
 pub mod Steps
 pub mod Plays
 pub mod Crashes
-pub mod Seats
 pub mod PeerLaw

@@ -7,15 +7,16 @@ use Rattle.rosters.specs.Rosters.{Neighbours}
 use Rattle.peer_core.specs.Views.{PeerState}
 use Rattle.run_frame.specs.Frame.{Ends}
 use Rattle.run_frame.specs.declared.statuses.Status.{Status}
-use Rattle.run_frame.specs.declared.statuses.Status.TheVariants.{NoMemory}
-use Rattle.ready_loop.specs.declared.polling.Ended.{Ended}
-use Rattle.ready_loop.specs.declared.polling.Ended.TheVariants as E
+use Rattle.loop_ends.specs.declared.ends.Ended.{Ended}
+use Rattle.loop_ends.specs.declared.ends.Ended.TheVariants as E
 use Rattle.ready_loop.specs.States.{LoopState}
-use Rattle.ready_loop.specs.Choices.{Chooser}
+use Rattle.own_moves.specs.Choices.{Chooser}
 use Rattle.ready_loop.specs.Beginning.{new_loop}
+use Rattle.ready_loop.specs.Counts.{held_by}
 use Rattle.ready_loop.specs.Laws.{IsRun}
-use Rattle.peer_command.specs.Ends.{peer_answer}
+use Rattle.match_ends.specs.Ends.{match_answer}
 use Rattle.peer_command.specs.Fair.{IsFairMatch}
+use Rattle.seat_files.specs.Unplayed.{MadeNoCall}
 use Rattle.run_frame.specs.FailedCalls.{FailsNone}
 use Rattle.peer_command.specs.Faults.{StandsByFaults, is_listen_call}
 use Rattle.peer_command.specs.Steps.{IsLogRun}
@@ -48,14 +49,7 @@ pub record PlayedOut (s : Start) (by to : Chooser) (items : List Item) (before n
   pub fair : IsFairMatch s.peer s.roster items
   -- and where it listened, and no call of the log failed, the peer's log at the end is the protocol's run
   pub steps : (ended ≡ E.KeepFault → ⊥) → FailsNone is_listen_call items → IsLogRun s.peer last.peer.entries
-  pub written : Ends before now (peer_answer s.dropped s.polls ended last) status
-
--- Memory was wanting, and no call was made and nothing written.
-pub record MadeNoCall (by to : Chooser) (items items' : List Item) (before now : SinkState) (status : Status) : Type 0 where
-  pub lacks : status ≡ NoMemory
-  pub calls : items' ≡ items
-  pub chooser : to ≡ by
-  pub written : now ≡ before
+  pub written : Ends before now (match_answer s.dropped s.polls ended last.peer (held_by last)) status
 
 abbrev pub PlaysPeer : Start → (by to : Chooser) → (items items' : List Item) → (before now : SinkState) → Status → Type 0
-PlaysPeer s by to items items' before now status = MadeNoCall by to items items' before now status ⊎ PlayedOut s by to items' before now status
+PlaysPeer s by to items items' before now status = MadeNoCall Chooser Item by to items items' before now status ⊎ PlayedOut s by to items' before now status

@@ -4,7 +4,7 @@ use Rattle.definitions.specs.declared.logs.Entry.{Entry}
 use Rattle.definitions.specs.Advance.{advance}
 use Rattle.definitions.specs.Steps.{log_run}
 use Rattle.peer_core.specs.Views.{PeerState}
-use Rattle.loop_rules.specs.Runs.{steps_told}
+use Rattle.peer_rules.specs.Steps.{steps_told}
 
 -- The log is the protocol's run that begins with the entries taken over, advanced, and takes as its steps the log's own choices and the frames that
 -- came behind those entries, in their order. So each own frame stands in it as soon as it may be made, and none is left to be made.

@@ -4,13 +4,12 @@ ghost use Rattle.std.specs.Prelude.{◌≡◌, []};
 ghost use Rattle.run_frame.specs.Outside.{Outside, with_sockets};
 ghost use Rattle.run_frame.specs.Runs.{Works};
 ghost use Rattle.peer_command.specs.PeerLaw.{peer_law};
-ghost use Rattle.peer_command.specs.Words.{peering_said};
+ghost use Rattle.seat_files.specs.Words.{peering_said};
 
 use crate::playing::play_peer;
-use crate::seats::{Seat, open_seat};
-use crate::words::PeerWords;
 use rand_core::Rng;
 use run_frame::Status;
+use seat_files::{PeerWords, Seat, open_seat};
 use socket_station::Station;
 use station::{Shelf, Sink};
 use std::alloc::Global;

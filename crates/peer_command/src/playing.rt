@@ -4,14 +4,14 @@ ghost use Rattle.std.specs.Prelude.{◌≡◌, []};
 ghost use Rattle.definitions.specs.World.{players_of};
 ghost use Rattle.rosters.specs.Rosters.{LinksOthers};
 ghost use Rattle.ready_loop.specs.Beginning.{IsNew};
-ghost use Rattle.ready_loop.specs.Choices.{chooser};
+ghost use Rattle.own_moves.specs.Choices.{chooser};
 ghost use Rattle.peer_command.specs.Plays.{PlaysOut, PlaysPeer};
 
-use crate::ends::end;
 use loop_rules::laws::{
     faults_are_last, given_is_due, histories_grow_by_items, kept_logs_are_honest, logs_are_runs,
     polls_are_licensed, reveals_given_are_fair,
 };
+use match_ends::end;
 use peer_core::Peer;
 use pilots::Pilot;
 use rand_core::Rng;

@@ -15,6 +15,7 @@ use Rattle.key_commands.proofs.RootHolds.{root_holds}
 use Rattle.key_commands.proofs.SealHolds.{seal_holds}
 use Rattle.make_command.proofs.MakeHolds.{make_holds}
 use Rattle.peer_command.proofs.PeerHolds.{peer_holds}
+use Rattle.post_command.proofs.PostHolds.{post_holds}
 use Rattle.schedule_command.proofs.ScheduleHolds.{schedule_holds}
 use Rattle.watch_command.proofs.WatchHolds.{watch_holds}
 use Rattle.peer_runs.specs.Commands.{Command, law_of}
@@ -30,6 +31,7 @@ no_memory (C.Accuse a) outside = unremembered _ (accuse_holds a) refl outside
 no_memory (C.Schedule session) outside = unremembered _ (schedule_holds session) refl outside
 no_memory (C.Make number) outside = unremembered _ (make_holds number) refl outside
 no_memory (C.Peer p) outside = unremembered _ (peer_holds p) refl outside
+no_memory (C.Post p) outside = unremembered _ (post_holds p) refl outside
 no_memory (C.Deposit d) outside = unremembered _ (deposit_holds d) refl outside
 no_memory (C.Root k) outside = unremembered _ (root_holds k) refl outside
 no_memory (C.Seal s) outside = unremembered _ (seal_holds s) refl outside

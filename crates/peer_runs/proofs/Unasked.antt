@@ -28,7 +28,7 @@ unasked outside = works usage_law usage_holds outside outside Usage (record {
   files = record { reads = record { same = refl; answered = sym (append-nil outside.shelf.pieces); readings = refl }; due = refl };
   asked = refl;
   input = record { same = refl; grows = grows_none outside.input.seen };
-  text = λ contents behind m. inl (record { station = refl; chance = refl }, (sym (bytes_none outside.output), refl));
+  text = λ contents behind m. inl (record { station = refl; post = refl; chance = refl }, (sym (bytes_none outside.output), refl));
   memory = tt;
   faults = (record { source = refl; files = refl }, refl);
   untouched = record { over = λ contents behind m over. refl; no_memory = tt };

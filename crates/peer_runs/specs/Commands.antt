@@ -31,7 +31,8 @@ use Rattle.key_commands.specs.Words.{Keying, Sealing, keying_in, keying_said, se
 use Rattle.make_command.specs.MakeLaw.{make_law}
 use Rattle.make_command.specs.Words.{making_in}
 use Rattle.peer_command.specs.PeerLaw.{peer_law}
-use Rattle.peer_command.specs.Words.{Peering, peering_in, peering_said}
+use Rattle.post_command.specs.PostLaw.{post_law}
+use Rattle.seat_files.specs.Words.{Peering, peering_in, peering_said, posting_in, posting_said}
 use Rattle.schedule_command.specs.ScheduleLaw.{schedule_law}
 use Rattle.schedule_command.specs.Words.{scheduling_in}
 use Rattle.watch_command.specs.WatchLaw.{watch_law}
@@ -50,6 +51,7 @@ pub data Command : Type 0 where
   Schedule : (session : List ℕ) → Command
   Make : (number : ℕ) → Command
   Peer : Peering → Command
+  Post : Peering → Command
   Deposit : Depositing → Command
   Root : Keying → Command
   Seal : Sealing → Command
@@ -66,6 +68,7 @@ command_said (said.Accuse accusing) = Accuse (accusing_said accusing)
 command_said (said.Schedule session) = Schedule session.now
 command_said (said.Make number) = Make number
 command_said (said.Peer peering) = Peer (peering_said peering)
+command_said (said.Post peering) = Post (posting_said peering)
 command_said (said.Deposit depositing) = Deposit (depositing_said depositing)
 command_said (said.Root keying) = Root (keying_said keying)
 command_said (said.Seal sealing) = Seal (sealing_said sealing)
@@ -84,6 +87,7 @@ command_in N.Drive words = option_map Drive (driving_in words)
 command_in N.Judge words = judge_in words
 command_in N.Make words = option_map Make (making_in words)
 command_in N.Peer words = option_map Peer (peering_in words)
+command_in N.Post words = option_map Post (posting_in words)
 command_in N.Root words = option_map Root (keying_in words)
 command_in N.Schedule words = option_map Schedule (scheduling_in words)
 command_in N.Seal words = option_map Seal (sealing_in words)
@@ -129,6 +133,7 @@ law_of (Some (Accuse a)) = accuse_law a
 law_of (Some (Schedule session)) = schedule_law session
 law_of (Some (Make number)) = make_law number
 law_of (Some (Peer p)) = peer_law p
+law_of (Some (Post p)) = post_law p
 law_of (Some (Deposit d)) = deposit_law d
 law_of (Some (Root k)) = root_law k
 law_of (Some (Seal s)) = seal_law s

@@ -8,6 +8,7 @@ ghost use Rattle.peer_runs.specs.Commands.{command_said, law_of};
 
 use accuse_command::{AccuseWords, read_accuse_words, run_accuse};
 use command_names::Name;
+use datagram_post::Post;
 use deposit_command::{DepositWords, read_deposit_words, run_deposit};
 use drive_command::{DriveWords, read_drive_words, run_drive};
 use file_commands::{
@@ -18,6 +19,7 @@ use file_commands::{
 use key_commands::{KeyWords, SealWords, read_root_words, read_seal_words, run_root, run_seal};
 use make_command::{read_make_words, run_make};
 use peer_command::{PeerWords, read_peer_words, run_peer};
+use post_command::{PostWords, read_post_words, run_post};
 use rand_core::Rng;
 use run_frame::Status;
 use schedule_command::{read_schedule_words, run_schedule};
@@ -47,6 +49,8 @@ pub enum Command<'a> {
     Make(u64),
     /// A player plays with others over sockets.
     Peer(PeerWords<'a>),
+    /// A player plays with others over datagrams.
+    Post(PostWords<'a>),
     /// A player's log is given to a live logger.
     Deposit(DepositWords<'a>),
     /// The root of a player's keys is told.
@@ -79,6 +83,7 @@ pub fn read_in<'a>(name: Name, words: &'a [Vec<u8>]) -> Option<Command<'a>>
         Name::Judge => read_judging(words),
         Name::Make => Some(Command::Make(read_make_words(words)?)),
         Name::Peer => Some(Command::Peer(read_peer_words(words)?)),
+        Name::Post => Some(Command::Post(read_post_words(words)?)),
         Name::Root => Some(Command::Root(read_root_words(words)?)),
         Name::Schedule => Some(Command::Schedule(read_schedule_words(words)?)),
         Name::Seal => Some(Command::Seal(read_seal_words(words)?)),
@@ -98,20 +103,22 @@ fn read_named<'a>(name: &[u8], words: &'a [Vec<u8>]) -> Option<Command<'a>>
 
 /// Does what the command asks for, but for the last line of a refusal. Each command is handed only what it uses.
 ///
-/// No call of the station was made before.
-pub fn obey<I: Source, O: Sink, H: Shelf, S: Station, R: Rng>(
+/// No call of the station or the post was made before.
+pub fn obey<I: Source, O: Sink, H: Shelf, S: Station, D: Post, R: Rng>(
     alloc: Global,
     command: Command<'_>,
     input: &mut I,
     out: &mut O,
     shelf: &mut H,
     station: &mut S,
+    post: &mut D,
     chance: &mut R,
 ) -> Status
     requires first { S.history station.old ≡ [] }
+    requires unposted { D.history post.old ≡ [] }
     ensures { Works (law_of (Some (command_said command.entry)))
-        (outside (I.state input.old) (O.state out.old) (H.state shelf.old) (S.history station.old) (R.stream chance.old))
-        (outside (I.state input.new) (O.state out.new) (H.state shelf.new) (S.history station.new) (R.stream chance.new)) result }
+        (outside (I.state input.old) (O.state out.old) (H.state shelf.old) (S.history station.old) (D.history post.old) (R.stream chance.old))
+        (outside (I.state input.new) (O.state out.new) (H.state shelf.new) (S.history station.new) (D.history post.new) (R.stream chance.new)) result }
 {
     match command {
         Command::Drive(words) => run_drive(alloc, words, input, out, shelf),
@@ -123,6 +130,7 @@ pub fn obey<I: Source, O: Sink, H: Shelf, S: Station, R: Rng>(
         Command::Schedule(session) => run_schedule(alloc, session, input, out, shelf),
         Command::Make(number) => run_make(alloc, number, out),
         Command::Peer(words) => run_peer(alloc, words, out, shelf, station, chance),
+        Command::Post(words) => run_post(alloc, words, out, shelf, post, chance),
         Command::Deposit(words) => run_deposit(alloc, words, out, shelf, station),
         Command::Root(words) => run_root(alloc, words, out, shelf),
         Command::Seal(words) => run_seal(alloc, words, out, shelf),

@@ -8,12 +8,11 @@ use Rattle.socket_station.specs.declared.answers.Addr.{Addr}
 use Rattle.letters.specs.declared.letter.Letter.{Letter}
 use Rattle.letters.specs.Reading.{letter_in}
 use Rattle.datagram_post.specs.Items.{Item, Call, BindCall, LogCall, PollCall, ReceiveCall, SendCall, KeepCall, SyncCall, Bound, LogBegun, Polled, Took, ReceiveNotYet, Gave, SendNotYet, Failed, Kept, Synced}
-use Rattle.loop_rules.specs.Settings.{told_addr}
-use Rattle.loop_rules.specs.Rules.{is_fresh, is_logged}
-use Rattle.loop_rules.specs.declared.phases.Phase.{Phase}
-use Rattle.loop_rules.specs.declared.phases.Phase.TheVariants.{Fresh, Logged, KeepFault, PollFault}
-use Rattle.loop_rules.specs.Keeping.{entry_in}
-use Rattle.loop_rules.proofs.Fair.{is_early}
+use Rattle.peer_rules.specs.Addresses.{told_addr}
+use Rattle.peer_rules.specs.Phases.{is_fresh, is_logged, is_early}
+use Rattle.peer_rules.specs.declared.phases.Phase.{Phase}
+use Rattle.peer_rules.specs.declared.phases.Phase.TheVariants.{Fresh, Logged, KeepFault, PollFault}
+use Rattle.peer_rules.specs.Entries.{entry_in}
 use Rattle.post_rules.specs.Views.{Setting, View, start, anew}
 use Rattle.post_rules.specs.Hearing.{heard_if, heard_letter, is_good}
 use Rattle.post_rules.specs.Keeping.{kept_entry}

@@ -19,7 +19,7 @@ use Rattle.definition_laws.proofs.ForPeers.{honest_empty}
 use Rattle.socket_station.specs.declared.answers.Addr.{Addr}
 use Rattle.datagram_post.specs.Items.{Item, Gave}
 use Rattle.datagram_post.specs.Moved.{Mail}
-use Rattle.loop_rules.specs.Settings.{addr_eq}
+use Rattle.peer_rules.specs.Addresses.{addr_eq}
 use Rattle.post_rules.specs.declared.partners.Partner.{Partner}
 use Rattle.post_rules.specs.declared.limits.TheConstants.{MOST_FRAMES}
 use Rattle.post_rules.specs.Views.{Setting, View, start, anew}

@@ -14,10 +14,10 @@ use Rattle.letters.specs.declared.letter.Letter.{Letter}
 use Rattle.letters.specs.Reading.{letter_in}
 use Rattle.datagram_post.specs.Items.{Item, BindCall, LogCall, PollCall, ReceiveCall, SendCall, KeepCall, SyncCall, Bound, LogBegun, Polled, Took, ReceiveNotYet, Gave, SendNotYet, Failed, Kept, Synced}
 use Rattle.datagram_post.specs.Moved.{kept_at, kept_in}
-use Rattle.loop_rules.specs.Keeping.{entry_in}
-use Rattle.own_moves.specs.Order.{comes_next}
+use Rattle.peer_rules.specs.Entries.{entry_in}
+use Rattle.peer_rules.specs.Order.{comes_next}
 use Rattle.post_rules.specs.Views.{Setting, View, start}
-use Rattle.post_rules.specs.Hearing.{heard, heard_if, heard_letter, is_good}
+use Rattle.post_rules.specs.Hearing.{heard_if, heard_letter, is_good}
 use Rattle.post_rules.specs.Keeping.{may_keep_as, kept_entry}
 use Rattle.post_rules.specs.After.{after, view_after}
 use Rattle.post_rules.specs.Rules.{is_allowed}
@@ -36,11 +36,11 @@ same : (v w : View) → w.kept ≡ v.kept → w.writer ≡ v.writer → w.settin
 same v w a b c = record { kept = a; writer = b; setting = c }
 
 keeps_if : (b : Bool) (l : Letter) (v : View) → Keeps v (heard_if b l v)
-keeps_if true l v = same v (heard l v) refl refl refl
-keeps_if false l v = same v v refl refl refl
+keeps_if true l v = same v (heard_if true l v) refl refl refl
+keeps_if false l v = same v (heard_if false l v) refl refl refl
 
 keeps_letter : (o : Option Letter) (v : View) → Keeps v (heard_letter o v)
-keeps_letter None v = same v v refl refl refl
+keeps_letter None v = same v (heard_letter None v) refl refl refl
 keeps_letter (Some l) v = keeps_if (is_good v.setting.game.id v.partners l) l v
 
 pub keeps_took : (v : View) (bytes : List ℕ) → Keeps v (after v (Took bytes))

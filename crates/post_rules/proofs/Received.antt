@@ -15,10 +15,10 @@ use Rattle.letters.specs.declared.letter.Letter.{Letter}
 use Rattle.letters.specs.Reading.{letter_in}
 use Rattle.rosters.specs.declared.roster.Link.{Link}
 use Rattle.datagram_post.specs.Items.{Item, BindCall, LogCall, PollCall, ReceiveCall, SendCall, KeepCall, SyncCall, Bound, LogBegun, Polled, Took, ReceiveNotYet, Gave, SendNotYet, Failed, Kept, Synced}
-use Rattle.loop_rules.specs.declared.arrivals.Arrival.{Arrival}
-use Rattle.loop_rules.specs.Laws.{IsWanted}
-use Rattle.loop_rules.specs.Keeping.{entry_in, is_first}
-use Rattle.loop_rules.proofs.Fair.{same_entry}
+use Rattle.peer_rules.specs.declared.arrivals.Arrival.{Arrival}
+use Rattle.peer_rules.specs.Passes.{IsWanted}
+use Rattle.peer_rules.specs.Entries.{entry_in, is_first}
+use Rattle.peer_rules.proofs.Entries.{same_entry}
 use Rattle.post_rules.specs.declared.partners.Partner.{Partner}
 use Rattle.post_rules.specs.Views.{Setting, View, start, anew, new_partners}
 use Rattle.post_rules.specs.Hearing.{partner_of, is_good_for, is_good, told_by, brought_by, heard_if, heard_letter}
@@ -133,7 +133,7 @@ module _ (P : ℕ → TurnFrame → Type 0) (s : Setting) where
 
   known_heard : (v : View) (l : Letter) (b : Bool) → is_good v.setting.game.id v.partners l ≡ b →
       ((f : TurnFrame) → (l.id ≡ s.game.id) → IsWanted s.roster l.player l.pass → l.frame ≡ Some f → P l.player f) → Known P s v → Known P s (heard_if b l v)
-  known_heard v l false e f k = k
+  known_heard v l false e f k = record { setting = k.setting; waits = k.waits; logs = k.logs; partners = k.partners }
   known_heard v l true e f k =
       let good : is_good_for s.game.id l (partner_of v.partners l.player) ≡ true =
       ap (λ (x : Setting). is_good_for x.game.id l (partner_of v.partners l.player)) (sym k.setting) ∙ e in
@@ -146,7 +146,7 @@ module _ (P : ℕ → TurnFrame → Type 0) (s : Setting) where
       }
 
   known_letter : (v : View) (bytes : List ℕ) (o : Option Letter) → letter_in bytes ≡ o → ((q : ℕ) (f : TurnFrame) → Brings s bytes q f → P q f) → Known P s v → Known P s (heard_letter o v)
-  known_letter v bytes None e f k = k
+  known_letter v bytes None e f k = record { setting = k.setting; waits = k.waits; logs = k.logs; partners = k.partners }
   known_letter v bytes (Some l) e f k =
       known_heard v l (is_good v.setting.game.id v.partners l) refl
       (λ x same wanted frame. f l.player x (record { letter = l; reads = e; session = same; player = refl; wanted = wanted; frame = frame })) k

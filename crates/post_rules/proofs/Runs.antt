@@ -19,8 +19,8 @@ use Rattle.definitions.specs.Steps.{LogStep, Chooses, Comes, after_choice, after
 use Rattle.definition_laws.proofs.Alike.{frame_eq_true}
 use Rattle.definition_laws.proofs.ForPeers.{advance_step, advance_still}
 use Rattle.definition_laws.proofs.Waits.{may_choose_allowed}
-use Rattle.loop_rules.specs.Runs.{steps_told}
-use Rattle.own_moves.specs.Order.{is_frame, comes_next}
+use Rattle.peer_rules.specs.Steps.{steps_told}
+use Rattle.peer_rules.specs.Order.{is_frame, comes_next}
 use Rattle.post_rules.specs.Runs.{IsLogRun}
 
 told_more : (es fs : List Entry) → steps_told (es ++ fs) ≡ steps_told es ++ steps_told fs

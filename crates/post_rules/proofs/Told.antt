@@ -2,7 +2,7 @@
 use Rattle.std.proofs.Common.{◌≡◌, true, false, refl, sym, ap, subst, ◌∙◌, List, [], ◌∷◌, ◌++◌, append_assoc, append-nil}
 use Rattle.std.proofs.lemmas.Bool.{and_parts, and_from, false≢true}
 use Rattle.datagram_post.specs.Items.{Item, Call, BindCall, LogCall, PollCall, ReceiveCall, SendCall, KeepCall, SyncCall, Bound, LogBegun, Polled, Took, ReceiveNotYet, Gave, SendNotYet, Failed, Kept, Synced}
-use Rattle.loop_rules.specs.declared.phases.Phase.TheVariants.{KeepFault, PollFault}
+use Rattle.peer_rules.specs.declared.phases.Phase.TheVariants.{KeepFault, PollFault}
 use Rattle.post_rules.specs.Views.{View}
 use Rattle.post_rules.specs.After.{after, after_failed, in_phase, view_after}
 use Rattle.post_rules.specs.Rules.{is_allowed}

@@ -2,8 +2,8 @@
 use Rattle.std.specs.Prelude.{◌+◌, true, List, length}
 use Rattle.std.specs.List.{fold}
 use Rattle.datagram_post.specs.Items.{Item, Call, BindCall, LogCall, PollCall, ReceiveCall, SendCall, KeepCall, SyncCall, Bound, LogBegun, Polled, Took, ReceiveNotYet, Gave, SendNotYet, Failed, Kept, Synced}
-use Rattle.loop_rules.specs.declared.phases.Phase.{Phase}
-use Rattle.loop_rules.specs.declared.phases.Phase.TheVariants.{Logged, Running, KeepFault, PollFault}
+use Rattle.peer_rules.specs.declared.phases.Phase.{Phase}
+use Rattle.peer_rules.specs.declared.phases.Phase.TheVariants.{Logged, Running, KeepFault, PollFault}
 use Rattle.post_rules.specs.Views.{View, polled}
 use Rattle.post_rules.specs.Hearing.{took, received}
 use Rattle.post_rules.specs.Keeping.{kept_on}

@@ -4,7 +4,7 @@ use Rattle.definitions.specs.World.{Game}
 use Rattle.definitions.specs.declared.logs.Entry.{Entry}
 use Rattle.definitions.specs.Lists.{is_empty}
 use Rattle.definitions.specs.Steps.{is_taken_in}
-use Rattle.loop_rules.specs.declared.arrivals.Arrival.{Arrival}
+use Rattle.peer_rules.specs.declared.arrivals.Arrival.{Arrival}
 
 -- after this log the frame is new, and no finding stands
 abbrev pub is_new_to : Game → (me : ℕ) → List Entry → Arrival → Bool

@@ -6,9 +6,9 @@ use Rattle.definitions.specs.declared.logs.Entry.{Entry}
 use Rattle.definitions.specs.declared.logs.Entry.TheVariants.{Chose, Made, Got}
 use Rattle.session_log.specs.Writing.{written}
 use Rattle.session_log.specs.Writing as W
-use Rattle.loop_rules.specs.declared.arrivals.Arrival.{Arrival}
-use Rattle.loop_rules.specs.Keeping.{entry_in, is_first}
-use Rattle.own_moves.specs.Order.{comes_next}
+use Rattle.peer_rules.specs.declared.arrivals.Arrival.{Arrival}
+use Rattle.peer_rules.specs.Entries.{entry_in, is_first}
+use Rattle.peer_rules.specs.Order.{comes_next}
 use Rattle.post_rules.specs.Views.{View}
 use Rattle.post_rules.specs.Handling.{still_new}
 

@@ -22,8 +22,8 @@ use Rattle.socket_station.specs.declared.answers.Addr.{Addr}
 use Rattle.datagram_post.specs.Items.{Item, Call, PollCall, Polled, Took, Gave, Failed}
 use Rattle.datagram_post.specs.Faults.{is_poll_call, is_keep_call}
 use Rattle.datagram_post.specs.Moved.{kept_in}
-use Rattle.loop_rules.specs.Laws.{IsWanted}
-use Rattle.loop_rules.specs.Settings.{told_addr}
+use Rattle.peer_rules.specs.Passes.{IsWanted}
+use Rattle.peer_rules.specs.Addresses.{told_addr}
 use Rattle.post_rules.specs.declared.partners.Partner.{Partner}
 use Rattle.post_rules.specs.Views.{Setting, View, start, anew}
 use Rattle.post_rules.specs.After.{view_after}

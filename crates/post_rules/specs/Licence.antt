@@ -8,7 +8,7 @@ use Rattle.definitions.specs.Needs.{needs, may_choose}
 use Rattle.definitions.specs.Findings.{is_clean}
 use Rattle.definitions.specs.Honest.{made_count}
 use Rattle.definitions.specs.Advance.{next_made}
-use Rattle.loop_rules.specs.Licence.{is_running}
+use Rattle.peer_rules.specs.Phases.{is_running}
 use Rattle.post_rules.specs.declared.partners.Partner.{Partner}
 use Rattle.post_rules.specs.Views.{View}
 use Rattle.post_rules.specs.Handling.{is_handled}

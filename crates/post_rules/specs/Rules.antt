@@ -5,9 +5,8 @@ use Rattle.definitions.specs.Advance.{next_made}
 use Rattle.socket_station.specs.declared.answers.Addr.{Addr}
 use Rattle.datagram_post.specs.Items.{Item, Call, BindCall, LogCall, PollCall, ReceiveCall, SendCall, KeepCall, SyncCall, Bound, LogBegun, Polled, Took, ReceiveNotYet, Gave, SendNotYet, Failed, Kept, Synced}
 use Rattle.datagram_post.specs.Moved.{Mail}
-use Rattle.loop_rules.specs.Settings.{told_addr, addr_eq}
-use Rattle.loop_rules.specs.Rules.{is_fresh, is_logged}
-use Rattle.loop_rules.specs.Licence.{is_running}
+use Rattle.peer_rules.specs.Addresses.{told_addr, addr_eq}
+use Rattle.peer_rules.specs.Phases.{is_fresh, is_logged, is_running}
 use Rattle.post_rules.specs.Views.{View}
 use Rattle.post_rules.specs.Handling.{is_handled}
 use Rattle.post_rules.specs.Keeping.{spells_next}

@@ -19,8 +19,8 @@ use Rattle.session_log.specs.Spelling.{log_bytes}
 use Rattle.socket_station.specs.declared.answers.Addr.{Addr}
 use Rattle.datagram_post.specs.Items.{Item, Call, PollCall, Polled, Gave, Failed}
 use Rattle.datagram_post.specs.Moved.{kept_in}
-use Rattle.loop_rules.specs.Settings.{told_addr}
-use Rattle.loop_rules.specs.Runs.{steps_told}
+use Rattle.peer_rules.specs.Addresses.{told_addr}
+use Rattle.peer_rules.specs.Steps.{steps_told}
 use Rattle.post_rules.specs.Views.{Setting}
 use Rattle.post_rules.specs.Licence.{IsLicensed}
 use Rattle.post_rules.specs.Histories.{log_name, bound_addr}

@@ -8,7 +8,7 @@ use Rattle.definitions.specs.Logs.{made}
 use Rattle.datagram_post.specs.Moved.{Mail}
 use Rattle.letters.specs.declared.letter.Letter.{Letter}
 use Rattle.letters.specs.Spelling.{letter_bytes}
-use Rattle.loop_rules.specs.Settings.{told_addr}
+use Rattle.peer_rules.specs.Addresses.{told_addr}
 use Rattle.post_rules.specs.declared.partners.Partner.{Partner}
 use Rattle.post_rules.specs.declared.limits.TheConstants.{MOST_FRAMES}
 use Rattle.post_rules.specs.Views.{View}

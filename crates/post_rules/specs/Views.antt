@@ -5,10 +5,11 @@ use Rattle.definitions.specs.declared.logs.Entry.{Entry}
 use Rattle.session_log.specs.Writing.{Writing, fresh}
 use Rattle.rosters.specs.Rosters.{Neighbours}
 use Rattle.rosters.specs.declared.roster.Link.{Link}
-use Rattle.loop_rules.specs.declared.arrivals.Arrival.{Arrival}
-use Rattle.loop_rules.specs.declared.phases.Phase.{Phase}
-use Rattle.loop_rules.specs.declared.phases.Phase.TheVariants.{Fresh}
+use Rattle.peer_rules.specs.declared.arrivals.Arrival.{Arrival}
+use Rattle.peer_rules.specs.declared.phases.Phase.{Phase}
+use Rattle.peer_rules.specs.declared.phases.Phase.TheVariants.{Fresh}
 use Rattle.post_rules.specs.declared.partners.Partner.{Partner}
+use Rattle.post_rules.specs.declared.drops.Drops.{Drops}
 
 -- what a loop is given before its first call
 pub record Setting : Type 0 where
@@ -53,6 +54,8 @@ pub record View : Type 0 where
   -- behind the last whose entry was kept
   pub waiting : List Arrival
   pub settling : Settling
+  -- how many of the datagrams that were taken since the first item were dropped, by cause
+  pub drops : Drops
 
 -- nothing is known of the other player
 abbrev pub new_partner : Link → Partner
@@ -61,6 +64,10 @@ new_partner link = record { link = link; told = 0 }
 -- nothing is known of the other players
 abbrev pub new_partners : List Link → List Partner
 new_partners links = map new_partner links
+
+-- nothing was dropped
+abbrev pub no_drops : Drops
+no_drops = record { spelling = 0; session = 0; player = 0; pass = 0 }
 
 -- before the first item
 abbrev pub start : Setting → View
@@ -73,6 +80,7 @@ start s = record {
   partners = new_partners s.roster.links;
   waiting = [];
   settling = new_settling;
+  drops = no_drops;
 }
 
 -- what is shown where a play begins

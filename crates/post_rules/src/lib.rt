@@ -5,9 +5,11 @@
 //! laws of its functions, which return at once, and touches nothing.
 #![tactic(auto)]
 
+mod drops;
 pub mod laws;
 mod limits;
 mod partners;
 
+pub use drops::{Cause, Drops};
 pub use limits::{MOST_DATAGRAMS, MOST_FRAMES};
 pub use partners::Partner;

@@ -1,11 +1,15 @@
 //! Runs whose text goes to memory.
 
+ghost use Rattle.std.specs.Prelude.{◌≡◌, []};
+
 use file_shelf::FileShelf;
 use machine_files::MachineFiles;
 use mio_host::MioHost;
 use peer_runs::run;
+use post_mio::MioPost;
 use rand_chacha::ChaCha20Rng;
 use rand_core::SeedableRng;
+use socket_station::Station;
 use station::{MemorySink, MemorySource, Sink, Source};
 use station_mio::MioStation;
 use std::io;
@@ -37,6 +41,34 @@ pub(crate) fn chance_of(rt: &HostRuntime) -> io::Result<ChaCha20Rng> {
     Ok(ChaCha20Rng::from_seed(seed))
 }
 
+/// Runs the words over this machine's files and datagrams, this station, input and output, and
+/// gives the status.
+fn run_at<I: Source, O: Sink, S: Station>(
+    rt: &HostRuntime,
+    words: &[Vec<u8>],
+    input: &mut I,
+    out: &mut O,
+    station: &mut S,
+) -> io::Result<u8>
+    requires { S.history station.old ≡ [] }
+{
+    let alloc = rt.alloc();
+    let mut shelf = FileShelf::new(alloc, MachineFiles::new(rt));
+    let mut chance = chance_of(rt)?;
+    let mut post = MioPost::new(MioHost::new(rt, alloc)?);
+    let status = run(
+        alloc,
+        words,
+        input,
+        out,
+        &mut shelf,
+        station,
+        &mut post,
+        &mut chance,
+    );
+    Ok(status.code())
+}
+
 /// Runs the words over this machine's files and sockets, with this input and this output, and
 /// gives the status.
 pub(crate) fn run_over<I: Source, O: Sink>(
@@ -46,20 +78,10 @@ pub(crate) fn run_over<I: Source, O: Sink>(
     out: &mut O,
 ) -> io::Result<u8> {
     let alloc = rt.alloc();
-    let mut shelf = FileShelf::new(alloc, MachineFiles::new(rt));
-    let mut chance = chance_of(rt)?;
     let mut station = MioStation::new(MioHost::new(rt, alloc)?, alloc)?;
-    let status = run(
-        alloc,
-        words,
-        input,
-        out,
-        &mut shelf,
-        &mut station,
-        &mut chance,
-    );
+    let done = run_at(rt, words, input, out, &mut station);
     station.finish();
-    Ok(status.code())
+    done
 }
 
 /// Runs the words with no input.

@@ -12,20 +12,22 @@ use Rattle.socket_station.specs.declared.answers.Addr.{Addr}
 use Rattle.socket_station.specs.declared.answers.Did.TheVariants as D
 use Rattle.socket_station.specs.Items.{Item, ListenCall, LogCall, KeepCall, SyncCall, Listening, LogBegun, Failed, Kept, Synced, log_item, listen_item, keep_item, sync_item}
 use Rattle.socket_station.specs.Standings.{OpensNew}
-use Rattle.loop_rules.specs.declared.arrivals.Arrival.{Arrival}
-use Rattle.loop_rules.specs.declared.phases.Phase.{Phase}
-use Rattle.loop_rules.specs.declared.phases.Phase.TheVariants.{Logged, Running, KeepFault, PollFault}
-use Rattle.loop_rules.specs.Settings.{Setting, told_addr}
+use Rattle.peer_rules.specs.declared.arrivals.Arrival.{Arrival}
+use Rattle.peer_rules.specs.declared.phases.Phase.{Phase}
+use Rattle.peer_rules.specs.declared.phases.Phase.TheVariants.{Logged, Running, KeepFault, PollFault}
+use Rattle.loop_rules.specs.Settings.{Setting}
+use Rattle.peer_rules.specs.Addresses.{told_addr}
 use Rattle.loop_rules.specs.Views.{start}
 use Rattle.loop_rules.specs.Handling.{with_waiting, sorted, sorted_out}
-use Rattle.loop_rules.specs.Keeping.{is_entry, may_keep_in, waiting_behind, with_entry}
-use Rattle.loop_rules.specs.Rules.{is_logged, is_allowed}
-use Rattle.loop_rules.specs.Licence.{is_running}
+use Rattle.loop_rules.specs.Keeping.{may_keep_in, waiting_behind, with_entry}
+use Rattle.peer_rules.specs.Entries.{is_entry}
+use Rattle.loop_rules.specs.Rules.{is_allowed}
+use Rattle.peer_rules.specs.Phases.{is_logged, is_running}
 use Rattle.loop_rules.specs.Histories.{BeginsLog}
 use Rattle.loop_rules.specs.Told.{IsTold}
 use Rattle.loop_laws.specs.Sockets.{SocketsAreNew}
 use Rattle.loop_rules.proofs.Told.{told_goes_on}
-use Rattle.ready_loop.specs.declared.beginning.Begun.TheVariants as B
+use Rattle.loop_ends.specs.declared.ends.Begun.TheVariants as B
 use Rattle.ready_loop.specs.States.{LoopState, setting_of, kept_of, writer_of, base_of, view_of}
 use Rattle.ready_loop.specs.Steps.{did_by, in_phase, written_for, next_bytes, kept_next, synced_all}
 use Rattle.ready_loop.specs.Beginning.{new_loop, IsNew, Begins}

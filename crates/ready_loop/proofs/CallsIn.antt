@@ -29,9 +29,9 @@ use Rattle.definitions.specs.Logs.{player_of}
 use Rattle.loop_rules.specs.Rules.{wants_read}
 use Rattle.loop_rules.specs.Tables.{Table, at_seat}
 use Rattle.socket_table.proofs.Seats.{asked_seats}
-use Rattle.loop_rules.specs.declared.arrivals.Arrival.{Arrival}
-use Rattle.loop_rules.specs.declared.phases.Phase.{Phase}
-use Rattle.loop_rules.specs.declared.phases.Phase.TheVariants.{Running, KeepFault}
+use Rattle.peer_rules.specs.declared.arrivals.Arrival.{Arrival}
+use Rattle.peer_rules.specs.declared.phases.Phase.{Phase}
+use Rattle.peer_rules.specs.declared.phases.Phase.TheVariants.{Running, KeepFault}
 use Rattle.loop_rules.specs.Told.{IsTold}
 use Rattle.loop_rules.specs.Handling.{IsOfOther}
 use Rattle.ready_loop.specs.declared.stops.Stop.{Stop}
@@ -43,8 +43,9 @@ use Rattle.ready_loop.specs.Handling.{KeepsMade, Advances, IsGot, Hears, IsHeari
 use Rattle.ready_loop.proofs.Going.{goes_still}
 use Rattle.ready_loop.proofs.Idle.{all_kept}
 use Rattle.ready_loop.proofs.Kept.{MayKeep, each_drop, got_may}
-use Rattle.ready_loop.proofs.Made.{Making, made_goes, made_on, made_faults, all_made, advance_more}
-use Rattle.ready_loop.proofs.Choosing.{with_entries, grown_view, grown_setting, there_last, chosen_made, chosen_got}
+use Rattle.ready_loop.proofs.Made.{Making, made_goes, made_on, made_faults, all_made}
+use Rattle.own_moves.proofs.Runs.{advance_run, chosen_made}
+use Rattle.ready_loop.proofs.Choosing.{with_entries, grown_view, grown_setting, there_last, chosen_got}
 use Rattle.ready_loop.proofs.Places.{at_same}
 use Rattle.ready_loop.proofs.Handled.{got_faults, got_goes, Handling}
 use Rattle.ready_loop.proofs.Served.{lines_differ}
@@ -100,7 +101,7 @@ abbrev pub advanced : LoopState → LoopState
 advanced l = with_entries (advance l.peer.game l.peer.me l.peer.entries) l
 
 advanced_more : (l : LoopState) → (more : List Entry) × (advance l.peer.game l.peer.me l.peer.entries ≡ l.peer.entries ++ more)
-advanced_more l = advance_more l.peer.game l.peer.me l.peer.entries
+advanced_more l = let r = advance_run l.peer.game l.peer.me l.peer.entries in (r.0, r.1)
 
 pub advanced_fits : (i : LoopState) (w : Writing) (p : PeerState) → IsFit i w → p ≡ record i.peer { entries = advance i.peer.game i.peer.me i.peer.entries } → IsFit (record i { peer = p }) w
 advanced_fits i w p f e = let more = advanced_more i in subst (λ (x : PeerState). IsFit (record i { peer = x }) w) (sym e) (fit_grown i w (advance i.peer.game i.peer.me i.peer.entries) more.0 more.1 f)

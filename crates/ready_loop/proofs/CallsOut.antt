@@ -24,7 +24,7 @@ use Rattle.session_log.specs.Writing.{Writing}
 use Rattle.socket_lines.specs.declared.line.Line.{Line}
 use Rattle.socket_lines.specs.declared.seat.Seat.{Seat}
 use Rattle.socket_lines.specs.Lines.{closed}
-use Rattle.loop_rules.specs.Settings.{told_addr}
+use Rattle.peer_rules.specs.Addresses.{told_addr}
 use Rattle.loop_rules.specs.Tables.{Table, at_line, at_seat, in_seats, desk_of, asks_shut}
 use Rattle.loop_rules.specs.Licence.{all_is_shut}
 use Rattle.loop_rules.specs.Rules.{due_at}

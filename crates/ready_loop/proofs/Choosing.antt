@@ -1,6 +1,6 @@
 -- Choosing: an own move is chosen, and kept.
-use Rattle.std.proofs.Common.{inl, inr, ◌≡◌, ℕ, zero, suc, ◌+◌, ◌-◌, ◌*◌, ◌<◌, ◌≤◌, Bool, true, false, refl, sym, ap, subst, ◌∙◌, List, [], ◌∷◌, ◌++◌, append-nil, arith, length}
-use Rattle.std.specs.Prelude.{Option, Some, None, Result, Ok, Err, IfSome, not, if◌then◌else◌, ◌&&◌, take, slice_get, is_none}
+use Rattle.std.proofs.Common.{inl, inr, ◌≡◌, ℕ, ◌+◌, ◌-◌, ◌<◌, ◌≤◌, Bool, true, false, refl, sym, ap, subst, ◌∙◌, List, [], ◌∷◌, ◌++◌, append-nil, arith, length}
+use Rattle.std.specs.Prelude.{Option, Some, Result, Ok, Err, ◌&&◌, take, slice_get, is_none}
 use Rattle.std.specs.List.{fold}
 use Rattle.std.proofs.lemmas.List.{length-append, take-append-le}
 use Rattle.definitions.specs.Lists.{EachIs, is_empty}
@@ -8,34 +8,27 @@ use Rattle.definitions.specs.declared.frames.TurnFrame.{TurnFrame}
 use Rattle.definitions.specs.declared.openings.Opening.{Opening}
 use Rattle.definitions.specs.declared.openings.Nonce.{Nonce}
 use Rattle.definitions.specs.declared.world.Move.{Move}
-use Rattle.definitions.specs.declared.world.MoveFault.{MoveFault}
-use Rattle.definitions.specs.declared.answers.OwnFault.{OwnFault}
-use Rattle.definitions.specs.declared.answers.OwnFault.TheVariants.{NotNow, Illegal}
-use Rattle.definitions.specs.Needs.{may_choose, choice_fault, own_fault}
-use Rattle.definitions.specs.Moves.{move_fault}
+use Rattle.definitions.specs.Needs.{may_choose}
 use Rattle.peer_core.specs.Standing.{IsStanding}
-use Rattle.peer_core.specs.declared.views.Choice.{Choice}
 use Rattle.definitions.specs.declared.logs.Entry.{Entry}
-use Rattle.definitions.specs.declared.logs.Entry.TheVariants.{Chose, Made, Got}
+use Rattle.definitions.specs.declared.logs.Entry.TheVariants.{Chose, Got}
 use Rattle.definitions.specs.World.{Game}
 use Rattle.definitions.specs.Logs.{chosen}
-use Rattle.definitions.specs.Honest.{IsHonest, allowed, chosen_track}
-use Rattle.definitions.specs.Advance.{advance, advance_by, next_made, with_made}
-use Rattle.std.proofs.lemmas.Bool.{and_from}
+use Rattle.definitions.specs.Honest.{IsHonest, allowed}
+use Rattle.definitions.specs.Advance.{advance, next_made}
 use Rattle.definitions.specs.declared.findings.Finding.{Finding}
 use Rattle.definitions.specs.Findings.{is_clean}
 use Rattle.definition_laws.proofs.Silent.{findings_chose, clean_advance}
 use Rattle.definition_laws.proofs.Chosen.{chosen_push}
-use Rattle.definition_laws.proofs.ForPeers.{honest_last}
 use Rattle.session_log.specs.Spelling.{FitsEntry}
 use Rattle.session_log.specs.Writing.{Writing, fresh}
 use Rattle.session_log.specs.Writing as W
 use Rattle.socket_station.specs.Items.{Item, keep_item}
 use Rattle.pilots.specs.Plans.{Plan}
-use Rattle.peer_core.specs.Views.{PeerState, choice_of}
+use Rattle.peer_core.specs.Views.{PeerState}
 use Rattle.loop_rules.specs.Tables.{Table}
-use Rattle.loop_rules.specs.declared.phases.Phase.{Phase}
-use Rattle.loop_rules.specs.declared.phases.Phase.TheVariants.{Running}
+use Rattle.peer_rules.specs.declared.phases.Phase.{Phase}
+use Rattle.peer_rules.specs.declared.phases.Phase.TheVariants.{Running}
 use Rattle.loop_rules.specs.Settings.{Setting}
 use Rattle.loop_rules.specs.Views.{View}
 use Rattle.loop_rules.specs.Handling.{sorted, IsOfOther}
@@ -43,20 +36,24 @@ use Rattle.loop_rules.specs.Keeping.{may_keep_in}
 use Rattle.loop_rules.specs.Told.{IsTold}
 use Rattle.loop_rules.proofs.Kept.{Keeps, keeps_sorted}
 use Rattle.ready_loop.specs.States.{LoopState, IsFit, setting_of, kept_of, base_of, rest_of, view_of}
-use Rattle.ready_loop.specs.Steps.{did_by, next_bytes, kept_next, synced_all}
-use Rattle.ready_loop.specs.Going.{Goes, Grows, IsCut, IsSteady, undialled}
+use Rattle.ready_loop.specs.Steps.{did_by, next_bytes, kept_next}
+use Rattle.ready_loop.specs.Going.{Grows, IsCut, IsSteady, undialled}
 use Rattle.ready_loop.specs.declared.stops.Stop.{Stop}
 use Rattle.ready_loop.specs.declared.stops.Stop.TheVariants as T
-use Rattle.ready_loop.specs.Stops.{IsOwnMove, Refuses, settled_of, StandsStopped}
+use Rattle.ready_loop.specs.Stops.{StandsStopped}
 use Rattle.ready_loop.specs.Handling.{Advances}
-use Rattle.ready_loop.specs.Settling.{IsReady, IsPlaying, PutsChoice, illegal_of, ChoosesIn, HasChosen, Chooses, Plays, Syncs}
-use Rattle.ready_loop.specs.Choices.{Chooser}
+use Rattle.ready_loop.specs.Settling.{IsPlaying, ChoosesIn, HasChosen, Chooses, Plays}
+use Rattle.own_moves.specs.declared.making.Moves.{Moves}
+use Rattle.own_moves.specs.declared.making.Moves.TheVariants as M
+use Rattle.own_moves.specs.Choices.{Chooser, ChoosesBy}
+use Rattle.own_moves.specs.Making.{HasChoice, PutsMove}
+use Rattle.own_moves.proofs.Runs.{chose_next, chosen_made, chosen_one}
 use Rattle.ready_loop.proofs.Going.{goes_still, grows, grows_then, grows_goes}
-use Rattle.ready_loop.proofs.Choices.{IsDrawn, chose_one, chose_refused, chooses_none, chooses_then, chooses_goes}
+use Rattle.ready_loop.proofs.Choices.{chooses_none, chooses_then, chooses_goes}
 use Rattle.ready_loop.proofs.Idle.{all_kept}
-use Rattle.ready_loop.proofs.Synced.{synced_whole}
-use Rattle.ready_loop.proofs.Stopped.{faulty_stops, faulty_unchosen, unsynced_faulty}
+use Rattle.ready_loop.proofs.Stopped.{faulty_stops, faulty_unchosen}
 use Rattle.ready_loop.proofs.Kept.{MayKeep, own_goes, each_drop}
+use Rattle.ready_loop.proofs.Fits.{fit_grown}
 
 -- ---- entries that are not kept yet show nothing
 
@@ -103,7 +100,7 @@ chosen_may l t mv n w honest kept over =
     ap (λ (p : Phase). may_keep_in p (view_of l) (Chose t mv n)) (k.phase ∙ w.idle.running)
     ∙ ap (λ (s : Setting). allowed s.game s.me (view_of l).kept (Chose t mv n) && is_none (next_made s.game s.me (view_of l).kept)) k.setting
     ∙ ap (λ (h : List Entry). allowed l.peer.game l.peer.me h (Chose t mv n) && is_none (next_made l.peer.game l.peer.me h)) (k.kept ∙ all_kept l w.idle.kept)
-    ∙ and_from _ _ (honest_last l.peer.game l.peer.me l.peer.entries (Chose t mv n) honest).1 (ap (λ (o : Option TurnFrame). is_none o) w.made)
+    ∙ chose_next l.peer.game l.peer.me l.peer.entries t mv n honest w.made
   where
     k : Keeps (base_of l) (view_of l)
     k = keeps_sorted (rest_of l) (base_of l)
@@ -139,157 +136,125 @@ chosen_goes done items after l m n t mv nonce w f on same =
       told = g.told;
     }
 
--- ---- what is chosen
-
--- made frames are no choices
-chosen_made_by : (game : Game) (me n : ℕ) (h : List Entry) → chosen me (advance_by game me n h) ≡ chosen me h
-unfolding advance_by
-chosen_made_by game me zero h = refl
-chosen_made_by game me (suc n) h = chosen_made_by game me n (with_made h (next_made game me h)) ∙ go (next_made game me h)
-  where
-    go : (o : Option TurnFrame) → chosen me (with_made h o) ≡ chosen me h
-    go None = refl
-    go (Some f) = chosen_push me h (Made f) ∙ append-nil (chosen me h)
-
-pub chosen_made : (game : Game) (me : ℕ) (h : List Entry) → chosen me (advance game me h) ≡ chosen me h
-unfolding advance
-chosen_made game me h = chosen_made_by game me (2 * game.turns) h
-
--- nor are frames that were got
+-- frames that were got are no choices
 pub chosen_got : (me : ℕ) (h : List Entry) (q : ℕ) (f : TurnFrame) → chosen me (h ++ Got q f ∷ []) ≡ chosen me h
 chosen_got me h q f = chosen_push me h (Got q f) ∙ append-nil (chosen me h)
 
-pub chosen_one : (me : ℕ) (h : List Entry) (t : ℕ) (mv : Move) (n : Nonce) → length (chosen me (h ++ Chose t mv n ∷ [])) ≡ length (chosen me h) + 1
-chosen_one me h t mv n =
-    let long = length-append (chosen me h) (record { player = me; turn = t; mv = mv; nonce = n } ∷ []) in
-    ap (λ (os : List Opening). length os) (chosen_push me h (Chose t mv n)) ∙ long
+-- ---- the loop after its peer chose
 
--- ---- one choice after another
+-- the choice is in its log
+pub record HasPut (by to : Chooser) (l m : LoopState) : Type 0 where
+  pub puts : PutsMove by to M.Legal l.peer m.peer
+  pub same : m ≡ record l { peer = m.peer }
+  -- with what every loop keeps to
+  pub kept : l.kept ≤ length l.peer.entries
+  pub over : l.over ≤ length l.peer.entries
+  pub waiting : EachIs (IsOfOther l.peer.game l.peer.me) l.table.waiting
 
-pub record Choosing (by to : Chooser) (before items : List Item) (l m : LoopState) : Type 0 where
-  pub choices : ChoosesIn by to false l m
-  pub grows : Grows before items l m
-  pub table : m.table ≡ l.table
-  pub clean : is_clean m.peer.game m.peer.entries ≡ is_clean l.peer.game l.peer.entries
-  pub steady : IsSteady m
+-- from what stands inside
+pub has_put : (by to : Chooser) (made : Moves) (i l : LoopState) (w : Writing) (q : PeerState) → i ≡ l → IsFit i w → PutsMove by to made i.peer q → made ≡ M.Legal → HasPut by to l (record i { peer = q })
+has_put by to made i l w q same f puts is =
+    subst (λ (x : LoopState). HasPut by to x (record i { peer = q })) same
+    (record { puts = subst (λ (x : Moves). PutsMove by to x i.peer q) is puts; same = refl; kept = f.kept; over = f.over; waiting = f.waiting })
 
--- what stands after a choice that is put, or is not
-pub puts_choice : (i l : LoopState) (w : Writing) (p : PeerState) (mv : Move) (nonce : Nonce) → i ≡ l → IsFit i w → p ≡ record i.peer { entries = i.peer.entries ++ Chose (length (chosen i.peer.me i.peer.entries)) mv nonce ∷ [] } → IsStanding p →
-    PutsChoice mv nonce None l (record i { peer = p })
-puts_choice i l w p mv nonce same f is facts =
-    subst (λ (x : LoopState). PutsChoice mv nonce None x (record i { peer = p })) same
-    (record { stands = (ap (λ (q : PeerState). record i { peer = q }) is, facts); kept = f.kept; over = f.over; others = f.waiting })
+-- either way it keeps to what every loop does
+pub put_fits : (by to : Chooser) (made : Moves) (i : LoopState) (w : Writing) (q : PeerState) → IsFit i w → PutsMove by to made i.peer q → IsFit (record i { peer = q }) w
+put_fits by to M.Legal i w q f puts =
+    let k = puts.stands in
+    let e : Entry = Chose (length (chosen i.peer.me i.peer.entries)) k.mv k.nonce in
+    subst (λ (x : PeerState). IsFit (record i { peer = x }) w) (sym k.state) (fit_grown i w (i.peer.entries ++ e ∷ []) (e ∷ []) refl f)
+put_fits by to (M.OwnMove turn fault) i w q f puts = subst (λ (x : PeerState). IsFit (record i { peer = x }) w) (sym puts.stands.0) f
 
-not_now : (game : Game) (me : ℕ) (h : List Entry) (mv : Move) → may_choose game me h ≡ true → choice_fault game me h mv ≡ Some NotNow → ⊥
-unfolding choice_fault
-not_now game me h mv may e =
-    go (move_fault game me (chosen_track game me h) mv)
-    (ap (λ (b : Bool). if not b then Some NotNow else own_fault (move_fault game me (chosen_track game me h) mv)) (sym may) ∙ e)
-  where
-    go : (o : Option MoveFault) → own_fault o ≡ Some NotNow → ⊥
-    go None e = cc
-    go (Some f) e = cc
+-- ---- the choice is kept
 
-pub puts_none_of : (i l : LoopState) (w : Writing) (p : PeerState) (mv : Move) (nonce : Nonce) (r : Option MoveFault) (fault : OwnFault) → i ≡ l → IsFit i w → p ≡ i.peer → may_choose l.peer.game l.peer.me l.peer.entries ≡ true →
-    choice_fault i.peer.game i.peer.me i.peer.entries mv ≡ Some fault → r ≡ illegal_of fault → PutsChoice mv nonce r l (record i { peer = p })
-puts_none_of i l w p mv nonce r fault same f is may refused answer =
-    subst (λ (x : LoopState). PutsChoice mv nonce r x (record i { peer = p })) same
-    (subst (λ (q : PeerState). PutsChoice mv nonce r i (record i { peer = q })) (sym is)
-    (subst (λ (o : Option MoveFault). PutsChoice mv nonce o i i) (sym answer)
-    (go fault (subst (λ (x : LoopState). may_choose x.peer.game x.peer.me x.peer.entries ≡ true) (sym same) may) refused)))
-  where
-    go : (fault : OwnFault) → may_choose i.peer.game i.peer.me i.peer.entries ≡ true → choice_fault i.peer.game i.peer.me i.peer.entries mv ≡ Some fault → PutsChoice mv nonce (illegal_of fault) i i
-    go NotNow may refused = absurd (not_now i.peer.game i.peer.me i.peer.entries mv may refused)
-    go (Illegal illegal) may refused = record { stands = (refl, refused); kept = f.kept; over = f.over; others = f.waiting }
+-- the entry that was put
+abbrev put_entry : (l m : LoopState) → HasChoice l.peer m.peer → Entry
+put_entry l m k = Chose (length (chosen l.peer.me l.peer.entries)) k.mv k.nonce
 
-chosen_is : (items : List Item) (l m : LoopState) (mv : Move) (nonce : Nonce) → IsPlaying items l → PutsChoice mv nonce None l m → IsChosen items l m (Chose (length (chosen l.peer.me l.peer.entries)) mv nonce)
-chosen_is items l m mv nonce w p = record {
+put_same : (by to : Chooser) (l m : LoopState) → (p : HasPut by to l m) → m ≡ with_entries (l.peer.entries ++ put_entry l m p.puts.stands ∷ []) l
+put_same by to l m p = p.same ∙ ap (λ (q : PeerState). record l { peer = q }) p.puts.stands.state
+
+chosen_is : (by to : Chooser) (items : List Item) (l m : LoopState) → IsPlaying items l → (p : HasPut by to l m) → IsChosen items l m (put_entry l m p.puts.stands)
+chosen_is by to items l m w p = record {
   told = w.told;
   steady = w.steady;
-  same = p.stands.0;
-  honest = subst (λ (x : LoopState). IsHonest x.peer.game x.peer.me x.peer.entries) p.stands.0 p.stands.1.honest;
+  same = put_same by to l m p;
+  honest = (subst IsStanding p.puts.stands.state p.puts.stands.standing).honest;
   kept = p.kept;
   over = p.over;
-  waiting = p.others;
+  waiting = p.waiting;
 }
 
-puts_none : (l m : LoopState) (mv : Move) (nonce : Nonce) (fault : Option MoveFault) → PutsChoice mv nonce fault l m → fault ≡ None → PutsChoice mv nonce None l m
-puts_none l m mv nonce fault p none = subst (λ (o : Option MoveFault). PutsChoice mv nonce o l m) none p
+put_goes : (by to : Chooser) (r : Bool) (items after : List Item) (l m n : LoopState) → IsPlaying items l → HasPut by to l m → ((e : Entry) → slice_get m.peer.entries m.kept ≡ Some e → FitsEntry e) →
+    after ≡ items ++ keep_item (did_by r) (next_bytes m) ∷ [] → n ≡ kept_next r m → Grows items after l n
+put_goes by to r items after l m n w p fits on state =
+    let k = p.puts.stands in
+    let e = put_entry l m k in
+    let next : slice_get m.peer.entries m.kept ≡ Some e = subst (λ (x : LoopState). slice_get x.peer.entries x.kept ≡ Some e) (sym (put_same by to l m p)) (ap (slice_get (l.peer.entries ++ e ∷ [])) w.steady.idle.kept ∙ there_last l.peer.entries e) in
+    chosen_goes r items after l m n (length (chosen l.peer.me l.peer.entries)) k.mv k.nonce (chosen_is by to items l m w p) (fits e next) on state
 
-pub put_more : (items : List Item) (l m : LoopState) (mv : Move) (nonce : Nonce) (fault : Option MoveFault) → IsPlaying items l → PutsChoice mv nonce fault l m → fault ≡ None → m.kept < length m.peer.entries
-put_more items l m mv nonce fault w p none =
-    let q = puts_none l m mv nonce fault p none in
-    let e : Entry = Chose (length (chosen l.peer.me l.peer.entries)) mv nonce in
-    subst (λ (x : LoopState). x.kept < length x.peer.entries) (sym q.stands.0) (let long = length-append l.peer.entries (e ∷ []) in let k = w.steady.idle.kept in omega (arith, long, k))
+-- a keep chooses nothing
+put_still : (by to : Chooser) (l m n : LoopState) → HasPut by to l m → n.peer ≡ m.peer → ChoosesIn by to false l n
+put_still by to l m n p same = subst (λ (q : PeerState). ChoosesBy l.peer.game l.peer.me by to false l.peer.entries q.entries) (sym same) p.puts.choices
 
-pub put_running : (items : List Item) (l m : LoopState) (mv : Move) (nonce : Nonce) (fault : Option MoveFault) → IsPlaying items l → PutsChoice mv nonce fault l m → fault ≡ None → m.phase ≡ Running
-put_running items l m mv nonce fault w p none = ap (λ (x : LoopState). x.phase) (puts_none l m mv nonce fault p none).stands.0 ∙ w.steady.idle.running
-
-put_goes : (done r : Bool) (items after : List Item) (l m n : LoopState) (mv : Move) (nonce : Nonce) (fault : Option MoveFault) → IsPlaying items l → PutsChoice mv nonce fault l m → fault ≡ None →
-    ((e : Entry) → slice_get m.peer.entries m.kept ≡ Some e → FitsEntry e) → r ≡ done → after ≡ items ++ keep_item (did_by r) (next_bytes m) ∷ [] → n ≡ kept_next r m → Grows items after l n
-put_goes done r items after l m n mv nonce fault w p none fits is on state =
-    let q = puts_none l m mv nonce fault p none in
-    let e : Entry = Chose (length (chosen l.peer.me l.peer.entries)) mv nonce in
-    let k = chosen_is items l m mv nonce w q in
-    let next : slice_get m.peer.entries m.kept ≡ Some e = subst (λ (x : LoopState). slice_get x.peer.entries x.kept ≡ Some e) (sym q.stands.0) (ap (slice_get (l.peer.entries ++ e ∷ [])) w.steady.idle.kept ∙ there_last l.peer.entries e) in
-    chosen_goes r items after l m n (length (chosen l.peer.me l.peer.entries)) mv nonce k (fits e next) on state
-
-pub choose_faults : (by to : Chooser) (r : Bool) (items after : List Item) (l m n : LoopState) (mv : Move) (nonce : Nonce) (fault : Option MoveFault) → IsDrawn l by to mv nonce → IsPlaying items l → PutsChoice mv nonce fault l m → fault ≡ None →
-    ((e : Entry) → slice_get m.peer.entries m.kept ≡ Some e → FitsEntry e) → r ≡ false → after ≡ items ++ keep_item (did_by r) (next_bytes m) ∷ [] → n ≡ kept_next r m → Chooses by to (Err T.KeepFault) items after l n
-choose_faults by to r items after l m n mv nonce fault d w p none fits is on state =
-    let q = puts_none l m mv nonce fault p none in
-    let e : Entry = Chose (length (chosen l.peer.me l.peer.entries)) mv nonce in
+pub choose_faults : (by to : Chooser) (r : Bool) (items after : List Item) (l m n : LoopState) → IsPlaying items l → HasPut by to l m → ((e : Entry) → slice_get m.peer.entries m.kept ≡ Some e → FitsEntry e) →
+    r ≡ false → after ≡ items ++ keep_item (did_by r) (next_bytes m) ∷ [] → n ≡ kept_next r m → Chooses by to (Err T.KeepFault) items after l n
+choose_faults by to r items after l m n w p fits is on state =
+    let e = put_entry l m p.puts.stands in
     let same : n ≡ kept_next false m = state ∙ ap (λ (b : Bool). kept_next b m) is in
-    let both : n ≡ kept_next false (with_entries (l.peer.entries ++ e ∷ []) l) = same ∙ ap (kept_next false) q.stands.0 in
+    let both : n ≡ kept_next false (with_entries (l.peer.entries ++ e ∷ []) l) = same ∙ ap (kept_next false) (put_same by to l m p) in
     let kept : take l.kept (l.peer.entries ++ e ∷ []) ≡ l.peer.entries = take-append-le l.kept l.peer.entries (e ∷ []) (let k = w.steady.idle.kept in omega (arith, k)) ∙ all_kept l w.steady.idle.kept in
     record {
       refused = false;
       refuses = tt;
-      choices = chose_one l n by to mv nonce d (ap (λ (x : LoopState). x.peer) both);
-      grows = put_goes false r items after l m n mv nonce fault w p none fits is on state;
+      choices = put_still by to l m n p (ap (λ (x : LoopState). x.peer) same);
+      grows = put_goes by to r items after l m n w p fits on state;
       stands = subst IsCut (sym both) (record { fault = refl; rest = inr (inl (e, ap (λ (xs : List Entry). xs ++ e ∷ []) (sym kept))) });
     }
 
 -- after the keep of the choice
-pub record IsPut (items mid : List Item) (l n : LoopState) (mv : Move) (nonce : Nonce) : Type 0 where
+pub record IsPut (by to : Chooser) (items mid : List Item) (l n : LoopState) : Type 0 where
+  pub choices : ChoosesIn by to false l n
+  pub choice : HasChoice l.peer n.peer
   pub grows : Grows items mid l n
   pub running : n.phase ≡ Running
   pub kept : n.kept ≡ length n.peer.entries
   pub table : n.table ≡ l.table
   pub handled : n.handled ≡ l.handled
-  pub entries : n.peer ≡ record l.peer { entries = l.peer.entries ++ Chose (length (chosen l.peer.me l.peer.entries)) mv nonce ∷ [] }
 
-pub put_on : (r : Bool) (items after : List Item) (l m n : LoopState) (mv : Move) (nonce : Nonce) (fault : Option MoveFault) → IsPlaying items l → PutsChoice mv nonce fault l m → fault ≡ None →
-    ((e : Entry) → slice_get m.peer.entries m.kept ≡ Some e → FitsEntry e) → r ≡ true → after ≡ items ++ keep_item (did_by r) (next_bytes m) ∷ [] → n ≡ kept_next r m → IsPut items after l n mv nonce
-put_on r items after l m n mv nonce fault w p none fits is on state =
-    let q = puts_none l m mv nonce fault p none in
-    let e : Entry = Chose (length (chosen l.peer.me l.peer.entries)) mv nonce in
+pub put_on : (by to : Chooser) (r : Bool) (items after : List Item) (l m n : LoopState) → IsPlaying items l → HasPut by to l m → ((e : Entry) → slice_get m.peer.entries m.kept ≡ Some e → FitsEntry e) →
+    r ≡ true → after ≡ items ++ keep_item (did_by r) (next_bytes m) ∷ [] → n ≡ kept_next r m → IsPut by to items after l n
+put_on by to r items after l m n w p fits is on state =
+    let e = put_entry l m p.puts.stands in
     let same : n ≡ kept_next true m = state ∙ ap (λ (b : Bool). kept_next b m) is in
-    let both : n ≡ kept_next true (with_entries (l.peer.entries ++ e ∷ []) l) = same ∙ ap (kept_next true) q.stands.0 in
+    let peer : n.peer ≡ m.peer = ap (λ (x : LoopState). x.peer) same in
+    let both : n ≡ kept_next true (with_entries (l.peer.entries ++ e ∷ []) l) = same ∙ ap (kept_next true) (put_same by to l m p) in
     record {
-      grows = put_goes true r items after l m n mv nonce fault w p none fits is on state;
+      choices = put_still by to l m n p peer;
+      choice = subst (HasChoice l.peer) (sym peer) p.puts.stands;
+      grows = put_goes by to r items after l m n w p fits on state;
       running = ap (λ (x : LoopState). x.phase) both ∙ w.steady.idle.running;
       kept = ap (λ (x : LoopState). x.kept) both ∙ (let k = w.steady.idle.kept in let long = length-append l.peer.entries (e ∷ []) in let z : l.kept + 1 ≡ length (l.peer.entries ++ e ∷ []) = omega (arith, k, long) in z) ∙ sym (ap (λ (x : LoopState). length x.peer.entries) both);
       table = ap (λ (x : LoopState). x.table) both;
       handled = ap (λ (x : LoopState). x.handled) both;
-      entries = ap (λ (x : LoopState). x.peer) both;
     }
 
 -- and of the own frames that it lets be made
-put_choices : (by to : Chooser) (r : Result (Unit {0}) Stop) (items mid after : List Item) (l n o : LoopState) (mv : Move) (nonce : Nonce) → IsDrawn l by to mv nonce → IsPut items mid l n mv nonce → Advances r mid after n o → ChoosesIn by to false l o
-put_choices by to r items mid after l n o mv nonce d p a = chooses_goes by to false mid after l n o p.grows.setting (chose_one l n by to mv nonce d p.entries) a.goes
+put_choices : (by to : Chooser) (r : Result (Unit {0}) Stop) (items mid after : List Item) (l n o : LoopState) → IsPut by to items mid l n → Advances r mid after n o → ChoosesIn by to false l o
+put_choices by to r items mid after l n o p a = chooses_goes by to false mid after l n o p.grows.setting p.choices a.goes
 
 clean_chose : (game : Game) (h : List Entry) (t : ℕ) (m : Move) (n : Nonce) → is_clean game (h ++ Chose t m n ∷ []) ≡ is_clean game h
 unfolding is_clean
 clean_chose game h t m n = ap (is_empty {X = Finding}) (findings_chose game h t m n)
 
-chosen_stands : (u : Unit {0}) (items mid after : List Item) (l n o : LoopState) (mv : Move) (nonce : Nonce) → IsPlaying items l → IsPut items mid l n mv nonce → Advances (Ok u) mid after n o → HasChosen l o
-chosen_stands u items mid after l n o mv nonce w p a =
+chosen_stands : (u : Unit {0}) (by to : Chooser) (items mid after : List Item) (l n o : LoopState) → IsPlaying items l → IsPut by to items mid l n → Advances (Ok u) mid after n o → HasChosen l o
+chosen_stands u by to items mid after l n o w p a =
     let all = grows_goes items mid after l n o p.grows a.goes in
     let me : o.peer.me ≡ l.peer.me = ap (λ (s : Setting). s.me) all.setting in
     let t = length (chosen l.peer.me l.peer.entries) in
-    let es = l.peer.entries ++ Chose t mv nonce ∷ [] in
-    let entries : o.peer.entries ≡ advance l.peer.game l.peer.me es = a.entries ∙ ap (λ (q : PeerState). advance q.game q.me q.entries) p.entries in
+    let c = p.choice in
+    let es = l.peer.entries ++ Chose t c.mv c.nonce ∷ [] in
+    let entries : o.peer.entries ≡ advance l.peer.game l.peer.me es = a.entries ∙ ap (λ (q : PeerState). advance q.game q.me q.entries) c.state in
     record {
       steady = record {
         idle = record {
@@ -301,80 +266,34 @@ chosen_stands u items mid after l n o mv nonce w p a =
         made = a.stands.1.made;
       };
       table = a.table ∙ p.table;
-      clean = ap (λ (g : Game). is_clean g o.peer.entries) (ap (λ (s : Setting). s.game) all.setting) ∙ ap (is_clean l.peer.game) entries ∙ clean_advance l.peer.game l.peer.me es ∙ clean_chose l.peer.game l.peer.entries t mv nonce;
-      one = ap (λ (q : ℕ). length (chosen q o.peer.entries)) me ∙ ap (λ (xs : List Entry). length (chosen l.peer.me xs)) entries ∙ ap (λ (os : List Opening). length os) (chosen_made l.peer.game l.peer.me es) ∙ chosen_one l.peer.me l.peer.entries t mv nonce;
+      clean = ap (λ (g : Game). is_clean g o.peer.entries) (ap (λ (s : Setting). s.game) all.setting) ∙ ap (is_clean l.peer.game) entries ∙ clean_advance l.peer.game l.peer.me es ∙ clean_chose l.peer.game l.peer.entries t c.mv c.nonce;
+      one = ap (λ (q : ℕ). length (chosen q o.peer.entries)) me ∙ ap (λ (xs : List Entry). length (chosen l.peer.me xs)) entries ∙ ap (λ (os : List Opening). length os) (chosen_made l.peer.game l.peer.me es) ∙ chosen_one l.peer.me l.peer.entries t c.mv c.nonce;
     }
 
-pub choose_ends : (by to : Chooser) (r : Result (Unit {0}) Stop) (items mid after : List Item) (l n o : LoopState) (mv : Move) (nonce : Nonce) → IsDrawn l by to mv nonce → IsPlaying items l → IsPut items mid l n mv nonce → Advances r mid after n o → Chooses by to r items after l o
-choose_ends by to (Ok u) items mid after l n o mv nonce d w p a = record {
+pub choose_ends : (by to : Chooser) (r : Result (Unit {0}) Stop) (items mid after : List Item) (l n o : LoopState) → IsPlaying items l → IsPut by to items mid l n → Advances r mid after n o → Chooses by to r items after l o
+choose_ends by to (Ok u) items mid after l n o w p a = record {
   refused = false;
   refuses = refl;
-  choices = put_choices by to (Ok u) items mid after l n o mv nonce d p a;
+  choices = put_choices by to (Ok u) items mid after l n o p a;
   grows = grows_goes items mid after l n o p.grows a.goes;
-  stands = chosen_stands u items mid after l n o mv nonce w p a;
+  stands = chosen_stands u by to items mid after l n o w p a;
 }
-choose_ends by to (Err stop) items mid after l n o mv nonce d w p a = record {
+choose_ends by to (Err stop) items mid after l n o w p a = record {
   refused = false;
   refuses = (faulty_unchosen stop o a.stands).refuses;
-  choices = put_choices by to (Err stop) items mid after l n o mv nonce d p a;
+  choices = put_choices by to (Err stop) items mid after l n o p a;
   grows = grows_goes items mid after l n o p.grows a.goes;
   stands = faulty_stops by.plan stop o a.stands;
 }
 
--- ---- a move that is not legal
-
-refused_same : (l m : LoopState) (mv : Move) (nonce : Nonce) (fault : Option MoveFault) (f : MoveFault) → PutsChoice mv nonce fault l m → fault ≡ Some f → m ≡ l
-refused_same l m mv nonce fault f p some = (subst (λ (o : Option MoveFault). PutsChoice mv nonce o l m) some p).stands.0
-
-pub refused_ready : (items : List Item) (l m : LoopState) (mv : Move) (nonce : Nonce) (fault : Option MoveFault) (f : MoveFault) → IsPlaying items l → PutsChoice mv nonce fault l m → fault ≡ Some f → IsReady items m
-refused_ready items l m mv nonce fault f w p some = subst (IsReady items) (sym (refused_same l m mv nonce fault f p some)) (record { told = w.told; idle = w.steady.idle })
-
--- from the loop before the choice
-refused_goes : {r : Result (Unit {0}) Stop} (items after : List Item) (l m n : LoopState) (mv : Move) (nonce : Nonce) (fault : Option MoveFault) (f : MoveFault) → PutsChoice mv nonce fault l m → fault ≡ Some f → Syncs r items after m n → Goes items after l n
-refused_goes items after l m n mv nonce fault f p some s = subst (λ (x : LoopState). Goes items after x n) (refused_same l m mv nonce fault f p some) s.goes
-
-refused_choices : (by to : Chooser) (items after : List Item) (l n : LoopState) (mv : Move) (nonce : Nonce) → IsDrawn l by to mv nonce → Goes items after l n → ChoosesIn by to true l n
-refused_choices by to items after l n mv nonce d g = chooses_goes by to true items after l l n refl (chose_refused l l by to mv nonce d refl) g
-
-refuses_fault : (stop : Stop) → stop ≡ T.KeepFault → (refused : Bool) → Refuses (settled_of stop) refused
-refuses_fault stop e refused = subst (λ (x : Stop). Refuses (settled_of x) refused) (sym e) tt
-
-pub refused_unsynced : (stop : Stop) (by to : Chooser) (items after : List Item) (l m n : LoopState) (mv : Move) (nonce : Nonce) (fault : Option MoveFault) (f : MoveFault) → IsDrawn l by to mv nonce → IsPlaying items l → PutsChoice mv nonce fault l m → fault ≡ Some f →
-    Syncs (Err stop) items after m n → Chooses by to (Err stop) items after l n
-refused_unsynced stop by to items after l m n mv nonce fault f d w p some s =
-    let g = refused_goes items after l m n mv nonce fault f p some s in
-    record {
-      refused = true;
-      refuses = refuses_fault stop s.same.0 true;
-      choices = refused_choices by to items after l n mv nonce d g;
-      grows = grows items after l n g;
-      stands = faulty_stops by.plan stop n (unsynced_faulty stop items after m n (refused_ready items l m mv nonce fault f w p some) s);
-    }
-
-pub own_move : (u : Unit {0}) (by to : Chooser) (items after : List Item) (l m n : LoopState) (choice : Choice) (mv : Move) (nonce : Nonce) (fault : Option MoveFault) (f : MoveFault) → IsDrawn l by to mv nonce → IsPlaying items l → may_choose l.peer.game l.peer.me l.peer.entries ≡ true →
-    choice ≡ choice_of l.peer.game l.peer.me l.peer.entries → PutsChoice mv nonce fault l m → fault ≡ Some f → Syncs (Ok u) items after m n → Chooses by to (Err (T.OwnMove choice.turn f)) items after l n
-own_move u by to items after l m n choice mv nonce fault f d w may is p some s =
-    let q = subst (λ (o : Option MoveFault). PutsChoice mv nonce o l m) some p in
-    let g = refused_goes items after l m n mv nonce fault f p some s in
-    let same : n ≡ synced_all true l = s.same ∙ ap (synced_all true) q.stands.0 in
-    record {
-      refused = true;
-      refuses = refl;
-      choices = refused_choices by to items after l n mv nonce d g;
-      grows = grows items after l n g;
-      stands = (
-        synced_whole u items after m n (refused_ready items l m mv nonce fault f w p some).idle s,
-        subst (IsOwnMove by.plan choice.turn f) (sym same) (record {
-          mv = mv;
-          chooses = may;
-          turn_is = ap (λ (x : Choice). x.turn) is;
-          planned = subst (λ (x : Choice). IfSome by.plan (λ p. mv ≡ p (chosen_track l.peer.game l.peer.me l.peer.entries) x.turn)) (sym is) d.planned;
-          refused = q.stands.1;
-        }),
-      );
-    }
-
 -- ---- one move after another
+
+pub record Choosing (by to : Chooser) (before items : List Item) (l m : LoopState) : Type 0 where
+  pub choices : ChoosesIn by to false l m
+  pub grows : Grows before items l m
+  pub table : m.table ≡ l.table
+  pub clean : is_clean m.peer.game m.peer.entries ≡ is_clean l.peer.game l.peer.entries
+  pub steady : IsSteady m
 
 pub choosing_first : (by : Chooser) (items : List Item) (l : LoopState) → IsPlaying items l → Choosing by by items items l l
 choosing_first by items l w =

@@ -15,7 +15,7 @@ use Rattle.socket_station.specs.Standings.{OpensNew, standing_in}
 use Rattle.socket_station.specs.Items.{Item, dial_item}
 use Rattle.socket_lines.specs.declared.seat.Seat.{Seat}
 use Rattle.socket_lines.specs.Seats.{dials, is_spent}
-use Rattle.loop_rules.specs.Settings.{told_addr}
+use Rattle.peer_rules.specs.Addresses.{told_addr}
 use Rattle.loop_rules.specs.Tables.{Table, at_seat, in_seats, seat_of, is_served}
 use Rattle.loop_rules.specs.Licence.{is_reached}
 use Rattle.loop_rules.specs.Rules.{is_allowed, may_dial_at, wants_dial}

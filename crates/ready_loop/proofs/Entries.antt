@@ -16,10 +16,11 @@ use Rattle.session_log.specs.Writing.{Writing, mark_of, chain_of, written}
 use Rattle.session_log.proofs.Found.{length-sha256}
 use Rattle.session_log.proofs.Texts.{entry_read}
 use Rattle.socket_station.specs.Items.{Item, KeepCall, Failed, Kept}
-use Rattle.loop_rules.specs.declared.phases.Phase.TheVariants.{KeepFault}
+use Rattle.peer_rules.specs.declared.phases.Phase.TheVariants.{KeepFault}
 use Rattle.loop_rules.specs.Views.{View}
 use Rattle.loop_rules.specs.Handling.{sorted_out}
-use Rattle.loop_rules.specs.Keeping.{entry_in, may_keep, may_keep_as, may_keep_in, with_entry, kept_entry}
+use Rattle.loop_rules.specs.Keeping.{may_keep, may_keep_as, may_keep_in, with_entry, kept_entry}
+use Rattle.peer_rules.specs.Entries.{entry_in}
 use Rattle.loop_rules.specs.After.{in_phase}
 use Rattle.loop_rules.specs.Told.{IsTold}
 use Rattle.loop_rules.proofs.Told.{told_goes_on}

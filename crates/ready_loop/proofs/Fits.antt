@@ -9,8 +9,8 @@ use Rattle.definitions.specs.declared.logs.Entry.{Entry}
 use Rattle.session_log.specs.Writing.{Writing, fresh}
 use Rattle.session_log.specs.Writing as W
 use Rattle.socket_lines.specs.declared.seat.Seat.{Seat}
-use Rattle.loop_rules.specs.declared.phases.Phase.{Phase}
-use Rattle.loop_rules.specs.declared.phases.Phase.TheVariants.{KeepFault}
+use Rattle.peer_rules.specs.declared.phases.Phase.{Phase}
+use Rattle.peer_rules.specs.declared.phases.Phase.TheVariants.{KeepFault}
 use Rattle.loop_rules.specs.Tables.{Table}
 use Rattle.loop_rules.specs.Told.{HasNone, DiffersBy}
 use Rattle.loop_rules.specs.Handling.{IsOfOther}

@@ -7,8 +7,8 @@ use Rattle.definitions.specs.declared.logs.Entry.{Entry}
 use Rattle.definitions.specs.declared.logs.Entry.TheVariants.{Got}
 use Rattle.definitions.specs.Findings.{is_clean}
 use Rattle.socket_station.specs.Items.{Item, Kept, Failed, KeepCall, keep_item}
-use Rattle.loop_rules.specs.declared.arrivals.Arrival.{Arrival}
-use Rattle.loop_rules.specs.declared.phases.Phase.TheVariants.{Running, KeepFault}
+use Rattle.peer_rules.specs.declared.arrivals.Arrival.{Arrival}
+use Rattle.peer_rules.specs.declared.phases.Phase.TheVariants.{Running, KeepFault}
 use Rattle.loop_rules.specs.Tables.{Table}
 use Rattle.loop_rules.specs.Handling.{with_waiting, sorted}
 use Rattle.loop_rules.specs.Told.{IsTold}

@@ -29,7 +29,7 @@ use Rattle.socket_lines.specs.Seats.{asks, is_asked_for}
 use Rattle.socket_lines.specs.Asks.{is_asked}
 use Rattle.socket_station.specs.Items.{Item}
 use Rattle.loop_rules.specs.Told.{IsTold}
-use Rattle.loop_rules.specs.declared.arrivals.Arrival.{Arrival}
+use Rattle.peer_rules.specs.declared.arrivals.Arrival.{Arrival}
 use Rattle.loop_rules.specs.Tables.{Table, at_seat, in_seats, room_by_seat}
 use Rattle.loop_rules.specs.Views.{View}
 use Rattle.loop_rules.specs.Handling.{next_of, sorted, IsOfOther}

@@ -6,10 +6,10 @@ use Rattle.std.proofs.lemmas.Bool.{and_from}
 use Rattle.definitions.specs.Findings.{is_clean}
 use Rattle.definitions.specs.declared.logs.Entry.{Entry}
 use Rattle.definitions.specs.Held.{next_place}
-use Rattle.loop_rules.specs.declared.arrivals.Arrival.{Arrival}
+use Rattle.peer_rules.specs.declared.arrivals.Arrival.{Arrival}
 use Rattle.loop_rules.specs.Hearing.{Hearer}
 use Rattle.loop_rules.specs.Handling.{hearer_of, sorted}
-use Rattle.loop_rules.specs.Licence.{is_running}
+use Rattle.peer_rules.specs.Phases.{is_running}
 use Rattle.loop_rules.specs.Rules.{is_serving}
 use Rattle.ready_loop.specs.Hearers.{hearer_by}
 use Rattle.ready_loop.specs.States.{LoopState, kept_of, base_of, view_of}

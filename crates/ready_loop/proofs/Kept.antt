@@ -17,9 +17,9 @@ use Rattle.session_log.specs.Writing.{Writing, fresh, written}
 use Rattle.session_log.specs.Writing as W
 use Rattle.socket_station.specs.declared.answers.Did.TheVariants as D
 use Rattle.socket_station.specs.Items.{Item, KeepCall, Failed, Kept, keep_item}
-use Rattle.loop_rules.specs.declared.arrivals.Arrival.{Arrival}
-use Rattle.loop_rules.specs.declared.phases.Phase.{Phase}
-use Rattle.loop_rules.specs.declared.phases.Phase.TheVariants.{KeepFault}
+use Rattle.peer_rules.specs.declared.arrivals.Arrival.{Arrival}
+use Rattle.peer_rules.specs.declared.phases.Phase.{Phase}
+use Rattle.peer_rules.specs.declared.phases.Phase.TheVariants.{KeepFault}
 use Rattle.loop_rules.specs.Views.{View}
 use Rattle.loop_rules.specs.Handling.{with_waiting, is_new_to, passed, sorted, sorted_out, IsOfOther}
 use Rattle.loop_rules.specs.Keeping.{may_keep_in, with_entry}

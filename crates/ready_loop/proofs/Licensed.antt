@@ -10,9 +10,10 @@ use Rattle.definitions.specs.Needs.{needs, may_choose}
 use Rattle.definitions.specs.Findings.{is_clean}
 use Rattle.definitions.specs.Advance.{next_made}
 use Rattle.socket_station.specs.Items.{Item}
-use Rattle.loop_rules.specs.declared.arrivals.Arrival.{Arrival}
-use Rattle.loop_rules.specs.declared.phases.Phase.TheVariants.{KeepFault}
-use Rattle.loop_rules.specs.Licence.{is_running, all_is_read, all_is_given, all_is_shut, bytes_wait, is_waited_for, all_are_reached, all_is_played, is_licensed}
+use Rattle.peer_rules.specs.declared.arrivals.Arrival.{Arrival}
+use Rattle.peer_rules.specs.declared.phases.Phase.TheVariants.{KeepFault}
+use Rattle.loop_rules.specs.Licence.{all_is_read, all_is_given, all_is_shut, bytes_wait, is_waited_for, all_are_reached, all_is_played, is_licensed}
+use Rattle.peer_rules.specs.Phases.{is_running}
 use Rattle.loop_rules.specs.Views.{View}
 use Rattle.loop_rules.proofs.Kept.{keeps_sorted}
 use Rattle.ready_loop.specs.States.{LoopState, base_of, rest_of, view_of}

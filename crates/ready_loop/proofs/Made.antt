@@ -1,6 +1,5 @@
 -- Made: the own frames that were just made are kept one by one.
-use Rattle.std.proofs.Common.{inl, inr, ◌≡◌, ℕ, zero, suc, ◌+◌, ◌*◌, ◌<◌, ◌≤◌, Bool, true, false, refl, sym, ap, subst, ◌∙◌, List, [], ◌∷◌, ◌++◌, append_assoc, append-nil, arith, length}
-use Rattle.std.proofs.lemmas.Bool.{and_from}
+use Rattle.std.proofs.Common.{inl, inr, ◌≡◌, ℕ, ◌+◌, ◌<◌, ◌≤◌, Bool, true, false, refl, sym, ap, subst, ◌∙◌, List, [], ◌∷◌, ◌++◌, append_assoc, arith, length}
 use Rattle.std.specs.Prelude.{Option, Some, None, ◌&&◌, take, slice_get, Ok, Err}
 use Rattle.std.proofs.lemmas.List.{length-take-le}
 use Rattle.std.proofs.Math.Seq.{take-length}
@@ -10,19 +9,20 @@ use Rattle.definitions.specs.declared.logs.Entry.{Entry}
 use Rattle.definitions.specs.declared.logs.Entry.TheVariants.{Made}
 use Rattle.definitions.specs.World.{Game}
 use Rattle.definitions.specs.Honest.{allowed}
-use Rattle.definitions.specs.Advance.{advance, advance_by, next_made, with_made}
-use Rattle.definition_laws.proofs.Alike.{frame_eq_same}
-use Rattle.definition_laws.proofs.Advances.{advance_ends, next_made_allowed}
+use Rattle.definitions.specs.Advance.{advance, next_made}
+use Rattle.definition_laws.proofs.Advances.{advance_ends}
 use Rattle.definition_laws.proofs.ForPeers.{advance_step, advance_still}
 use Rattle.session_log.specs.Spelling.{FitsEntry}
 use Rattle.socket_station.specs.Items.{Item, keep_item}
-use Rattle.loop_rules.specs.declared.phases.Phase.{Phase}
-use Rattle.loop_rules.specs.declared.phases.Phase.TheVariants.{Running}
+use Rattle.peer_rules.specs.declared.phases.Phase.{Phase}
+use Rattle.peer_rules.specs.declared.phases.Phase.TheVariants.{Running}
 use Rattle.loop_rules.specs.Settings.{Setting}
-use Rattle.loop_rules.specs.Keeping.{is_frame, may_keep_in}
+use Rattle.loop_rules.specs.Keeping.{may_keep_in}
+use Rattle.peer_rules.specs.Order.{is_frame}
 use Rattle.loop_rules.specs.Told.{IsTold}
 use Rattle.loop_rules.proofs.Kept.{Keeps, keeps_sorted}
 use Rattle.loop_rules.specs.Handling.{IsOfOther}
+use Rattle.own_moves.proofs.Runs.{made_next, advance_run}
 use Rattle.ready_loop.specs.declared.stops.Stop.TheVariants as T
 use Rattle.ready_loop.specs.States.{LoopState, kept_of, base_of, rest_of, view_of}
 use Rattle.ready_loop.specs.Steps.{did_by, next_bytes, kept_next}
@@ -30,22 +30,6 @@ use Rattle.ready_loop.specs.Going.{Goes}
 use Rattle.ready_loop.specs.Handling.{KeepsMade}
 use Rattle.ready_loop.proofs.Going.{goes_then}
 use Rattle.ready_loop.proofs.Kept.{MayKeep, take_next, own_goes, each_drop}
-
-advance_by_more : (game : Game) (me n : ℕ) (h : List Entry) → (more : List Entry) × (advance_by game me n h ≡ h ++ more)
-unfolding advance_by
-advance_by_more game me zero h = ([], sym (append-nil h))
-advance_by_more game me (suc n) h = go (next_made game me h) (λ g. advance_by_more game me n g)
-  where
-    go : (o : Option TurnFrame) → ((g : List Entry) → (more : List Entry) × (advance_by game me n g ≡ g ++ more)) → (more : List Entry) × (advance_by game me n (with_made h o) ≡ h ++ more)
-    go None ih = ih h
-    go (Some f) ih =
-        let r = ih (h ++ Made f ∷ []) in
-        (Made f ∷ r.0, r.1 ∙ append_assoc h (Made f ∷ []) r.0)
-
--- advancing adds to the log
-pub advance_more : (game : Game) (me : ℕ) (h : List Entry) → (more : List Entry) × (advance game me h ≡ h ++ more)
-unfolding advance
-advance_more game me h = advance_by_more game me (2 * game.turns) h
 
 there_behind : (kept rest : List Entry) (e : Entry) → slice_get (kept ++ e ∷ rest) (length kept) ≡ Some e
 there_behind [] rest e = refl
@@ -74,7 +58,7 @@ next_is game me k es d lt a = go (next_made game me (take k es)) refl
         absurd (let l = long in omega (arith, all, l, lt))
     go (Some f) e =
         let step : advance game me (h ++ Made f ∷ []) ≡ es = sym (advance_step game me h f d e) ∙ a in
-        let r = advance_more game me (h ++ Made f ∷ []) in
+        let r = advance_run game me (h ++ Made f ∷ []) in
         let all : es ≡ h ++ Made f ∷ r.0 = sym step ∙ r.1 ∙ append_assoc h (Made f ∷ []) r.0 in
         let here : slice_get es k ≡ Some (Made f) =
         ap (λ (xs : List Entry). slice_get xs k) all ∙ ap (slice_get (h ++ Made f ∷ r.0)) (sym long) ∙ there_behind h r.0 (Made f) in
@@ -96,7 +80,7 @@ made_may l f running e =
     ap (λ (p : Phase). may_keep_in p (view_of l) (Made f)) (k.phase ∙ running)
     ∙ ap (λ (s : Setting). allowed s.game s.me (view_of l).kept (Made f) && is_frame (next_made s.game s.me (view_of l).kept) f) k.setting
     ∙ ap (λ (h : List Entry). allowed l.peer.game l.peer.me h (Made f) && is_frame (next_made l.peer.game l.peer.me h) f) k.kept
-    ∙ and_from _ _ (next_made_allowed l.peer.game l.peer.me (kept_of l) f e) (ap (λ (o : Option TurnFrame). is_frame o f) e ∙ frame_eq_same f)
+    ∙ made_next l.peer.game l.peer.me (kept_of l) f e
   where
     k : Keeps (base_of l) (view_of l)
     k = keeps_sorted (rest_of l) (base_of l)

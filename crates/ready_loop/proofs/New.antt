@@ -12,7 +12,7 @@ use Rattle.loop_rules.specs.Told.{HasNone, DiffersBy}
 use Rattle.definitions.specs.declared.logs.Entry.{Entry}
 use Rattle.peer_core.specs.Views.{PeerState}
 use Rattle.session_log.specs.Writing.{Writing, fresh}
-use Rattle.loop_rules.specs.declared.phases.Phase.TheVariants.{Fresh}
+use Rattle.peer_rules.specs.declared.phases.Phase.TheVariants.{Fresh}
 use Rattle.loop_rules.specs.Tables.{Table}
 use Rattle.loop_rules.specs.Views.{first_table}
 use Rattle.ready_loop.specs.States.{LoopState, IsFit, IsOthers}

@@ -33,7 +33,7 @@ use Rattle.ready_loop.specs.Serving.{IsServing, ShutsAll, WritesAll, IsNextDial,
 use Rattle.ready_loop.specs.Waiting.{waits_for}
 use Rattle.ready_loop.specs.Stops.{IsWhole, IsOver, is_idle, settled_of, StandsStopped}
 use Rattle.ready_loop.specs.Settling.{IsReady, IsPlaying, ChoosesIn, Plays, Syncs, Catches, StandsPassed, Passes, Settles, ServesSo, IsReadOut}
-use Rattle.ready_loop.specs.Choices.{Chooser}
+use Rattle.own_moves.specs.Choices.{Chooser}
 use Rattle.ready_loop.proofs.Going.{goes_then, grows, grows_then, goes_grows, grows_goes}
 use Rattle.ready_loop.proofs.Choices.{chooses_none, chooses_then, goes_chooses, chooses_goes}
 use Rattle.ready_loop.proofs.Served.{serving_on}

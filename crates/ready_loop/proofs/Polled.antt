@@ -14,7 +14,7 @@ use Rattle.socket_station.specs.Items.{Item, Polled, PollCall, Failed, poll_item
 use Rattle.socket_lines.specs.declared.line.Line.{Line}
 use Rattle.socket_lines.specs.declared.seat.Seat.{Seat}
 use Rattle.socket_lines.specs.Seats.{rests}
-use Rattle.loop_rules.specs.declared.phases.Phase.TheVariants.{PollFault}
+use Rattle.peer_rules.specs.declared.phases.Phase.TheVariants.{PollFault}
 use Rattle.loop_rules.specs.Tables.{Table}
 use Rattle.loop_rules.specs.Licence.{all_is_shut, is_licensed}
 use Rattle.loop_rules.specs.After.{listed, rested, polled_on}

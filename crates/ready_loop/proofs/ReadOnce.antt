@@ -12,7 +12,7 @@ use Rattle.socket_station.specs.Standings.{OpensNew}
 use Rattle.socket_station.specs.Withins.{TakesWithin}
 use Rattle.socket_lines.specs.declared.line.Line.{Line}
 use Rattle.socket_lines.specs.Lines.{closed, quieted}
-use Rattle.loop_rules.specs.declared.arrivals.Arrival.{Arrival}
+use Rattle.peer_rules.specs.declared.arrivals.Arrival.{Arrival}
 use Rattle.loop_rules.specs.Tables.{Table, at_line, line_of, room_on, room_by, asks_shut}
 use Rattle.loop_rules.specs.Hearing.{Hearer, took_on}
 use Rattle.loop_rules.specs.Handling.{sorted, sorted_out}

@@ -11,15 +11,16 @@ use Rattle.ready_loop.specs.declared.settling.Settled.{Settled}
 use Rattle.ready_loop.specs.declared.settling.Settled.TheVariants as S
 use Rattle.ready_loop.specs.declared.polling.Round.{Round}
 use Rattle.ready_loop.specs.declared.polling.Round.TheVariants as R
-use Rattle.ready_loop.specs.declared.polling.Ended.{Ended}
+use Rattle.loop_ends.specs.declared.ends.Ended.{Ended}
 use Rattle.ready_loop.specs.States.{LoopState, view_of}
-use Rattle.ready_loop.specs.Choices.{Chooser}
+use Rattle.own_moves.specs.Choices.{Chooser}
 use Rattle.ready_loop.specs.declared.stops.Stop.{Stop}
 use Rattle.ready_loop.specs.declared.stops.Stop.TheVariants as T
 use Rattle.ready_loop.specs.Stops.{StandsSettled, Refuses, is_idle, settled_of}
 use Rattle.ready_loop.specs.Settling.{IsReady, ChoosesIn, Settles}
 use Rattle.ready_loop.specs.Polling.{IsLicensedToPoll, GoesBy, Polls, polls_in, round_of, is_round_on, ended_of, ended_at, StandsRound, RefusesRound, Rounds, StandsEnded, RefusesEnded, Ends}
-use Rattle.ready_loop.proofs.Choices.{chose_none, chose_still, chooses_then}
+use Rattle.own_moves.proofs.Choices.{chose_none, chose_still}
+use Rattle.ready_loop.proofs.Choices.{chooses_then}
 use Rattle.ready_loop.proofs.Polled.{by_then, by_none, by_still}
 use Rattle.ready_loop.proofs.Passing.{not_idle}
 

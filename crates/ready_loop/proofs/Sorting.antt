@@ -17,8 +17,8 @@ use Rattle.definitions.specs.Answers.{is_beyond, is_far, is_same}
 use Rattle.definition_laws.proofs.Silent.{findings_made, findings_chose, got_push}
 use Rattle.session_log.specs.Writing as W
 use Rattle.socket_lines.specs.Seats.{asks}
-use Rattle.loop_rules.specs.declared.arrivals.Arrival.{Arrival}
-use Rattle.loop_rules.specs.declared.phases.Phase.{Phase}
+use Rattle.peer_rules.specs.declared.arrivals.Arrival.{Arrival}
+use Rattle.peer_rules.specs.declared.phases.Phase.{Phase}
 use Rattle.loop_rules.specs.Tables.{at_seat}
 use Rattle.loop_rules.specs.Views.{View}
 use Rattle.loop_rules.specs.Handling.{next_of, with_waiting, passed, is_new_to, sorted, IsOfOther}

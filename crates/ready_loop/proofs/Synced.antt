@@ -4,8 +4,8 @@ use Rattle.std.specs.Prelude.{◌⊎◌, Ok, Err, nat_lt}
 use Rattle.std.proofs.lemmas.Bool.{cases_lt, lt-ltb}
 use Rattle.definitions.specs.declared.logs.Entry.{Entry}
 use Rattle.socket_station.specs.Items.{Item, Synced, Failed, SyncCall, sync_item}
-use Rattle.loop_rules.specs.declared.phases.Phase.{Phase}
-use Rattle.loop_rules.specs.declared.phases.Phase.TheVariants.{KeepFault}
+use Rattle.peer_rules.specs.declared.phases.Phase.{Phase}
+use Rattle.peer_rules.specs.declared.phases.Phase.TheVariants.{KeepFault}
 use Rattle.loop_rules.specs.Rules.{is_allowed}
 use Rattle.loop_rules.specs.After as A
 use Rattle.loop_rules.specs.Told.{IsTold}

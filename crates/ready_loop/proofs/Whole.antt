@@ -7,20 +7,20 @@ use Rattle.definitions.specs.Needs.{may_choose}
 use Rattle.pilots.specs.Plans.{Plan}
 use Rattle.peer_core.specs.Views.{PeerState}
 use Rattle.socket_station.specs.Items.{Item}
-use Rattle.loop_rules.specs.declared.phases.Phase.TheVariants.{KeepFault}
+use Rattle.peer_rules.specs.declared.phases.Phase.TheVariants.{KeepFault}
 use Rattle.loop_rules.specs.Settings.{Setting}
 use Rattle.loop_rules.specs.Views.{View}
 use Rattle.loop_rules.specs.After as A
 use Rattle.loop_rules.specs.Histories.{IsHistory, BeginsLog, RunEnd, Handled, AtOwnMove, HandledAll, EndsWhole, IsHistoryOf}
 use Rattle.loop_rules.specs.Told.{IsTold}
 use Rattle.loop_rules.proofs.Kept.{Keeps, keeps_sorted}
-use Rattle.ready_loop.specs.declared.beginning.Begun.{Begun}
-use Rattle.ready_loop.specs.declared.beginning.Begun.TheVariants as B
+use Rattle.loop_ends.specs.declared.ends.Begun.{Begun}
+use Rattle.loop_ends.specs.declared.ends.Begun.TheVariants as B
 use Rattle.ready_loop.specs.declared.settling.Settled.TheVariants as S
-use Rattle.ready_loop.specs.declared.polling.Ended.{Ended}
-use Rattle.ready_loop.specs.declared.polling.Ended.TheVariants as E
+use Rattle.loop_ends.specs.declared.ends.Ended.{Ended}
+use Rattle.loop_ends.specs.declared.ends.Ended.TheVariants as E
 use Rattle.ready_loop.specs.States.{LoopState, setting_of, kept_of, base_of, rest_of, view_of}
-use Rattle.ready_loop.specs.Choices.{ChoosesBy}
+use Rattle.own_moves.specs.Choices.{ChoosesBy}
 use Rattle.ready_loop.specs.Going.{IsDeaf, polls_of}
 use Rattle.ready_loop.specs.Beginning.{given_by, IsNew, StandsBegun}
 use Rattle.ready_loop.specs.Stops.{IsWhole, StandsSettled}

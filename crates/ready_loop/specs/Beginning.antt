@@ -3,14 +3,14 @@ use Rattle.std.specs.Prelude.{◌≡◌, ℕ, List, length}
 use Rattle.rosters.specs.Rosters.{Neighbours}
 use Rattle.socket_station.specs.Items.{Item}
 use Rattle.peer_core.specs.Views.{PeerState}
-use Rattle.loop_rules.specs.declared.phases.Phase.TheVariants.{Fresh, KeepFault}
+use Rattle.peer_rules.specs.declared.phases.Phase.TheVariants.{Fresh, KeepFault}
 use Rattle.loop_rules.specs.Settings.{Setting}
 use Rattle.loop_rules.specs.Views.{first_table}
 use Rattle.loop_rules.specs.Histories.{BeginsLog}
 use Rattle.loop_rules.specs.Told.{IsTold}
 use Rattle.loop_laws.specs.Sockets.{SocketsAreNew}
-use Rattle.ready_loop.specs.declared.beginning.Begun.{Begun}
-use Rattle.ready_loop.specs.declared.beginning.Begun.TheVariants as B
+use Rattle.loop_ends.specs.declared.ends.Begun.{Begun}
+use Rattle.loop_ends.specs.declared.ends.Begun.TheVariants as B
 use Rattle.ready_loop.specs.States.{LoopState, setting_of, view_of}
 use Rattle.ready_loop.specs.Going.{IsIdle, IsDeaf, polls_of}
 

@@ -4,7 +4,7 @@ use Rattle.std.specs.List.{count_by}
 use Rattle.definitions.specs.declared.logs.Entry.{Entry}
 use Rattle.definitions.specs.Advance.{advance, next_made}
 use Rattle.socket_station.specs.Items.{Item, Polled}
-use Rattle.loop_rules.specs.declared.phases.Phase.TheVariants.{Running, KeepFault, PollFault}
+use Rattle.peer_rules.specs.declared.phases.Phase.TheVariants.{Running, KeepFault, PollFault}
 use Rattle.loop_rules.specs.Told.{IsTold}
 use Rattle.loop_laws.specs.Sockets.{SocketsAreNew}
 use Rattle.ready_loop.specs.States.{LoopState, kept_of, setting_of, choices_of, view_of}

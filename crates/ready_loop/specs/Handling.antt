@@ -13,9 +13,9 @@ use Rattle.socket_station.specs.Items.{Item, read_item}
 use Rattle.socket_station.specs.Withins.{TakesWithin}
 use Rattle.socket_station.specs.declared.answers.SocketRead.{SocketRead}
 use Rattle.socket_lines.specs.declared.line.Line.{Line}
-use Rattle.loop_rules.specs.declared.phases.Phase.TheVariants.{Running}
+use Rattle.peer_rules.specs.declared.phases.Phase.TheVariants.{Running}
 use Rattle.socket_lines.specs.Seats.{asks}
-use Rattle.loop_rules.specs.declared.arrivals.Arrival.{Arrival}
+use Rattle.peer_rules.specs.declared.arrivals.Arrival.{Arrival}
 use Rattle.loop_rules.specs.Tables.{Table, at_seat, seat_of, room_by_seat, room_on}
 use Rattle.loop_rules.specs.Rules.{wants_read}
 use Rattle.loop_rules.specs.Told.{IsTold}

@@ -4,15 +4,15 @@ use Rattle.socket_station.specs.Items.{Item}
 use Rattle.loop_rules.specs.Histories.{RunEnd, Handled, AtOwnMove, IsHistoryOf}
 use Rattle.loop_rules.specs.Told.{IsTold}
 use Rattle.loop_laws.specs.Sockets.{SocketsAreNew}
-use Rattle.ready_loop.specs.declared.beginning.Begun.{Begun}
-use Rattle.ready_loop.specs.declared.beginning.Begun.TheVariants as B
+use Rattle.loop_ends.specs.declared.ends.Begun.{Begun}
+use Rattle.loop_ends.specs.declared.ends.Begun.TheVariants as B
 use Rattle.ready_loop.specs.declared.settling.Settled.{Settled}
 use Rattle.ready_loop.specs.declared.polling.Round.{Round}
 use Rattle.ready_loop.specs.declared.polling.Round.TheVariants as R
-use Rattle.ready_loop.specs.declared.polling.Ended.{Ended}
-use Rattle.ready_loop.specs.declared.polling.Ended.TheVariants as E
+use Rattle.loop_ends.specs.declared.ends.Ended.{Ended}
+use Rattle.loop_ends.specs.declared.ends.Ended.TheVariants as E
 use Rattle.ready_loop.specs.States.{LoopState, kept_of, setting_of, view_of}
-use Rattle.ready_loop.specs.Choices.{Chooser, ChoosesBy}
+use Rattle.own_moves.specs.Choices.{Chooser, ChoosesBy}
 use Rattle.ready_loop.specs.Beginning.{given_by, IsNew, Begins}
 use Rattle.ready_loop.specs.Going.{polls_of}
 use Rattle.ready_loop.specs.Settling.{Settles}

@@ -2,7 +2,6 @@ pub mod Hearers
 pub mod States
 pub mod Steps
 pub mod Going
-pub mod Choices
 pub mod Stops
 pub mod Handling
 pub mod Serving

@@ -1,7 +1,7 @@
 -- Overs: the entries of an older log are taken over.
 use Rattle.std.specs.Prelude.{◌≡◌, ◌≤◌, Bool, true, false, List, [], ◌++◌, length}
 use Rattle.socket_station.specs.Items.{Item}
-use Rattle.loop_rules.specs.declared.phases.Phase.TheVariants.{Logged, Running, KeepFault, PollFault}
+use Rattle.peer_rules.specs.declared.phases.Phase.TheVariants.{Logged, Running, KeepFault, PollFault}
 use Rattle.loop_rules.specs.Told.{IsTold}
 use Rattle.loop_laws.specs.Sockets.{SocketsAreNew}
 use Rattle.ready_loop.specs.States.{LoopState, setting_of, view_of}

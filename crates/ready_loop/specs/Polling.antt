@@ -9,10 +9,10 @@ use Rattle.ready_loop.specs.declared.settling.Settled.{Settled}
 use Rattle.ready_loop.specs.declared.settling.Settled.TheVariants as S
 use Rattle.ready_loop.specs.declared.polling.Round.{Round}
 use Rattle.ready_loop.specs.declared.polling.Round.TheVariants as R
-use Rattle.ready_loop.specs.declared.polling.Ended.{Ended}
-use Rattle.ready_loop.specs.declared.polling.Ended.TheVariants as E
+use Rattle.loop_ends.specs.declared.ends.Ended.{Ended}
+use Rattle.loop_ends.specs.declared.ends.Ended.TheVariants as E
 use Rattle.ready_loop.specs.States.{LoopState, setting_of, view_of}
-use Rattle.ready_loop.specs.Choices.{Chooser}
+use Rattle.own_moves.specs.Choices.{Chooser}
 use Rattle.ready_loop.specs.Going.{IsDeaf, polls_of}
 use Rattle.ready_loop.specs.Stops.{IsWhole, Refuses, StandsSettled}
 use Rattle.ready_loop.specs.Settling.{ChoosesIn}

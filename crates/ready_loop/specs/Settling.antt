@@ -1,50 +1,23 @@
 -- Settling: what stands after the calls that play.
-use Rattle.std.specs.Prelude.{not, ◌≡◌, ◌+◌, ◌<◌, ◌≤◌, Bool, true, false, List, [], ◌∷◌, ◌++◌, Option, Some, None, Result, Ok, Err, length}
+use Rattle.std.specs.Prelude.{not, ◌≡◌, ◌+◌, ◌<◌, Bool, true, false, List, Option, Result, Ok, Err, length}
 use Rattle.std.specs.List.{list_all}
-use Rattle.definitions.specs.Lists.{EachIs}
-use Rattle.definitions.specs.declared.openings.Nonce.{Nonce}
-use Rattle.definitions.specs.declared.logs.Entry.TheVariants.{Chose}
-use Rattle.definitions.specs.declared.world.Move.{Move}
-use Rattle.definitions.specs.declared.world.MoveFault.{MoveFault}
-use Rattle.definitions.specs.declared.answers.OwnFault.{OwnFault}
-use Rattle.definitions.specs.declared.answers.OwnFault.TheVariants.{NotNow, Illegal}
 use Rattle.definitions.specs.Logs.{chosen}
-use Rattle.definitions.specs.Needs.{may_choose, choice_fault}
+use Rattle.definitions.specs.Needs.{may_choose}
 use Rattle.definitions.specs.Findings.{is_clean}
-use Rattle.peer_core.specs.Standing.{IsStanding}
 use Rattle.pilots.specs.Plans.{Plan}
 use Rattle.socket_station.specs.Items.{Item}
 use Rattle.loop_rules.specs.Rules.{wants_read}
 use Rattle.loop_rules.specs.Licence.{is_licensed}
 use Rattle.loop_rules.specs.Told.{IsTold}
-use Rattle.loop_rules.specs.Handling.{IsOfOther}
 use Rattle.ready_loop.specs.declared.settling.Settled.{Settled}
 use Rattle.ready_loop.specs.declared.stops.Stop.{Stop}
 use Rattle.ready_loop.specs.declared.stops.Stop.TheVariants as T
 use Rattle.ready_loop.specs.States.{LoopState, view_of}
 use Rattle.ready_loop.specs.Steps.{synced_all}
 use Rattle.ready_loop.specs.Going.{Goes, Grows, IsIdle, IsSteady, undialled}
-use Rattle.ready_loop.specs.Choices.{Chooser, ChoosesBy}
+use Rattle.own_moves.specs.Choices.{Chooser, ChoosesBy}
 use Rattle.ready_loop.specs.Stops.{IsWhole, Refuses, settled_of, settled_by, is_idle, StandsSettled, StandsStopped, StandsUnchosen}
 use Rattle.ready_loop.specs.Handling.{IsReadyToRead}
-
--- why a move is not legal, where that is the fault
-abbrev pub illegal_of : OwnFault → Option MoveFault
-illegal_of NotNow = None
-illegal_of (Illegal fault) = Some fault
-
--- the choice is in the log, which is honest, or the move is not legal
-abbrev pub StandsPut : Move → Nonce → Option MoveFault → LoopState → LoopState → Type 0
-StandsPut mv nonce None l m =
-    (m ≡ record l { peer = record l.peer { entries = l.peer.entries ++ Chose (length (chosen l.peer.me l.peer.entries)) mv nonce ∷ [] } }) × IsStanding m.peer
-StandsPut mv nonce (Some fault) l m = (m ≡ l) × (choice_fault l.peer.game l.peer.me l.peer.entries mv ≡ Some (Illegal fault))
-
--- with what every loop keeps to
-pub record PutsChoice (mv : Move) (nonce : Nonce) (fault : Option MoveFault) (l m : LoopState) : Type 0 where
-  pub stands : StandsPut mv nonce fault l m
-  pub kept : l.kept ≤ length l.peer.entries
-  pub over : l.over ≤ length l.peer.entries
-  pub others : EachIs (IsOfOther l.peer.game l.peer.me) l.table.waiting
 
 -- the own moves that are chosen meanwhile are the chooser's
 abbrev pub ChoosesIn : (by to : Chooser) (refused : Bool) (l m : LoopState) → Type 0

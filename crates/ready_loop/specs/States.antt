@@ -11,9 +11,9 @@ use Rattle.session_log.specs.Writing.{Writing, fresh}
 use Rattle.session_log.specs.Writing as W
 use Rattle.peer_core.specs.Views.{PeerState}
 use Rattle.socket_lines.specs.declared.seat.Seat.{Seat}
-use Rattle.loop_rules.specs.declared.arrivals.Arrival.{Arrival}
-use Rattle.loop_rules.specs.declared.phases.Phase.{Phase}
-use Rattle.loop_rules.specs.declared.phases.Phase.TheVariants.{KeepFault}
+use Rattle.peer_rules.specs.declared.arrivals.Arrival.{Arrival}
+use Rattle.peer_rules.specs.declared.phases.Phase.{Phase}
+use Rattle.peer_rules.specs.declared.phases.Phase.TheVariants.{KeepFault}
 use Rattle.loop_rules.specs.Settings.{Setting}
 use Rattle.loop_rules.specs.Tables.{Table}
 use Rattle.loop_rules.specs.Told.{DiffersBy}

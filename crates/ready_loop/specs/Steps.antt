@@ -11,8 +11,8 @@ use Rattle.socket_station.specs.declared.answers.SocketWrite.{SocketWrite}
 use Rattle.socket_station.specs.declared.answers.SocketWrite.TheVariants as O
 use Rattle.socket_lines.specs.Lines.{closed, quieted, blocked}
 use Rattle.socket_lines.specs.Giving.{Desk, Speaker}
-use Rattle.loop_rules.specs.declared.phases.Phase.{Phase}
-use Rattle.loop_rules.specs.declared.phases.Phase.TheVariants.{KeepFault}
+use Rattle.peer_rules.specs.declared.phases.Phase.{Phase}
+use Rattle.peer_rules.specs.declared.phases.Phase.TheVariants.{KeepFault}
 use Rattle.loop_rules.specs.Tables.{Table, at_line}
 use Rattle.loop_rules.specs.Hearing.{Hearer, took_on}
 use Rattle.loop_rules.specs.After.{gave_with}

@@ -1,15 +1,11 @@
 -- Stops: why a loop stops, and where it stands then.
-use Rattle.std.specs.Prelude.{◌≡◌, ℕ, Bool, true, false, Option, Some, IfSome, Result, Ok, Err, length}
-use Rattle.definitions.specs.declared.world.Move.{Move}
-use Rattle.definitions.specs.declared.world.MoveFault.{MoveFault}
-use Rattle.definitions.specs.declared.answers.OwnFault.TheVariants.{Illegal}
-use Rattle.definitions.specs.Logs.{chosen}
-use Rattle.definitions.specs.Honest.{made_count, chosen_track}
-use Rattle.definitions.specs.Needs.{may_choose, choice_fault}
+use Rattle.std.specs.Prelude.{◌≡◌, Bool, true, false, Option, Some, Result, Ok, Err}
+use Rattle.definitions.specs.Honest.{made_count}
 use Rattle.definitions.specs.Findings.{is_clean}
 use Rattle.definition_laws.specs.First.{finding_of_log}
 use Rattle.definition_laws.specs.Advancing.{IsDone}
 use Rattle.pilots.specs.Plans.{Plan}
+use Rattle.own_moves.specs.Making.{IsOwnMove}
 use Rattle.loop_rules.specs.Licence.{bytes_wait}
 use Rattle.ready_loop.specs.declared.settling.Settled.{Settled}
 use Rattle.ready_loop.specs.declared.settling.Settled.TheVariants as S
@@ -17,14 +13,6 @@ use Rattle.ready_loop.specs.declared.stops.Stop.{Stop}
 use Rattle.ready_loop.specs.declared.stops.Stop.TheVariants as T
 use Rattle.ready_loop.specs.States.{LoopState}
 use Rattle.ready_loop.specs.Going.{IsCut, IsIdle}
-
--- the pilot's move of the turn that is to be chosen is not legal
-pub record IsOwnMove (plan : Option Plan) (turn : ℕ) (fault : MoveFault) (m : LoopState) : Type 0 where
-  pub mv : Move
-  pub chooses : may_choose m.peer.game m.peer.me m.peer.entries ≡ true
-  pub turn_is : turn ≡ length (chosen m.peer.me m.peer.entries)
-  pub planned : IfSome plan (λ p. mv ≡ p (chosen_track m.peer.game m.peer.me m.peer.entries) turn)
-  pub refused : choice_fault m.peer.game m.peer.me m.peer.entries mv ≡ Some (Illegal fault)
 
 -- every entry is kept and synced
 pub record IsWhole (m : LoopState) : Type 0 where
@@ -44,7 +32,7 @@ StandsSettled plan S.Idle m = IsWhole m
 StandsSettled plan S.Done m = IsOver m
 StandsSettled plan (S.Caught f) m = IsWhole m × (finding_of_log m.peer.game m.peer.entries ≡ Some f)
 StandsSettled plan S.KeepFault m = IsCut m
-StandsSettled plan (S.OwnMove turn fault) m = IsWhole m × IsOwnMove plan turn fault m
+StandsSettled plan (S.OwnMove turn fault) m = IsWhole m × IsOwnMove plan turn fault m.peer
 
 abbrev pub is_idle : Settled → Bool
 is_idle S.Idle = true

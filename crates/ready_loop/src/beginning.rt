@@ -2,25 +2,15 @@
 
 ghost use Rattle.std.specs.Prelude.{◌≡◌, ◌++◌, ◌∷◌, [], length};
 ghost use Rattle.socket_station.specs.Items.{log_item, listen_item};
-ghost use Rattle.loop_rules.specs.Settings.{told_addr};
+ghost use Rattle.peer_rules.specs.Addresses.{told_addr};
 ghost use Rattle.ready_loop.specs.Steps.{did_by};
 ghost use Rattle.ready_loop.specs.Beginning.{IsNew, Begins};
 ghost use Rattle.ready_loop.specs.Overs.{logged_on, listens_on, IsTakingOver, TakesOver, SyncsOver};
 
 use crate::ready::Loop;
-use loop_rules::Phase;
+use loop_ends::Begun;
+use peer_rules::Phase;
 use socket_station::{Addr, Did, Station};
-
-/// How a beginning ended.
-#[derive(Clone, Copy, Debug, PartialEq, Eq)]
-pub enum Begun {
-    /// The loop listens.
-    Ready,
-    /// `log_to`, `keep` or `sync` failed.
-    KeepFault,
-    /// `listen` failed.
-    PollFault,
-}
 
 impl Loop {
     /// Begins the log.

@@ -11,8 +11,8 @@ ghost use Rattle.ready_loop.specs.Handling.{KeepsMade, Advances, Hears, Handles,
 use crate::ready::Loop;
 use crate::stops::Stop;
 use definitions::{GotAnswer, PlayerId};
-use loop_rules::{Arrival, Phase};
 use peer_core::is_logged;
+use peer_rules::{Arrival, Phase};
 use socket_station::Station;
 
 impl Loop {

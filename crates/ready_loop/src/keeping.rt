@@ -8,7 +8,7 @@ ghost use Rattle.ready_loop.specs.Steps.{did_by, next_bytes, kept_next, synced_a
 
 use crate::fitting::fits;
 use crate::ready::Loop;
-use loop_rules::Phase;
+use peer_rules::Phase;
 use socket_station::{Did, Station};
 
 impl Loop {

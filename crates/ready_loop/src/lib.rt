@@ -11,6 +11,7 @@
 mod beginning;
 mod counts;
 mod dialling;
+mod ending;
 mod fitting;
 mod handling;
 mod hears;
@@ -27,8 +28,8 @@ mod stops;
 mod waiting;
 mod writing;
 
-pub use beginning::Begun;
 pub use counts::Spent;
-pub use polling::{Ended, Round};
+pub use loop_ends::{Begun, Ended};
+pub use polling::Round;
 pub use ready::Loop;
 pub use settling::Settled;

@@ -3,13 +3,14 @@
 ghost use Rattle.std.specs.Prelude.{◌≡◌};
 ghost use Rattle.ready_loop.specs.Polling.{Polls, Rounds, Ends, IsLicensedToPoll, round_of, ended_at};
 ghost use Rattle.ready_loop.specs.Stops.{settled_of};
-ghost use Rattle.ready_loop.specs.Choices.{chooser};
+ghost use Rattle.own_moves.specs.Choices.{chooser};
 ghost use Rattle.ready_loop.specs.Settling.{IsReady};
 
 use crate::ready::Loop;
 use crate::stops::Stop;
 use definitions::{Finding, MoveFault, Turn};
-use loop_rules::Phase;
+use loop_ends::Ended;
+use peer_rules::Phase;
 use pilots::Pilot;
 use rand_core::Rng;
 use socket_station::{Did, Station};
@@ -29,23 +30,6 @@ pub enum Round {
     KeepFault,
     /// The pilot's move of this turn is not legal.
     OwnMove(Turn, MoveFault),
-}
-
-/// How a run ended.
-#[derive(Clone, Copy, Debug, PartialEq, Eq)]
-pub enum Ended {
-    /// The log has no finding, all own turns are made, nobody is waited for, and no bytes wait.
-    Done,
-    /// The log has a finding: this is its first.
-    Caught(Finding),
-    /// `poll` failed.
-    PollFault,
-    /// `keep` or `sync` failed.
-    KeepFault,
-    /// The pilot's move of this turn is not legal.
-    OwnMove(Turn, MoveFault),
-    /// All polls were made, what they brought is handled, and a further one is licensed.
-    GaveUp,
 }
 
 /// How a round ends that stopped so.

@@ -9,8 +9,8 @@ ghost use Rattle.peer_core.specs.Standing.{IsStanding};
 ghost use Rattle.ready_loop.specs.Beginning.{new_loop};
 
 use definitions::Finding;
-use loop_rules::Phase;
 use peer_core::Peer;
+use peer_rules::Phase;
 use rosters::Roster;
 use session_log::LogWriter;
 use socket_station::ReadyList;

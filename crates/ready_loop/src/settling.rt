@@ -2,7 +2,7 @@
 
 ghost use Rattle.std.specs.Prelude.{◌≡◌, ◌<◌, ◌≤◌, None};
 ghost use Rattle.ready_loop.specs.Handling.{IsReadyToRead};
-ghost use Rattle.ready_loop.specs.Choices.{chooser};
+ghost use Rattle.own_moves.specs.Choices.{chooser};
 ghost use Rattle.ready_loop.specs.Stops.{settled_by};
 ghost use Rattle.ready_loop.specs.Settling.{Settles, IsReady, IsReadOut, Passes, ServesSo, Syncs, Catches};
 ghost use Rattle.ready_loop.specs.Serving.{IsServing};

@@ -94,7 +94,7 @@ module _ (law : Law) (holds : Holds law) (memory : law.memory ≡ true) (rest : 
         files = files;
         asked = holds.unasked h';
         input = record { same = refl; grows = grows_none rest.input.seen };
-        text = λ contents behind m. inl (record { station = refl; chance = refl }, ran_weaker a b (law.answer contents _) law.late _ _ s (ran contents _ m.given));
+        text = λ contents behind m. inl (record { station = refl; post = refl; chance = refl }, ran_weaker a b (law.answer contents _) law.late _ _ s (ran contents _ m.given));
         memory = where_no_memory s (law.memory ≡ true) memory;
         faults = ran_counts rest a b h h' (law.answer some none) law.late s f (ran some none (contents_fit law h h' calls files));
         untouched = record { over = λ contents behind m over. refl; no_memory = where_no_memory s (law.first ≡ true → rest.input ≡ rest.input) (λ e. refl) };
@@ -117,7 +117,7 @@ module _ (law : Law) (holds : Holds law) (memory : law.memory ≡ true) (rest : 
         files = files;
         asked = holds.unasked h';
         input = record { same = refl; grows = grows_none rest.input.seen };
-        text = λ contents behind m. inl (record { station = refl; chance = refl }, refused_ran rest a a h h' _ law.late _ _ s (is contents _ m.given) (λ e. (f ∙ ap (λ x. faults_behind x h.faults) (ap is_input_fault e), refl)));
+        text = λ contents behind m. inl (record { station = refl; post = refl; chance = refl }, refused_ran rest a a h h' _ law.late _ _ s (is contents _ m.given) (λ e. (f ∙ ap (λ x. faults_behind x h.faults) (ap is_input_fault e), refl)));
         memory = where_no_memory s (law.memory ≡ true) memory;
         faults = refused_counts rest a a h h' _ s some f;
         untouched = record { over = λ contents behind m over. refl; no_memory = where_no_memory s (law.first ≡ true → rest.input ≡ rest.input) (λ e. refl) };

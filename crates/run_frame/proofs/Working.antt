@@ -2,7 +2,6 @@
 use Rattle.std.proofs.Common.{◌≡◌, ◌⊎◌, inl, inr, ℕ, Bool, true, false, List, [], ◌∷◌, ◌++◌, append-nil, Option, Some, zero, suc, refl, ap, sym, ◌∙◌, subst}
 use Rattle.std.specs.Prelude.{map}
 use Rattle.definitions.specs.Lists.{item_or}
-use Rattle.socket_station.specs.Items.{Item}
 use Rattle.station.specs.Outside.{Rose}
 use Rattle.station.specs.Pieces.{AllGive, Piece}
 use Rattle.station.specs.Shelves.{ShelfState}
@@ -17,7 +16,7 @@ use Rattle.line_io.proofs.Unread.{none_in_turn, none_read, none_readings}
 use Rattle.run_frame.specs.Ends.{Finished, Refuses}
 use Rattle.run_frame.specs.Frame.{Answer, Lacked, OnNoMemory, Ran}
 use Rattle.run_frame.specs.Law.{HasCause, Law, ReadsFor}
-use Rattle.run_frame.specs.Outside.{CountsFaults, IsApart, OneFailed, Outside, with_output}
+use Rattle.run_frame.specs.Outside.{Answered, CountsFaults, IsApart, OneFailed, Outside, answered_by, with_output}
 use Rattle.run_frame.specs.Runs.{Acts, ForAny, Played, LeavesAlone, MayBe, ReadsOn, Runs, Works, read_by}
 use Rattle.run_frame.specs.Turns.{input_by}
 use Rattle.run_frame.specs.declared.statuses.Status.{Status}
@@ -29,7 +28,7 @@ use Rattle.line_io.proofs.Writing.{bytes_none}
 -- What a law shows of itself: each status that is due has its cause, and what is good comes to its end.
 pub record Holds (law : Law) : Type 0 where
   pub caused : (contents : Contents) (input : Input) → ending_of input ≡ AtEnd → HasCause law contents input (law.answer contents input).status
-  pub done : (contents : Contents) (input : Input) (answered : List Item) → ending_of input ≡ AtEnd → law.good contents input answered →
+  pub done : (contents : Contents) (input : Input) (answered : Answered) → ending_of input ≡ AtEnd → law.good contents input answered →
       law.ends (law.answer contents input).status ⊎ ((law.answer contents input).status ≡ NoMemory)
   pub meant : (contents : Contents) (input : Input) → law.meant contents input
   -- nothing is read where memory is wanting at first
@@ -39,9 +38,9 @@ pub record Holds (law : Law) : Type 0 where
   pub unremembered : (ended : Bool) → law.through NoMemory ended
   -- a run whose output failed came to no end
   pub cut : (ended : Bool) → law.through OutputFault ended
-  -- where calls of the station are made, the same
+  -- where calls of the station or the post are made, the same
   pub played_cause : (contents : Contents) (input : Input) (before after : Outside) (s : Status) → law.plays contents before after s → HasCause law contents input s
-  pub played_done : (contents : Contents) (input : Input) (before after : Outside) (s : Status) → law.plays contents before after s → law.good contents input after.station →
+  pub played_done : (contents : Contents) (input : Input) (before after : Outside) (s : Status) → law.plays contents before after s → law.good contents input (answered_by after) →
       ¬ Rose before.shelf.faults after.shelf.faults → ¬ Rose before.output.faults after.output.faults → law.ends s
 
 -- What a run shows before the line of its status.
@@ -125,7 +124,7 @@ module _ (law : Law) (holds : Holds law) (before mid : Outside) (s : Status) (w 
 
   text : (contents : Contents) (behind : List ℕ) → MayBe after w.calls contents behind → Acts law before after told contents behind
   text contents behind m = elim (w.text contents behind (before_line m)) [
-    | inl (apart, ran) ↦ inl (record { station = apart.station; chance = apart.chance }, finished before.output mid.output output (read_by before after) behind (law.answer contents) law.late _ _ told s ran r)
+    | inl (apart, ran) ↦ inl (record { station = apart.station; post = apart.post; chance = apart.chance }, finished before.output mid.output output (read_by before after) behind (law.answer contents) law.late _ _ told s ran r)
     | inr p ↦ inr (record { output = mid.output; ended = s; plays = p; line = r })
   ]
 
@@ -139,7 +138,7 @@ module _ (law : Law) (holds : Holds law) (before mid : Outside) (s : Status) (w 
     | inr h ↦ subst (HasCause law contents input) (sym h.0) tt
   ]
 
-  done_on : (contents : Contents) (input : Input) → Played law contents before after told → law.good contents input after.station →
+  done_on : (contents : Contents) (input : Input) → Played law contents before after told → law.good contents input (answered_by after) →
       ¬ Rose before.shelf.faults after.shelf.faults → ¬ Rose before.output.faults after.output.faults → law.ends told
   done_on contents input p good fs fo = elim p.line [
     | inl h ↦ subst law.ends (sym h.0) (holds.played_done contents input before _ p.ended p.plays good fs
@@ -153,11 +152,11 @@ module _ (law : Law) (holds : Holds law) (before mid : Outside) (s : Status) (w 
     | inr p ↦ caused_on contents _ p
   ]
 
-  done : (contents : Contents) (behind : List ℕ) → MayBe after w.calls contents behind → law.good contents (input_of AtEnd (read_by before after ++ behind)) after.station →
+  done : (contents : Contents) (behind : List ℕ) → MayBe after w.calls contents behind → law.good contents (input_of AtEnd (read_by before after ++ behind)) (answered_by after) →
       ¬ Rose before.input.faults after.input.faults → ¬ Rose before.shelf.faults after.shelf.faults → ¬ Rose before.output.faults after.output.faults →
       law.ends told ⊎ ((told ≡ NoMemory) × IsApart before after)
   done contents behind m good fi fs fo = elim (text contents behind m) [
-    | inl (apart, f) ↦ comes law.ends told _ (IsApart before after) apart (holds.done contents _ after.station (ends_at_end (read_by before after ++ behind)) good)
+    | inl (apart, f) ↦ comes law.ends told _ (IsApart before after) apart (holds.done contents _ (answered_by after) (ends_at_end (read_by before after ++ behind)) good)
         (completed _ _ _ _ _ _ _ before after told f faults fi fs fo)
     | inr p ↦ inl (done_on contents _ p good fs fo)
   ]
@@ -208,7 +207,7 @@ unremembered law holds memory outside = works law holds outside outside NoMemory
   };
   asked = holds.unasked outside.shelf;
   input = record { same = refl; grows = grows_none outside.input.seen };
-  text = λ contents behind m. inl (record { station = refl; chance = refl }, lacked_none law.late outside.output _);
+  text = λ contents behind m. inl (record { station = refl; post = refl; chance = refl }, lacked_none law.late outside.output _);
   memory = memory;
   faults = (record { source = refl; files = refl }, refl);
   untouched = record { over = λ contents behind m over. refl; no_memory = λ first. refl };

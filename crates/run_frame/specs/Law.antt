@@ -1,12 +1,11 @@
 -- Law: all that is promised of one command, by what its files hold and by its input. Each command has a page
 -- with its law, in its own crate.
 use Rattle.std.specs.Prelude.{◌≡◌, ℕ, Bool, false, true, List}
-use Rattle.socket_station.specs.Items.{Item}
 use Rattle.station.specs.Shelves.{ShelfState}
 use Rattle.line_io.specs.Files.{Calls, Contents, ReadsFiles}
 use Rattle.line_io.specs.Inputs.{Input}
 use Rattle.run_frame.specs.Frame.{Answer}
-use Rattle.run_frame.specs.Outside.{Outside}
+use Rattle.run_frame.specs.Outside.{Answered, Outside}
 use Rattle.run_frame.specs.declared.statuses.Status.{Status}
 use Rattle.run_frame.specs.declared.statuses.Status.TheVariants.{Done, NoMemory, InputFault, OutputFault}
 
@@ -18,9 +17,9 @@ pub record Law : Type 1 where
   -- what it asks of the shelf after those files, and at which places: nothing, but for a command that
   -- gives a file on piece by piece
   pub asks : (before after : ShelfState) → Type 0
-  -- what it writes and how it ends, where it makes no call of the station
+  -- what it writes and how it ends, where it makes no call of the station and none of the post
   pub answer : Contents → Input → Answer
-  -- what it does and how it ends, where it makes calls of the station, before the line of its status
+  -- what it does and how it ends, where it makes calls of one of the two, before the line of its status
   pub plays : Contents → (before after : Outside) → Status → Type 0
   -- nothing is due by its input
   pub over : Contents → Type 0
@@ -36,14 +35,15 @@ pub record Law : Type 1 where
   pub first : Bool
   -- why it may end so; want of memory and faults have their causes outside
   pub cause : Contents → Input → Status → Type 0
-  -- words, files, input and what the station's calls answered are such that it comes to its end
-  pub good : Contents → Input → (answered : List Item) → Type 0
+  -- words, files, input and what the calls of the station and the post answered are such that it comes
+  -- to its end
+  pub good : Contents → Input → Answered → Type 0
   -- how it ends then
   pub ends : Status → Type 0
   -- what is behind its answer
   pub meant : Contents → Input → Type 0
 
--- The law of a command that reads its input and makes no call of the station.
+-- The law of a command that reads its input and makes no call of the station or the post.
 abbrev pub law_without_sockets : (names : List (List ℕ)) → (due : (before after : ShelfState) → Calls → Type 0) → (answer : Contents → Input → Answer) →
     (over : Contents → Type 0) → (through : Status → (ended : Bool) → Type 0) → (first : Bool) → (cause : Contents → Input → Status → Type 0) →
     (good : Contents → Input → Type 0) → (meant : Contents → Input → Type 0) → Law
@@ -64,8 +64,8 @@ law_without_sockets names due answer over through first cause good meant = recor
   meant = meant;
 }
 
--- The law of a command that reads no input and makes no call of the station, and takes all its memory before
--- its first byte.
+-- The law of a command that reads no input and makes no call of the station or the post, and takes all its
+-- memory before its first byte.
 abbrev pub law_without_input : (names : List (List ℕ)) → (due : (before after : ShelfState) → Calls → Type 0) → (answer : Contents → Answer) →
     (cause : Contents → Status → Type 0) → (good : Contents → Type 0) → (meant : Contents → Type 0) → Law
 law_without_input names due answer cause good meant =

@@ -10,7 +10,7 @@ use Rattle.line_io.specs.Inputs.{AtEnd, AtFault, Input, MayFollow, input_of}
 use Rattle.run_frame.specs.Ends.{Finished, Refuses}
 use Rattle.run_frame.specs.Frame.{OnNoMemory}
 use Rattle.run_frame.specs.Law.{HasCause, Law, ReadsFor}
-use Rattle.run_frame.specs.Outside.{CountsFaults, IsApart, Outside, with_output}
+use Rattle.run_frame.specs.Outside.{CountsFaults, IsApart, Outside, answered_by, with_output}
 use Rattle.run_frame.specs.declared.statuses.Status.{Status}
 use Rattle.run_frame.specs.declared.statuses.Status.TheVariants.{NoMemory}
 
@@ -53,8 +53,8 @@ Writes law before after status contents behind =
     (law.answer contents (input_of AtEnd (read_by before after ++ behind))) (law.answer contents (input_of AtFault (read_by before after))) law.late
     (Rose before.input.faults after.input.faults) (Rose before.shelf.faults after.shelf.faults × (after.input ≡ before.input)) status
 
--- It did what a command does that makes calls of the station, and then wrote the line of its status, if that
--- has one.
+-- It did what a command does that makes calls of the station or the post, and then wrote the line of its
+-- status, if that has one.
 pub record Played (law : Law) (contents : Contents) (before after : Outside) (status : Status) : Type 0 where
   -- the output and the status before that line
   pub output : SinkState
@@ -62,7 +62,8 @@ pub record Played (law : Law) (contents : Contents) (before after : Outside) (st
   pub plays : law.plays contents before (with_output after output) ended
   pub line : Refuses output after.output ended status
 
--- It made no call of the station, and wrote what is due; or it did what a command does that makes some.
+-- It made no call of the station or the post, and wrote what is due; or it did what a command does that
+-- makes some.
 abbrev pub Acts : Law → (before after : Outside) → Status → Contents → (behind : List ℕ) → Type 0
 Acts law before after status contents behind = (IsApart before after × Writes law before after status contents behind) ⊎ Played law contents before after status
 
@@ -76,8 +77,8 @@ pub record LeavesAlone (law : Law) (before after : Outside) (calls : Calls) (sta
 -- When the run comes to its end.
 pub record Completes (law : Law) (before after : Outside) (calls : Calls) (status : Status) : Type 0 where
   -- where all is good, and neither input, files nor output failed, only memory can be wanting, and only before
-  -- any call of the station
-  pub done : ForAny after calls (λ contents behind. law.good contents (input_of AtEnd (read_by before after ++ behind)) after.station →
+  -- any call of the station or the post
+  pub done : ForAny after calls (λ contents behind. law.good contents (input_of AtEnd (read_by before after ++ behind)) (answered_by after) →
       ¬ Rose before.input.faults after.input.faults → ¬ Rose before.shelf.faults after.shelf.faults → ¬ Rose before.output.faults after.output.faults →
       law.ends status ⊎ ((status ≡ NoMemory) × IsApart before after))
   -- at its end the input was read to its end, where it is read

@@ -55,7 +55,7 @@ module _ (rest : Outside) (i i' : SourceState) (a b : SinkState) (h h' : ShelfSt
     asked = refl;
     input = lacks_reads i i' a b (schedule_answer game) s p;
     text = λ contents behind m. inl (
-      record { station = refl; chance = refl },
+      record { station = refl; post = refl; chance = refl },
       subst (λ (x : Answer). Ran a b x false (Rose i.faults i'.faults) (Rose h.faults h'.faults × (i' ≡ i)) s) (sym (ap (λ (r : Result Game Status). answer_in r (input_by s (since i.seen i'.seen) behind)) (o.due (content contents 0) (m.given 0))))
           (lacks_ran i i' a b (schedule_answer game) (Rose h.faults h'.faults × (i' ≡ i)) s p behind m.follows),
     );

@@ -7,7 +7,7 @@ use Rattle.rosters.specs.declared.roster.Link.{Link}
 use Rattle.socket_lines.specs.declared.line.Line.{Line}
 use Rattle.socket_lines.specs.declared.seat.Seat.{Seat}
 use Rattle.socket_lines.specs.Seats.{new_seat}
-use Rattle.loop_rules.specs.declared.arrivals.Arrival.{Arrival}
+use Rattle.peer_rules.specs.declared.arrivals.Arrival.{Arrival}
 use Rattle.loop_rules.specs.Told.{HasNone, DiffersBy}
 use Rattle.socket_table.specs.declared.table.TheConstants.{MOST_LINES, MOST_TAKEN}
 use Rattle.socket_table.specs.Sound.{IsFitSeat, IsSound}

@@ -17,7 +17,7 @@ use Rattle.socket_lines.specs.declared.line.Line.{Line}
 use Rattle.socket_lines.specs.declared.seat.Seat.{Seat}
 use Rattle.socket_lines.specs.Seats as S
 use Rattle.socket_lines.specs.Lines.{doomed, moved_to}
-use Rattle.loop_rules.specs.declared.arrivals.Arrival.{Arrival}
+use Rattle.peer_rules.specs.declared.arrivals.Arrival.{Arrival}
 use Rattle.loop_rules.specs.Tables.{Table, line_of, seat_of, at_line, at_seat, room_by, room_by_seat, room_on}
 use Rattle.loop_rules.specs.Hearing.{Hearer, names, named, heard_first, obeyed, arrived, heard_named, heard_by, heard_on, heard, counted, counted_on, read_on, read_at, heard_all, took_with, took_on}
 use Rattle.loop_rules.specs.Handling.{IsOfOther}

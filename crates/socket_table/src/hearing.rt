@@ -14,7 +14,7 @@ use crate::finding::seat_index;
 use crate::hears::Hears;
 use crate::table::Table;
 use definitions::{Place, PlayerId, TurnFrame};
-use loop_rules::Arrival;
+use peer_rules::Arrival;
 use socket_lines::{Line, Seat};
 use socket_station::SocketId;
 use wire_frames::Frame;

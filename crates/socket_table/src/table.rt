@@ -10,7 +10,7 @@ ghost use Rattle.loop_rules.specs.Told.{DiffersBy};
 
 use crate::finding::seat_index;
 use definitions::{Place, PlayerId};
-use loop_rules::Arrival;
+use peer_rules::Arrival;
 use rosters::Link;
 use socket_lines::{Line, Seat};
 use std::alloc::{AllocError, Global};

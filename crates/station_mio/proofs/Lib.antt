@@ -7,7 +7,6 @@ pub mod Seeing
 pub mod Dialled
 pub mod Opening
 pub mod Coming
-pub mod Appended
 pub mod Growing
 pub mod Quiet
 pub mod Told

@@ -20,7 +20,8 @@ use Rattle.station_mio.specs.Asking.{Connects, Enrolls, ListensAt, Selects}
 use Rattle.station_mio.specs.Dialling.{GoesDialled, GoesDue, GoesOn, GoesOnAll}
 use Rattle.station_mio.specs.Accepting.{Comes, IsRefused}
 use Rattle.station_mio.specs.Nets.{Net, AcceptsAll, AcceptsOne, AcceptsWaiting, Come, Dials, DialsAt, DialsBy, DialsDue, GoesOnIn, Lists, Listens, ListensBy, Polls, StopsAt, Waits}
-use Rattle.station_mio.specs.Telling.{File, file_after, file_in, no_file, read_at, read_in, wrote_at, wrote_in}
+use Rattle.station_mio.specs.Telling.{read_at, read_in, wrote_at, wrote_in}
+use Rattle.host_log.specs.Telling.{File, file_after, file_in, no_file}
 
 -- a call that moves no bytes and touches no file
 abbrev pub is_quiet : Ask → Bool
@@ -80,6 +81,10 @@ no_read s (A.FolderOpened p r) q = refl
 no_read s (A.Appended b r) q = absurd (cc)
 no_read s (A.FileSynced r) q = absurd (cc)
 no_read s (A.FolderSynced r) q = absurd (cc)
+no_read s (A.Bound a r) q = refl
+no_read s (A.MailboxWatched r) q = refl
+no_read s (A.Received r) q = refl
+no_read s (A.Sent a b r) q = refl
 
 no_write : (s : ℕ) (ask : Ask) → is_quiet ask ≡ true → wrote_at s ask ≡ []
 no_write s (A.Read n r) q = absurd (cc)
@@ -99,6 +104,10 @@ no_write s (A.FolderOpened p r) q = refl
 no_write s (A.Appended b r) q = absurd (cc)
 no_write s (A.FileSynced r) q = absurd (cc)
 no_write s (A.FolderSynced r) q = absurd (cc)
+no_write s (A.Bound a r) q = refl
+no_write s (A.MailboxWatched r) q = refl
+no_write s (A.Received r) q = refl
+no_write s (A.Sent a b r) q = refl
 
 no_change : (f : File) (ask : Ask) → is_quiet ask ≡ true → file_after f ask ≡ f
 no_change f (A.Read n r) q = absurd (cc)
@@ -118,6 +127,10 @@ no_change f (A.FolderOpened p r) q = refl
 no_change f (A.Appended b r) q = absurd (cc)
 no_change f (A.FileSynced r) q = absurd (cc)
 no_change f (A.FolderSynced r) q = absurd (cc)
+no_change f (A.Bound a r) q = refl
+no_change f (A.MailboxWatched r) q = refl
+no_change f (A.Received r) q = refl
+no_change f (A.Sent a b r) q = refl
 
 quiet_reads : (s : ℕ) (more : List Ask) → AreQuiet more → read_in s more ≡ []
 quiet_reads s [] q = refl

@@ -1,9 +1,8 @@
 -- Told: what a station tells, one more call after the other.
-use Rattle.std.proofs.Common.{◌≡◌, inl, inr, ℕ, ◌==◌, Bool, true, false, List, [], ◌∷◌, ◌++◌, Option, Some, None, take, refl, sym, ap, ◌∙◌, subst, arith}
+use Rattle.std.proofs.Common.{◌≡◌, ℕ, ◌==◌, Bool, true, false, List, [], ◌∷◌, ◌++◌, Option, Some, None, take, refl, sym, ap, ◌∙◌, subst, arith}
 use Rattle.std.specs.Prelude.{Result, Ok, Err, if◌then◌else◌}
-use Rattle.std.specs.List.{fold}
 use Rattle.std.proofs.lemmas.Bool.Decides.{nat_tests}
-use Rattle.std.proofs.lemmas.List.{append_assoc, append-nil}
+use Rattle.std.proofs.lemmas.List.{append-nil}
 use Rattle.std.proofs.lemmas.Grind.{flat_map-append}
 use Rattle.std.proofs.lemmas.List.Sums.{fold-append}
 use Rattle.socket_station.specs.declared.answers.Addr.{Addr}
@@ -23,10 +22,13 @@ use Rattle.machine_host.specs.Asks as A
 use Rattle.machine_host.specs.Asks.{Ask, bytes_of}
 use Rattle.station_mio.specs.Rows.{Stand, Due, Dialled, Up, Lost, closings_of, number_of, stand_in}
 use Rattle.station_mio.specs.Asking.{Reads, ReadsStand, Writes, WritesStand, is_read_over, is_write_over, read_of, would_block, write_of}
-use Rattle.station_mio.specs.Files.{AppendsAll, AreAppends, CreatesLog, SyncsLog, appended_in}
 use Rattle.station_mio.specs.Nets.{Net}
-use Rattle.station_mio.specs.Stations.{Keeps, LogsTo, SyncsTo, begun_on, did_by, kept_on, logged_on, synced_on}
-use Rattle.station_mio.specs.Telling.{File, IsFront, IsLog, Tells, file_after, file_in, no_file, read_at, read_in, stays_of, wrote_at, wrote_in}
+use Rattle.station_mio.specs.Stations.{Keeps, LogsTo, SyncsTo, did_by}
+use Rattle.station_mio.specs.Telling.{Tells, read_at, read_in, wrote_at, wrote_in}
+use Rattle.host_log.specs.Logs.{LogStand, kept_on, logged_on, synced_on}
+use Rattle.host_log.specs.Telling.{File, IsFront, IsLog, TellsLog, file_after, file_in, log_kept, log_synced, no_file, stays_of}
+use Rattle.host_log.proofs.Told.{tells_log_begun, tells_log_kept, tells_log_synced}
+use Rattle.host_log.proofs.Unseen.{SeesNoLog, unseen_begun, unseen_kept, unseen_synced}
 use Rattle.station_mio.proofs.Quiet.{Quiet, quiet_closing, quiet_none, same_file, same_reads, same_writes}
 
 log_more : (items : List Item) (item : Item) → log_in (items ++ item ∷ []) ≡ log_after (log_in items) item
@@ -86,10 +88,6 @@ still_poll Did.Failed list = record { took = λ s. refl; gave = λ s. refl; log 
 
 pub still_shut : (n : ℕ) → IsStill (Shut n)
 still_shut n = record { took = λ s. refl; gave = λ s. refl; log = λ l. refl }
-
-still_log : (did : Did) (name : List ℕ) → IsStill (log_item did name)
-still_log Did.Done name = record { took = λ s. refl; gave = λ s. refl; log = λ l. refl }
-still_log Did.Failed name = record { took = λ s. refl; gave = λ s. refl; log = λ l. refl }
 
 -- a socket that is found has the number
 found_is : (n : ℕ) (stands : List Stand) (s : Stand) → stand_in n stands ≡ Some s → number_of s ≡ n
@@ -254,235 +252,94 @@ tells_write log begun n stands asks asks' items write bytes w t = tells_write_at
 pub tells_still : (log : Option Bool) (begun : Bool) (asks asks' : List Ask) (items : List Item) (item : Item) → Quiet asks asks' → IsStill item → Tells log begun asks items → Tells log begun asks' (items ++ item ∷ [])
 tells_still log begun asks asks' items item q still w = tells_quiet log begun asks asks' items item q still w
 
--- appended bytes stand at the file's end, and nothing else changes
-appends_read : (s : ℕ) (more : List Ask) → AreAppends more → read_in s more ≡ []
-appends_read s [] w = refl
-appends_read s (A.Appended b r ∷ more) w = appends_read s more w
-appends_read s (A.Clock r ∷ more) w = absurd w
-appends_read s (A.Selected r ∷ more) w = absurd w
-appends_read s (A.Listened a r ∷ more) w = absurd w
-appends_read s (A.ListenerWatched r ∷ more) w = absurd w
-appends_read s (A.Accepted n r ∷ more) w = absurd w
-appends_read s (A.Connected n a r ∷ more) w = absurd w
-appends_read s (A.Watched n r ∷ more) w = absurd w
-appends_read s (A.Waited n r ∷ more) w = absurd w
-appends_read s (A.Read n r ∷ more) w = absurd w
-appends_read s (A.Wrote n b r ∷ more) w = absurd w
-appends_read s (A.WritesEnded n r ∷ more) w = absurd w
-appends_read s (A.Closed n ∷ more) w = absurd w
-appends_read s (A.Created p m r ∷ more) w = absurd w
-appends_read s (A.FolderOpened p r ∷ more) w = absurd w
-appends_read s (A.FileSynced r ∷ more) w = absurd w
-appends_read s (A.FolderSynced r ∷ more) w = absurd w
+-- calls of the log, which move no bytes of a socket
+no_read : (s : ℕ) → SeesNoLog (read_at s)
+no_read s = record { opened = λ p r. refl; created = λ p m r. refl; appended = λ b r. refl; synced = λ r. refl; listed = λ r. refl }
 
-appends_write : (s : ℕ) (more : List Ask) → AreAppends more → wrote_in s more ≡ []
-appends_write s [] w = refl
-appends_write s (A.Appended b r ∷ more) w = appends_write s more w
-appends_write s (A.Clock r ∷ more) w = absurd w
-appends_write s (A.Selected r ∷ more) w = absurd w
-appends_write s (A.Listened a r ∷ more) w = absurd w
-appends_write s (A.ListenerWatched r ∷ more) w = absurd w
-appends_write s (A.Accepted n r ∷ more) w = absurd w
-appends_write s (A.Connected n a r ∷ more) w = absurd w
-appends_write s (A.Watched n r ∷ more) w = absurd w
-appends_write s (A.Waited n r ∷ more) w = absurd w
-appends_write s (A.Read n r ∷ more) w = absurd w
-appends_write s (A.Wrote n b r ∷ more) w = absurd w
-appends_write s (A.WritesEnded n r ∷ more) w = absurd w
-appends_write s (A.Closed n ∷ more) w = absurd w
-appends_write s (A.Created p m r ∷ more) w = absurd w
-appends_write s (A.FolderOpened p r ∷ more) w = absurd w
-appends_write s (A.FileSynced r ∷ more) w = absurd w
-appends_write s (A.FolderSynced r ∷ more) w = absurd w
+no_write : (s : ℕ) → SeesNoLog (wrote_at s)
+no_write s = record { opened = λ p r. refl; created = λ p m r. refl; appended = λ b r. refl; synced = λ r. refl; listed = λ r. refl }
 
--- more bytes at the file's end
-abbrev pub longer : File → List ℕ → File
-longer f bytes = record { bytes = f.bytes ++ bytes; synced = f.synced; is_listed = f.is_listed }
+-- what is told of the log alone
+told_log : (stand : LogStand) (asks : List Ask) (items : List Item) → Tells stand.file stand.begun asks items → TellsLog stand asks (log_in items)
+told_log stand asks items t = record { kept = t.kept; synced = t.synced; same = t.same }
 
-appends_file : (f : File) (more : List Ask) → AreAppends more → fold file_after f more ≡ longer f (appended_in more)
-appends_file f [] w = ap (λ (x : List ℕ). record { bytes = x; synced = f.synced; is_listed = f.is_listed }) (sym (append-nil f.bytes))
-appends_file f (A.Appended b (Ok count) ∷ more) w =
-    appends_file (longer f (take count b)) more w ∙
-    ap (λ (x : List ℕ). record { bytes = x; synced = f.synced; is_listed = f.is_listed }) (append_assoc f.bytes (take count b) (appended_in more))
-appends_file f (A.Appended b (Err fault) ∷ more) w = appends_file f more w
-appends_file f (A.Clock r ∷ more) w = absurd w
-appends_file f (A.Selected r ∷ more) w = absurd w
-appends_file f (A.Listened a r ∷ more) w = absurd w
-appends_file f (A.ListenerWatched r ∷ more) w = absurd w
-appends_file f (A.Accepted n r ∷ more) w = absurd w
-appends_file f (A.Connected n a r ∷ more) w = absurd w
-appends_file f (A.Watched n r ∷ more) w = absurd w
-appends_file f (A.Waited n r ∷ more) w = absurd w
-appends_file f (A.Read n r ∷ more) w = absurd w
-appends_file f (A.Wrote n b r ∷ more) w = absurd w
-appends_file f (A.WritesEnded n r ∷ more) w = absurd w
-appends_file f (A.Closed n ∷ more) w = absurd w
-appends_file f (A.Created p m r ∷ more) w = absurd w
-appends_file f (A.FolderOpened p r ∷ more) w = absurd w
-appends_file f (A.FileSynced r ∷ more) w = absurd w
-appends_file f (A.FolderSynced r ∷ more) w = absurd w
-
--- calls of the log alone, which are these, and come to this file and this log
-tells_by : (log log' : Option Bool) (begun begun' : Bool) (asks asks' more : List Ask) (items : List Item) (item : Item) (f : File) (l : Log) →
-    asks' ≡ asks ++ more → ((s : ℕ) → read_in s more ≡ []) → ((s : ℕ) → wrote_in s more ≡ []) → ((s : ℕ) → took_at s item ≡ []) → ((s : ℕ) → gave_at s item ≡ []) →
-    fold file_after (file_in asks) more ≡ f → log_after (log_in items) item ≡ l → IsFront l.kept f.bytes → IsFront l.synced (stays_of f) → IsLog log' begun' f l →
-    Tells log begun asks items → Tells log' begun' asks' (items ++ item ∷ [])
-tells_by log log' begun begun' asks asks' more items item f l e reads writes took gave file kept front stays is w =
-    let file' : file_in asks' ≡ f = ap (λ (x : List Ask). file_in x) e ∙ fold-append file_after no_file asks more ∙ file in
-    let log'' : log_in (items ++ item ∷ []) ≡ l = log_more items item ∙ kept in
+-- an item that moves no bytes of a socket, and calls that don't either, and come to this log
+tells_logged : (stand stand' : LogStand) (asks asks' : List Ask) (items : List Item) (item : Item) (l : Log) →
+    ((s : ℕ) → read_in s asks' ≡ read_in s asks) → ((s : ℕ) → wrote_in s asks' ≡ wrote_in s asks) → ((s : ℕ) → took_at s item ≡ []) → ((s : ℕ) → gave_at s item ≡ []) →
+    log_after (log_in items) item ≡ l → TellsLog stand' asks' l → Tells stand.file stand.begun asks items → Tells stand'.file stand'.begun asks' (items ++ item ∷ [])
+tells_logged stand stand' asks asks' items item l reads writes took gave comes log t =
+    let is : TellsLog stand' asks' (log_in (items ++ item ∷ [])) = subst (λ (x : Log). TellsLog stand' asks' x) (sym (log_more items item ∙ comes)) log in
     record {
-      taken = λ s.
-          taken-more s items item ∙ ap (λ (x : List ℕ). taken_in s items ++ x) (took s) ∙ append-nil (taken_in s items) ∙ w.taken s ∙
-          sym (ap (λ (x : List Ask). read_in s x) e ∙ flat_map-append (read_at s) asks more ∙ ap (λ (x : List ℕ). read_in s asks ++ x) (reads s) ∙ append-nil (read_in s asks));
-      given = λ s.
-          given-more s items item ∙ ap (λ (x : List ℕ). given_in s items ++ x) (gave s) ∙ append-nil (given_in s items) ∙ w.given s ∙
-          sym (ap (λ (x : List Ask). wrote_in s x) e ∙ flat_map-append (wrote_at s) asks more ∙ ap (λ (x : List ℕ). wrote_in s asks ++ x) (writes s) ∙ append-nil (wrote_in s asks));
-      kept = subst (λ (x : Log). IsFront x.kept (file_in asks').bytes) (sym log'') (subst (λ (x : File). IsFront l.kept x.bytes) (sym file') front);
-      synced = subst (λ (x : Log). IsFront x.synced (stays_of (file_in asks'))) (sym log'') (subst (λ (x : File). IsFront l.synced (stays_of x)) (sym file') stays);
-      same = subst (λ (x : Log). IsLog log' begun' (file_in asks') x) (sym log'') (subst (λ (x : File). IsLog log' begun' x l) (sym file') is);
+      taken = λ s. taken-more s items item ∙ ap (λ (x : List ℕ). taken_in s items ++ x) (took s) ∙ append-nil (taken_in s items) ∙ t.taken s ∙ sym (reads s);
+      given = λ s. given-more s items item ∙ ap (λ (x : List ℕ). given_in s items ++ x) (gave s) ∙ append-nil (given_in s items) ∙ t.given s ∙ sym (writes s);
+      kept = is.kept;
+      synced = is.synced;
+      same = is.same;
     }
 
-whole_front : (a b : List ℕ) → b ≡ a → IsFront a b
-whole_front a b e = ([], e ∙ sym (append-nil a))
+log_took : (did : Did) (name : List ℕ) (s : ℕ) → (took_at s (log_item did name) ≡ []) × (gave_at s (log_item did name) ≡ [])
+log_took Did.Done name s = (refl, refl)
+log_took Did.Failed name s = (refl, refl)
 
-longer_front : (a b more : List ℕ) → IsFront a b → IsFront a (b ++ more)
-longer_front a b more w = (w.0 ++ more, ap (λ (x : List ℕ). x ++ more) w.1 ∙ append_assoc a w.0 more)
+log_begins : (did : Did) (name : List ℕ) (l : Log) → log_after l (log_item did name) ≡ l
+log_begins Did.Done name l = refl
+log_begins Did.Failed name l = refl
 
-still_kept : (did : Did) (bytes : List ℕ) (s : ℕ) → (took_at s (keep_item did bytes) ≡ []) × (gave_at s (keep_item did bytes) ≡ [])
-still_kept Did.Done bytes s = (refl, refl)
-still_kept Did.Failed bytes s = (refl, refl)
+tells_begun : (name : List ℕ) (stand : LogStand) (is_done : Bool) (did : Did) (a b : Net) (items : List Item) → LogsTo name stand.begun is_done a b →
+    Tells stand.file stand.begun a.asks items → Tells (logged_on is_done stand).file (logged_on is_done stand).begun b.asks (items ++ log_item did name ∷ [])
+tells_begun name stand is_done did a b items w t =
+    tells_logged stand (logged_on is_done stand) a.asks b.asks items (log_item did name) (log_in items)
+    (λ s. unseen_begun (read_at s) (no_read s) name stand.begun is_done a.asks b.asks w.0) (λ s. unseen_begun (wrote_at s) (no_write s) name stand.begun is_done a.asks b.asks w.0)
+    (λ s. (log_took did name s).0) (λ s. (log_took did name s).1) (log_begins did name (log_in items))
+    (tells_log_begun name stand is_done a.asks b.asks (log_in items) w.0 (told_log stand a.asks items t)) t
 
-tells_kept_all : (has_folder begun : Bool) (bytes : List ℕ) (a b : Net) (items : List Item) → AppendsAll bytes true a.asks b.asks → Tells (Some has_folder) begun a.asks items →
-    Tells (Some has_folder) begun b.asks (items ++ keep_item Did.Done bytes ∷ [])
-tells_kept_all has_folder begun bytes a b items w t =
-    let f = file_in a.asks in
-    let l = log_in items in
-    let all : appended_in w.more ≡ bytes = sym (w.front ∙ ap (λ (x : List ℕ). appended_in w.more ++ x) (w.all refl) ∙ append-nil (appended_in w.more)) in
-    let bytes-are : f.bytes ++ bytes ≡ l.kept ++ bytes = ap (λ (x : List ℕ). x ++ bytes) t.same.1 in
-    tells_by (Some has_folder) (Some has_folder) begun begun a.asks b.asks w.more items (keep_item Did.Done bytes) (longer f bytes) (record { kept = l.kept ++ bytes; synced = l.synced })
-    w.asked (λ s. appends_read s w.more w.only) (λ s. appends_write s w.more w.only) (λ s. refl) (λ s. refl)
-    (appends_file f w.more w.only ∙ ap (λ (x : List ℕ). longer f x) all) refl
-    (whole_front (l.kept ++ bytes) (f.bytes ++ bytes) bytes-are) t.synced
-    (t.same.0, bytes-are, t.same.2, longer_front l.synced l.kept bytes t.same.3) t
+keep_took : (did : Did) (bytes : List ℕ) (s : ℕ) → (took_at s (keep_item did bytes) ≡ []) × (gave_at s (keep_item did bytes) ≡ [])
+keep_took Did.Done bytes s = (refl, refl)
+keep_took Did.Failed bytes s = (refl, refl)
 
-tells_kept_some : (has_folder begun : Bool) (bytes : List ℕ) (a b : Net) (items : List Item) → AppendsAll bytes false a.asks b.asks → Tells (Some has_folder) begun a.asks items →
-    Tells None begun b.asks (items ++ keep_item Did.Failed bytes ∷ [])
-tells_kept_some has_folder begun bytes a b items w t =
-    let f = file_in a.asks in
-    let l = log_in items in
-    tells_by (Some has_folder) None begun begun a.asks b.asks w.more items (keep_item Did.Failed bytes) (longer f (appended_in w.more)) l
-    w.asked (λ s. appends_read s w.more w.only) (λ s. appends_write s w.more w.only) (λ s. refl) (λ s. refl)
-    (appends_file f w.more w.only) refl
-    (longer_front l.kept f.bytes (appended_in w.more) (whole_front l.kept f.bytes t.same.1)) t.synced
-    (subst (λ (x : Bool). IsLog None x (longer f (appended_in w.more)) l) (sym t.same.0) tt) t
+keep_adds : (is_done : Bool) (bytes : List ℕ) (l : Log) → log_after l (keep_item (did_by is_done) bytes) ≡ log_kept is_done bytes l
+keep_adds true bytes l = refl
+keep_adds false bytes l = refl
 
-pub tells_kept : (log : Option Bool) (begun : Bool) (bytes : List ℕ) (is_done : Bool) (a b : Net) (items : List Item) → Keeps bytes log is_done a b → Tells log begun a.asks items →
-    Tells (kept_on is_done log) begun b.asks (items ++ keep_item (did_by is_done) bytes ∷ [])
-tells_kept None begun bytes true a b items w t = absurd (let e : true ≡ false = w.0 in cc)
-tells_kept None begun bytes false a b items w t =
-    tells_quiet None begun a.asks b.asks items (keep_item Did.Failed bytes) (quiet_none a.asks b.asks (ap (λ (n : Net). n.asks) w.1)) (record { took = λ s. refl; gave = λ s. refl; log = λ l. refl }) t
-tells_kept (Some has_folder) begun bytes true a b items w t = tells_kept_all has_folder begun bytes a b items w.0 t
-tells_kept (Some has_folder) begun bytes false a b items w t = tells_kept_some has_folder begun bytes a b items w.0 t
+tells_kept : (bytes : List ℕ) (stand : LogStand) (is_done : Bool) (a b : Net) (items : List Item) → Keeps bytes stand.file is_done a b →
+    Tells stand.file stand.begun a.asks items → Tells (kept_on is_done stand).file (kept_on is_done stand).begun b.asks (items ++ keep_item (did_by is_done) bytes ∷ [])
+tells_kept bytes stand is_done a b items w t =
+    tells_logged stand (kept_on is_done stand) a.asks b.asks items (keep_item (did_by is_done) bytes) (log_kept is_done bytes (log_in items))
+    (λ s. unseen_kept (read_at s) (no_read s) bytes stand.file is_done a.asks b.asks w.0) (λ s. unseen_kept (wrote_at s) (no_write s) bytes stand.file is_done a.asks b.asks w.0)
+    (λ s. (keep_took (did_by is_done) bytes s).0) (λ s. (keep_took (did_by is_done) bytes s).1) (keep_adds is_done bytes (log_in items))
+    (tells_log_kept stand bytes is_done a.asks b.asks (log_in items) w.0 (told_log stand a.asks items t)) t
 
--- a file that is synced, where its folder was or is too
-tells_synced_all : (has_folder begun : Bool) (more : List Ask) (a b : Net) (items : List Item) → b.asks ≡ a.asks ++ more → ((s : ℕ) → read_in s more ≡ []) → ((s : ℕ) → wrote_in s more ≡ []) →
-    fold file_after (file_in a.asks) more ≡ record { bytes = (file_in a.asks).bytes; synced = (file_in a.asks).bytes; is_listed = true } → Tells (Some has_folder) begun a.asks items →
-    Tells (Some false) begun b.asks (items ++ sync_item Did.Done ∷ [])
-tells_synced_all has_folder begun more a b items e reads writes file t =
-    let f = file_in a.asks in
-    let l = log_in items in
-    let kept = whole_front l.kept f.bytes t.same.1 in
-    tells_by (Some has_folder) (Some false) begun begun a.asks b.asks more items (sync_item Did.Done) (record { bytes = f.bytes; synced = f.bytes; is_listed = true }) (record { kept = l.kept; synced = l.kept })
-    e reads writes (λ s. refl) (λ s. refl) file refl kept kept
-    (t.same.0, t.same.1, (λ x. refl), whole_front l.kept l.kept refl) t
+sync_took : (did : Did) (s : ℕ) → (took_at s (sync_item did) ≡ []) × (gave_at s (sync_item did) ≡ [])
+sync_took Did.Done s = (refl, refl)
+sync_took Did.Failed s = (refl, refl)
 
-synced_either : (is_listed : Bool) (log bytes synced : List ℕ) → IsFront log (if is_listed then synced else []) → IsFront log bytes → IsFront log (if is_listed then bytes else [])
-synced_either true log bytes synced a b = b
-synced_either false log bytes synced a b = a
+sync_stores : (is_done : Bool) (l : Log) → log_after l (sync_item (did_by is_done)) ≡ log_synced is_done l
+sync_stores true l = refl
+sync_stores false l = refl
 
-tells_synced_none : (has_folder begun : Bool) (a b : Net) (items : List Item) → (fault : HostFault) → b.asks ≡ a.asks ++ A.FileSynced (Some fault) ∷ [] → Tells (Some has_folder) begun a.asks items →
-    Tells None begun b.asks (items ++ sync_item Did.Failed ∷ [])
-tells_synced_none has_folder begun a b items fault e t =
-    let f = file_in a.asks in
-    let l = log_in items in
-    tells_by (Some has_folder) None begun begun a.asks b.asks (A.FileSynced (Some fault) ∷ []) items (sync_item Did.Failed) f l e (λ s. refl) (λ s. refl) (λ s. refl) (λ s. refl) refl refl
-    (whole_front l.kept f.bytes t.same.1) t.synced (subst (λ (x : Bool). IsLog None x f l) (sym t.same.0) tt) t
-
-tells_synced_file : (has_folder begun : Bool) (a b : Net) (items : List Item) → (fault : HostFault) → b.asks ≡ a.asks ++ A.FileSynced None ∷ A.FolderSynced (Some fault) ∷ [] → Tells (Some has_folder) begun a.asks items →
-    Tells None begun b.asks (items ++ sync_item Did.Failed ∷ [])
-tells_synced_file has_folder begun a b items fault e t =
-    let f = file_in a.asks in
-    let l = log_in items in
-    let g : File = record { bytes = f.bytes; synced = f.bytes; is_listed = f.is_listed } in
-    tells_by (Some has_folder) None begun begun a.asks b.asks (A.FileSynced None ∷ A.FolderSynced (Some fault) ∷ []) items (sync_item Did.Failed) g l e (λ s. refl) (λ s. refl) (λ s. refl) (λ s. refl) refl refl
-    (whole_front l.kept f.bytes t.same.1)
-    (synced_either f.is_listed l.synced f.bytes f.synced t.synced (subst (λ (x : List ℕ). IsFront l.synced x) (sym t.same.1) t.same.3))
-    (subst (λ (x : Bool). IsLog None x g l) (sym t.same.0) tt) t
-
-tells_synced_not : (has_folder begun : Bool) (a b : Net) (items : List Item) → SyncsLog has_folder false a.asks b.asks → Tells (Some has_folder) begun a.asks items → Tells None begun b.asks (items ++ sync_item Did.Failed ∷ [])
-tells_synced_not true begun a b items (fault, inl e) t = tells_synced_none true begun a b items fault e t
-tells_synced_not true begun a b items (fault, inr e) t = tells_synced_file true begun a b items fault e t
-tells_synced_not false begun a b items (fault, inl e) t = tells_synced_none false begun a b items fault e t
-tells_synced_not false begun a b items (fault, inr e) t = tells_synced_file false begun a b items fault e t
-
-pub tells_synced : (log : Option Bool) (begun is_done : Bool) (a b : Net) (items : List Item) → SyncsTo log is_done a b → Tells log begun a.asks items →
-    Tells (synced_on is_done log) begun b.asks (items ++ sync_item (did_by is_done) ∷ [])
-tells_synced None begun true a b items w t = absurd (let e : true ≡ false = w.0 in cc)
-tells_synced None begun false a b items w t =
-    tells_quiet None begun a.asks b.asks items (sync_item Did.Failed) (quiet_none a.asks b.asks (ap (λ (n : Net). n.asks) w.1)) (record { took = λ s. refl; gave = λ s. refl; log = λ l. refl }) t
-tells_synced (Some true) begun true a b items w t =
-    tells_synced_all true begun (A.FileSynced None ∷ A.FolderSynced None ∷ []) a b items w.0 (λ s. refl) (λ s. refl) refl t
-tells_synced (Some false) begun true a b items w t =
-    tells_synced_all false begun (A.FileSynced None ∷ []) a b items w.0 (λ s. refl) (λ s. refl)
-    (ap (λ (x : Bool). record { bytes = (file_in a.asks).bytes; synced = (file_in a.asks).bytes; is_listed = x }) (t.same.2 refl)) t
-tells_synced (Some has_folder) begun false a b items w t = tells_synced_not has_folder begun a b items w.0 t
-
-not_begun : (log : Option Bool) (f : File) (l : Log) → IsLog log false f l → (log ≡ None) × (f ≡ no_file) × (l ≡ record { kept = []; synced = [] })
-not_begun None f l w = (refl, w.0, w.1)
-not_begun (Some has_folder) f l w = absurd (let e : false ≡ true = w.0 in cc)
-
-still_calls : (did : Did) (name : List ℕ) (s : ℕ) → (took_at s (log_item did name) ≡ []) × (gave_at s (log_item did name) ≡ [])
-still_calls Did.Done name s = (refl, refl)
-still_calls Did.Failed name s = (refl, refl)
-
-tells_begun_well : (name : List ℕ) (log : Option Bool) (a b : Net) (items : List Item) → CreatesLog name true a.asks b.asks → Tells log false a.asks items → Tells (Some true) true b.asks (items ++ log_item Did.Done name ∷ [])
-tells_begun_well name log a b items w t =
-    let none = not_begun log (file_in a.asks) (log_in items) t.same in
-    tells_by log (Some true) false true a.asks b.asks (A.FolderOpened w.0 None ∷ A.Created name 0o600 None ∷ []) items (log_item Did.Done name) no_file (record { kept = []; synced = [] })
-    w.2 (λ s. refl) (λ s. refl) (λ s. refl) (λ s. refl) refl none.2 ([], refl) ([], refl) (refl, refl, (λ x. absurd (let e : true ≡ false = x in cc)), ([], refl)) t
-
-tells_begun_not : (name : List ℕ) (log : Option Bool) (a b : Net) (items : List Item) → CreatesLog name false a.asks b.asks → Tells log false a.asks items → Tells log false b.asks (items ++ log_item Did.Failed name ∷ [])
-tells_begun_not name log a b items (folder, is, fault, inl e) t =
-    tells_by log log false false a.asks b.asks (A.FolderOpened folder (Some fault) ∷ []) items (log_item Did.Failed name) (file_in a.asks) (log_in items)
-    e (λ s. refl) (λ s. refl) (λ s. refl) (λ s. refl) refl refl t.kept t.synced t.same t
-tells_begun_not name log a b items (folder, is, fault, inr e) t =
-    tells_by log log false false a.asks b.asks (A.FolderOpened folder None ∷ A.Created name 0o600 (Some fault) ∷ []) items (log_item Did.Failed name) (file_in a.asks) (log_in items)
-    e (λ s. refl) (λ s. refl) (λ s. refl) (λ s. refl) refl refl t.kept t.synced t.same t
-
-pub tells_begun : (name : List ℕ) (log : Option Bool) (begun is_done : Bool) (a b : Net) (items : List Item) → LogsTo name begun is_done a b → Tells log begun a.asks items →
-    Tells (logged_on is_done log) (begun_on is_done begun) b.asks (items ++ log_item (did_by is_done) name ∷ [])
-tells_begun name log true true a b items w t = absurd (let e : true ≡ false = w.0 in cc)
-tells_begun name log true false a b items w t =
-    tells_quiet log true a.asks b.asks items (log_item Did.Failed name) (quiet_none a.asks b.asks (ap (λ (n : Net). n.asks) w.1)) (still_log Did.Failed name) t
-tells_begun name log false true a b items w t = tells_begun_well name log a b items w.0 t
-tells_begun name log false false a b items w t = tells_begun_not name log a b items w.0 t
+tells_synced : (stand : LogStand) (is_done : Bool) (a b : Net) (items : List Item) → SyncsTo stand.file is_done a b →
+    Tells stand.file stand.begun a.asks items → Tells (synced_on is_done stand).file (synced_on is_done stand).begun b.asks (items ++ sync_item (did_by is_done) ∷ [])
+tells_synced stand is_done a b items w t =
+    tells_logged stand (synced_on is_done stand) a.asks b.asks items (sync_item (did_by is_done)) (log_synced is_done (log_in items))
+    (λ s. unseen_synced (read_at s) (no_read s) stand.file is_done a.asks b.asks w.0) (λ s. unseen_synced (wrote_at s) (no_write s) stand.file is_done a.asks b.asks w.0)
+    (λ s. (sync_took (did_by is_done) s).0) (λ s. (sync_took (did_by is_done) s).1) (sync_stores is_done (log_in items))
+    (tells_log_synced stand is_done a.asks b.asks (log_in items) w.0 (told_log stand a.asks items t)) t
 
 -- the same, from what the calls say
-pub tells_begun_as : (name : List ℕ) (log log' : Option Bool) (begun begun' is_done : Bool) (did : Did) (a b : Net) (items items' : List Item) → LogsTo name begun is_done a b →
-    log' ≡ logged_on is_done log → begun' ≡ begun_on is_done begun → did ≡ did_by is_done → items' ≡ items ++ log_item did name ∷ [] → Tells log begun a.asks items → Tells log' begun' b.asks items'
-tells_begun_as name log log' begun begun' is_done did a b items items' w l g d e t =
-    subst (λ (x : List Item). Tells log' begun' b.asks x) (sym (e ∙ ap (λ (x : Did). items ++ log_item x name ∷ []) d))
-    (subst (λ (x : Option Bool). Tells x begun' b.asks (items ++ log_item (did_by is_done) name ∷ [])) (sym l)
-    (subst (λ (x : Bool). Tells (logged_on is_done log) x b.asks (items ++ log_item (did_by is_done) name ∷ [])) (sym g) (tells_begun name log begun is_done a b items w t)))
+pub tells_begun_as : (name : List ℕ) (stand stand' : LogStand) (is_done : Bool) (did : Did) (a b : Net) (items items' : List Item) → LogsTo name stand.begun is_done a b →
+    stand' ≡ logged_on is_done stand → items' ≡ items ++ log_item did name ∷ [] → Tells stand.file stand.begun a.asks items → Tells stand'.file stand'.begun b.asks items'
+tells_begun_as name stand stand' is_done did a b items items' w l e t =
+    subst (λ (x : List Item). Tells stand'.file stand'.begun b.asks x) (sym e)
+    (subst (λ (x : LogStand). Tells x.file x.begun b.asks (items ++ log_item did name ∷ [])) (sym l) (tells_begun name stand is_done did a b items w t))
 
-pub tells_kept_as : (log log' : Option Bool) (begun : Bool) (bytes : List ℕ) (is_done : Bool) (did : Did) (a b : Net) (items items' : List Item) → Keeps bytes log is_done a b →
-    log' ≡ kept_on is_done log → did ≡ did_by is_done → items' ≡ items ++ keep_item did bytes ∷ [] → Tells log begun a.asks items → Tells log' begun b.asks items'
-tells_kept_as log log' begun bytes is_done did a b items items' w l d e t =
-    subst (λ (x : List Item). Tells log' begun b.asks x) (sym (e ∙ ap (λ (x : Did). items ++ keep_item x bytes ∷ []) d))
-    (subst (λ (x : Option Bool). Tells x begun b.asks (items ++ keep_item (did_by is_done) bytes ∷ [])) (sym l) (tells_kept log begun bytes is_done a b items w t))
+pub tells_kept_as : (bytes : List ℕ) (stand stand' : LogStand) (is_done : Bool) (did : Did) (a b : Net) (items items' : List Item) → Keeps bytes stand.file is_done a b →
+    stand' ≡ kept_on is_done stand → did ≡ did_by is_done → items' ≡ items ++ keep_item did bytes ∷ [] → Tells stand.file stand.begun a.asks items → Tells stand'.file stand'.begun b.asks items'
+tells_kept_as bytes stand stand' is_done did a b items items' w l d e t =
+    subst (λ (x : List Item). Tells stand'.file stand'.begun b.asks x) (sym (e ∙ ap (λ (x : Did). items ++ keep_item x bytes ∷ []) d))
+    (subst (λ (x : LogStand). Tells x.file x.begun b.asks (items ++ keep_item (did_by is_done) bytes ∷ [])) (sym l) (tells_kept bytes stand is_done a b items w t))
 
-pub tells_synced_as : (log log' : Option Bool) (begun is_done : Bool) (did : Did) (a b : Net) (items items' : List Item) → SyncsTo log is_done a b →
-    log' ≡ synced_on is_done log → did ≡ did_by is_done → items' ≡ items ++ sync_item did ∷ [] → Tells log begun a.asks items → Tells log' begun b.asks items'
-tells_synced_as log log' begun is_done did a b items items' w l d e t =
-    subst (λ (x : List Item). Tells log' begun b.asks x) (sym (e ∙ ap (λ (x : Did). items ++ sync_item x ∷ []) d))
-    (subst (λ (x : Option Bool). Tells x begun b.asks (items ++ sync_item (did_by is_done) ∷ [])) (sym l) (tells_synced log begun is_done a b items w t))
+pub tells_synced_as : (stand stand' : LogStand) (is_done : Bool) (did : Did) (a b : Net) (items items' : List Item) → SyncsTo stand.file is_done a b →
+    stand' ≡ synced_on is_done stand → did ≡ did_by is_done → items' ≡ items ++ sync_item did ∷ [] → Tells stand.file stand.begun a.asks items → Tells stand'.file stand'.begun b.asks items'
+tells_synced_as stand stand' is_done did a b items items' w l d e t =
+    subst (λ (x : List Item). Tells stand'.file stand'.begun b.asks x) (sym (e ∙ ap (λ (x : Did). items ++ sync_item x ∷ []) d))
+    (subst (λ (x : LogStand). Tells x.file x.begun b.asks (items ++ sync_item (did_by is_done) ∷ [])) (sym l) (tells_synced stand is_done a b items w t))

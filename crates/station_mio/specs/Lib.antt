@@ -6,7 +6,6 @@ pub mod Dialling
 pub mod Listing
 pub mod Accepting
 pub mod Nets
-pub mod Files
 pub mod Ending
 pub mod Stations
 pub mod Telling

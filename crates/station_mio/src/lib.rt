@@ -16,7 +16,6 @@ mod backlog;
 mod dialling;
 mod ending;
 mod listing;
-mod log_file;
 mod moving;
 mod pace;
 mod rows;

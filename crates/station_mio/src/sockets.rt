@@ -1,6 +1,6 @@
 //! The sockets of a station: one that listens, and those that were accepted or dialled.
 
-ghost use Rattle.std.specs.Prelude.{◌≡◌, ◌<◌, ◌++◌, ◌∷◌, [], IfOk, IfSome, length, is_ok, is_some, get_or, max, slice_set, false, true};
+ghost use Rattle.std.specs.Prelude.{◌≡◌, ◌<◌, ◌++◌, ◌∷◌, [], IfOk, length, is_ok, get_or, max, slice_set, false, true};
 ghost use Rattle.socket_station.specs.Withins.{TakesWithin, GivesWithin};
 ghost use Rattle.station_mio.specs.Nets.{ReadsOn, fresh, WritesOn, Listens, Dials, DialsAt, DialsNow, WaitsFor, GoesOnIn, AcceptsOne, AcceptsWaiting, AcceptsAll, Lists, Polls, added, has_room, shut};
 ghost use Rattle.station_mio.specs.Rows.{stand_of};
@@ -8,7 +8,7 @@ ghost use Rattle.station_mio.specs.Asking.{ListensAt, Selects};
 ghost use Rattle.station_mio.specs.Waiting.{Ticks, after_by, patience_with};
 ghost use Rattle.station_mio.specs.Listing.{seen_of, report_all, listed_all_lost};
 ghost use Rattle.station_mio.specs.Ending.{EndsAll, Lingers, Finishes};
-ghost use Rattle.station_mio.specs.Files.{CreatesLog, AppendsAll, SyncsLog};
+ghost use Rattle.host_log.specs.Logs.{LogsTo, Keeps, SyncsTo, logged_on, kept_on, synced_on};
 ghost use Rattle.station_mio.specs.Numbers.{OpensBetween, DialsBetween};
 ghost use Rattle.machine_host.specs.Asks.{Waited, list_of};
 ghost use Rattle.station_mio.specs.declared.pace.TheConstants.{PAUSE};
@@ -18,13 +18,13 @@ use crate::backlog::Backlog;
 use crate::dialling::{go_on_all, patience_of};
 use crate::ending::{drain_all, end_all};
 use crate::listing::{has_room, list_all_lost, report_all};
-use crate::log_file::{self, LogFile};
 use crate::moving;
 use crate::pace::{LINGER, PATIENCE, Pace, after, now};
 use crate::rows::{MOST_SOCKETS, Row, Rows};
 use crate::streams::connect;
 use arrayvec::ArrayVec;
 use definitions::PlayerId;
+use host_log::HostLog;
 use machine_host::{Host, HostFault, MOST_EVENTS};
 use socket_station::ready_list::MOST_READY;
 use socket_station::{Addr, Dial, Did, Ready, ReadyList, SocketId, SocketRead, SocketWrite};
@@ -408,31 +408,32 @@ impl<H: Host + Drop> Sockets<H> {
         }
     }
 
-    /// Creates the log at this path. A file that is there is a fault, and is left as it is.
-    pub(crate) fn create_log(&mut self, path: &[u8]) -> Option<LogFile<H>>
-        ensures asked { CreatesLog path.now (is_some result) self.old.asks self.new.asks }
+    /// Begins the log, a new file at this path, unless one was begun.
+    pub(crate) fn begin(&mut self, log: &mut HostLog<H::File, H::Folder>, path: &[u8]) -> bool
+        ensures asked { LogsTo path.now log.old.begun result self.old.asks self.new.asks }
+        ensures stands { log.new ≡ logged_on result log.old }
         ensures same { self.new ≡ record self.old { asks = self.new.asks } }
-        ensures folder { IfSome result (λ log. is_some log.folder ≡ true) }
     {
-        log_file::create(&mut self.host, path)
+        log.begin(&mut self.host, path)
     }
 
-    /// Appends all these bytes to the log.
-    pub(crate) fn append(&mut self, log: &mut LogFile<H>, bytes: &[u8]) -> bool
-        ensures asked { AppendsAll bytes.now result self.old.asks self.new.asks }
+    /// Appends all these bytes to the log. Where that fails, nothing is appended any more.
+    pub(crate) fn append(&mut self, log: &mut HostLog<H::File, H::Folder>, bytes: &[u8]) -> bool
+        ensures asked { Keeps bytes.now log.old.file result self.old.asks self.new.asks }
+        ensures stands { log.new ≡ kept_on result log.old }
         ensures same { self.new ≡ record self.old { asks = self.new.asks } }
-        ensures folder { is_some log.new.folder ≡ is_some log.old.folder }
     {
-        log_file::append(&mut self.host, log, bytes)
+        log.append(&mut self.host, bytes)
     }
 
-    /// What was appended to the log stays after a crash of the machine.
-    pub(crate) fn sync(&mut self, log: &mut LogFile<H>) -> bool
-        ensures asked { SyncsLog (is_some log.old.folder) result self.old.asks self.new.asks }
+    /// What was appended to the log stays after a crash of the machine. Where that fails, nothing
+    /// is appended or synced any more.
+    pub(crate) fn sync(&mut self, log: &mut HostLog<H::File, H::Folder>) -> bool
+        ensures asked { SyncsTo log.old.file result self.old.asks self.new.asks }
+        ensures stands { log.new ≡ synced_on result log.old }
         ensures same { self.new ≡ record self.old { asks = self.new.asks } }
-        ensures folder { result ≡ true → is_some log.new.folder ≡ false }
     {
-        log_file::sync(&mut self.host, log)
+        log.sync(&mut self.host)
     }
 
     /// Listens no more, and says to the others that no more is sent.

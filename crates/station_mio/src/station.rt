@@ -1,6 +1,6 @@
 //! The sockets of a machine and a log file as a station.
 
-ghost use Rattle.std.specs.Prelude.{◌≡◌, ◌<◌, ◌++◌, ◌∷◌, [], Bool, false, Option, IfOk, is_some, length, option_map};
+ghost use Rattle.std.specs.Prelude.{◌≡◌, ◌<◌, ◌++◌, ◌∷◌, [], Bool, false, Option, IfOk, length};
 ghost use Rattle.socket_station.specs.Items.{listen_item, log_item, dial_item, poll_item, read_item, write_item, Shut, keep_item, sync_item};
 ghost use Rattle.socket_station.specs.declared.answers.Standing.TheVariants.{Open};
 ghost use Rattle.socket_station.specs.Standings.{OpensNew, standing_in};
@@ -9,11 +9,11 @@ ghost use Rattle.station_mio.specs.Numbers.{AreUnused};
 ghost use Rattle.station_mio.specs.Telling.{Tells};
 ghost use Rattle.station_mio.specs.Ending.{Finishes};
 ghost use Rattle.station_mio.specs.Nets.{ReadsOn, WritesOn, Listens, Dials, Polls, has_room, shut};
-ghost use Rattle.station_mio.specs.Stations.{ListensTo, LogsTo, Keeps, SyncsTo, begun_on, did_of, did_by, kept_on, logged_on, synced_on};
+ghost use Rattle.station_mio.specs.Stations.{ListensTo, LogsTo, Keeps, SyncsTo, did_of, did_by};
 
-use crate::log_file::LogFile;
 use crate::sockets::Sockets;
 use definitions::PlayerId;
+use host_log::HostLog;
 use machine_host::{Host, HostFault};
 use socket_station::{
     Addr, Dial, Did, ReadyList, SocketId, SocketRead, SocketWrite, Station, StationNotes,
@@ -24,12 +24,10 @@ use std::alloc::{AllocError, Global};
 #[derive(Drop)]
 pub struct MioStation<H: Host> {
     sockets: Sockets<H>,
-    log: Option<LogFile<H>>,
-    // whether a log was begun: a station has one
-    begun: bool,
+    log: HostLog<H::File, H::Folder>,
     notes: StationNotes,
     ghost unused: { AreUnused sockets.next notes },
-    ghost told: { ∥ Tells (option_map (λ log. is_some log.folder) log) begun sockets.asks notes ∥₁ },
+    ghost told: { ∥ Tells log.file log.begun sockets.asks notes ∥₁ },
 }
 
 /// What is answered to a call of the machine.
@@ -54,12 +52,11 @@ impl<H: Host + Drop> MioStation<H> {
     pub fn new(host: H, alloc: Global) -> Result<MioStation<H>, AllocError>
         requires unasked { H.history host ≡ [] }
         ensures begins { IfOk result (λ s. ⟦<MioStation<H> as Station>⟧.history s ≡ []) }
-        ensures may_begin { IfOk result (λ s. s.begun ≡ false) }
+        ensures may_begin { IfOk result (λ s. s.log.begun ≡ false) }
     {
         Ok(MioStation {
             sockets: Sockets::new(alloc, host)?,
-            log: None,
-            begun: false,
+            log: HostLog::new(),
             notes: StationNotes::new(),
         })
     }
@@ -82,68 +79,6 @@ impl<H: Host + Drop> MioStation<H> {
     }
 }
 
-/// Begins the log, unless one was begun.
-fn begin<H: Host + Drop>(
-    sockets: &mut Sockets<H>,
-    log: &mut Option<LogFile<H>>,
-    begun: &mut bool,
-    name: &[u8],
-) -> bool
-    ensures logs { LogsTo name.now begun.old result sockets.old sockets.new }
-    ensures begun { begun.new ≡ begun_on result begun.old }
-    ensures log { option_map (λ log. is_some log.folder) log.new ≡ logged_on result (option_map (λ log. is_some log.folder) log.old) }
-    ensures next { sockets.new.next ≡ sockets.old.next }
-{
-    if *begun {
-        return false;
-    }
-    match sockets.create_log(name) {
-        None => false,
-        Some(file) => {
-            *log = Some(file);
-            *begun = true;
-            true
-        }
-    }
-}
-
-/// Appends all these bytes to the log. Where that fails, nothing is appended any more.
-fn append<H: Host + Drop>(
-    sockets: &mut Sockets<H>,
-    log: &mut Option<LogFile<H>>,
-    bytes: &[u8],
-) -> bool
-    ensures keeps { Keeps bytes.now (option_map (λ log. is_some log.folder) log.old) result sockets.old sockets.new }
-    ensures log { option_map (λ log. is_some log.folder) log.new ≡ kept_on result (option_map (λ log. is_some log.folder) log.old) }
-    ensures next { sockets.new.next ≡ sockets.old.next }
-{
-    let Some(file) = log else {
-        return false;
-    };
-    if sockets.append(file, bytes) {
-        return true;
-    }
-    *log = None;
-    false
-}
-
-/// What was appended to the log stays after a crash. Where that fails, nothing is appended or
-/// synced any more.
-fn sync<H: Host + Drop>(sockets: &mut Sockets<H>, log: &mut Option<LogFile<H>>) -> bool
-    ensures syncs { SyncsTo (option_map (λ log. is_some log.folder) log.old) result sockets.old sockets.new }
-    ensures log { option_map (λ log. is_some log.folder) log.new ≡ synced_on result (option_map (λ log. is_some log.folder) log.old) }
-    ensures next { sockets.new.next ≡ sockets.old.next }
-{
-    let Some(file) = log else {
-        return false;
-    };
-    if sockets.sync(file) {
-        return true;
-    }
-    *log = None;
-    false
-}
-
 impl<H: Host + Drop> Station for MioStation<H> {
     ghost history = { λ s. s.notes };
 
@@ -158,9 +93,9 @@ impl<H: Host + Drop> Station for MioStation<H> {
 
     fn log_to(&mut self, name: &[u8]) -> Did
         ensures after { self.new.notes ≡ self.old.notes ++ log_item result name.now ∷ [] }
-        ensures logs { (is_done : Bool) × LogsTo name.now self.old.begun is_done self.old.sockets self.new.sockets × (result ≡ did_by is_done) }
+        ensures logs { (is_done : Bool) × LogsTo name.now self.old.log.begun is_done self.old.sockets self.new.sockets × (result ≡ did_by is_done) }
     {
-        let did = did_by(begin(&mut self.sockets, &mut self.log, &mut self.begun, name));
+        let did = did_by(self.sockets.begin(&mut self.log, name));
         self.notes.log_to(did, name);
         did
     }
@@ -219,18 +154,18 @@ impl<H: Host + Drop> Station for MioStation<H> {
 
     fn keep(&mut self, bytes: &[u8]) -> Did
         ensures after { self.new.notes ≡ self.old.notes ++ keep_item result bytes.now ∷ [] }
-        ensures keeps { (is_done : Bool) × Keeps bytes.now (option_map (λ log. is_some log.folder) self.old.log) is_done self.old.sockets self.new.sockets × (result ≡ did_by is_done) }
+        ensures keeps { (is_done : Bool) × Keeps bytes.now self.old.log.file is_done self.old.sockets self.new.sockets × (result ≡ did_by is_done) }
     {
-        let did = did_by(append(&mut self.sockets, &mut self.log, bytes));
+        let did = did_by(self.sockets.append(&mut self.log, bytes));
         self.notes.keep(did, bytes);
         did
     }
 
     fn sync(&mut self) -> Did
         ensures after { self.new.notes ≡ self.old.notes ++ sync_item result ∷ [] }
-        ensures syncs { (is_done : Bool) × SyncsTo (option_map (λ log. is_some log.folder) self.old.log) is_done self.old.sockets self.new.sockets × (result ≡ did_by is_done) }
+        ensures syncs { (is_done : Bool) × SyncsTo self.old.log.file is_done self.old.sockets self.new.sockets × (result ≡ did_by is_done) }
     {
-        let did = did_by(sync(&mut self.sockets, &mut self.log));
+        let did = did_by(self.sockets.sync(&mut self.log));
         self.notes.sync(did);
         did
     }

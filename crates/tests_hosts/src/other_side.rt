@@ -2,7 +2,7 @@
 
 use machine_host::HostFault;
 use memory_host::{Call, Line, Machine};
-use socket_station::SocketId;
+use socket_station::{Addr, SocketId};
 use std::cell::RefCell;
 
 /// One more connection waits to be accepted.
@@ -90,5 +90,47 @@ pub(crate) fn millis(machine: &RefCell<Machine>) -> u64 {
     match machine.try_borrow_mut() {
         Err(_) => 0,
         Ok(machine) => machine.millis,
+    }
+}
+
+/// The other side sends a datagram. It says whether there was memory for that.
+pub(crate) fn post(machine: &RefCell<Machine>, bytes: &[u8]) -> bool {
+    match machine.try_borrow_mut() {
+        Err(_) => false,
+        Ok(mut machine) => machine.mailbox.bring(bytes).is_ok(),
+    }
+}
+
+/// So many bytes of a datagram go at most from now on.
+pub(crate) fn narrow(machine: &RefCell<Machine>, room: usize) {
+    if let Ok(mut machine) = machine.try_borrow_mut() {
+        machine.mailbox.room = room;
+    }
+}
+
+/// How many datagrams were given.
+pub(crate) fn sent_count(machine: &RefCell<Machine>) -> usize {
+    match machine.try_borrow_mut() {
+        Err(_) => 0,
+        Ok(machine) => machine.mailbox.given.len(),
+    }
+}
+
+/// Whether the last datagram that was given had these bytes and went to this address.
+pub(crate) fn was_sent(machine: &RefCell<Machine>, addr: Addr, bytes: &[u8]) -> bool {
+    match machine.try_borrow_mut() {
+        Err(_) => false,
+        Ok(machine) => match machine.mailbox.given.last() {
+            None => false,
+            Some(datagram) => datagram.addr == addr && datagram.bytes.as_slice() == bytes,
+        },
+    }
+}
+
+/// The mode of the file that was created last.
+pub(crate) fn file_mode(machine: &RefCell<Machine>) -> u32 {
+    match machine.try_borrow_mut() {
+        Err(_) => 0,
+        Ok(machine) => machine.log.mode,
     }
 }

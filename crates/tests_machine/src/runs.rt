@@ -1,10 +1,14 @@
 //! A run of a command over the machine's files and sockets. It is that of the program, but for the
 //! words, which clap doesn't split here.
 
+ghost use Rattle.std.specs.Prelude.{◌≡◌, []};
+
+use datagram_post::Post;
 use file_shelf::FileShelf;
 use machine_files::MachineFiles;
 use mio_host::MioHost;
 use peer_runs::run;
+use post_mio::MioPost;
 use rand_chacha::ChaCha20Rng;
 use rand_core::SeedableRng;
 use station::{MemorySink, MemorySource};
@@ -28,8 +32,15 @@ fn words_of(alloc: Global, line: &str) -> Result<Vec<Vec<u8>>, AllocError> {
     Ok(words)
 }
 
-/// Runs these words, with nonces drawn of a number.
-pub(crate) fn run_words(rt: &HostRuntime, line: &str, number: u64) -> Result<Ran, AllocError> {
+/// Runs these words over a post, of which no call was made, with nonces drawn of a number.
+pub(crate) fn run_over<D: Post>(
+    rt: &HostRuntime,
+    line: &str,
+    number: u64,
+    post: &mut D,
+) -> Result<Ran, AllocError>
+    requires { D.history post.old ≡ [] }
+{
     let alloc = rt.alloc();
     let words = words_of(alloc, line)?;
     let mut input = MemorySource::new(Vec::new(alloc), Vec::new(alloc));
@@ -44,6 +55,7 @@ pub(crate) fn run_words(rt: &HostRuntime, line: &str, number: u64) -> Result<Ran
         &mut out,
         &mut shelf,
         &mut station,
+        post,
         &mut chance,
     );
     station.finish();
@@ -51,4 +63,10 @@ pub(crate) fn run_words(rt: &HostRuntime, line: &str, number: u64) -> Result<Ran
         status: status.code(),
         text: Vec::from_slice(alloc, out.bytes())?,
     })
+}
+
+/// Runs these words, with nonces drawn of a number.
+pub(crate) fn run_words(rt: &HostRuntime, line: &str, number: u64) -> Result<Ran, AllocError> {
+    let mut post = MioPost::new(MioHost::new(rt, rt.alloc())?);
+    run_over(rt, line, number, &mut post)
 }

@@ -5,8 +5,8 @@ use Rattle.rosters.specs.Rosters.{LinksOthers, Neighbours}
 use Rattle.rosters.specs.Text.{IsReadFrom}
 use Rattle.datagram_post.specs.Items.{Item}
 use Rattle.own_moves.specs.Choices.{Chooser}
-use Rattle.datagram_loop.specs.declared.beginning.Begun.TheVariants as B
-use Rattle.datagram_loop.specs.declared.playing.Ended.TheVariants as E
+use Rattle.loop_ends.specs.declared.ends.Begun.TheVariants as B
+use Rattle.loop_ends.specs.declared.ends.Ended.TheVariants as E
 use Rattle.datagram_loop.specs.States.{LoopState, IsReady}
 use Rattle.datagram_loop.specs.Beginning.{IsNew, Begins, new_loop}
 use Rattle.datagram_loop.specs.Playing.{Ends}

@@ -78,7 +78,7 @@ module _ (w : Watching) (rest : Outside) (a : SinkState) (h h' : ShelfState)
         (IsApart first last × Ran a b (unwatched_answer (source_for contents)) false source shelf s)
         ⊎ WatchesLogs w (source_for contents) first last s
     worked contents source shelf is s (inl none) = inl (
-      record { station = none.calls; chance = refl },
+      record { station = none.calls; post = refl; chance = refl },
       subst (Ran a b (unwatched_answer (source_for contents)) false source shelf) (sym none.lacks)
           none.written,
     )

@@ -60,7 +60,7 @@ watch_law w = record {
   late = false;
   first = true;
   cause = λ contents input status. watch_cause (source_for contents) status;
-  good = λ contents input answered. IsGoodWatch (source_for contents) answered;
+  good = λ contents input answered. IsGoodWatch (source_for contents) answered.station;
   -- all is agreed, something was found, all polls were made, or memory was wanting for what came
   ends = λ status. (status ≡ Done) ⊎ ((status ≡ Caught) ⊎ ((status ≡ GaveUp) ⊎ (status ≡ NoMemory)));
   meant = λ contents input. IsWatch;

@@ -4,7 +4,7 @@ use Rattle.definitions.specs.Lists.{is_empty}
 use Rattle.socket_station.specs.declared.answers.Addr.{Addr}
 use Rattle.socket_station.specs.Items.{Item, Call, ListenCall, LogCall, DialCall, PollCall, ReadCall, WriteCall, KeepCall, SyncCall, Listening, LogBegun, Dialled, Polled, Took, Gave, ReadNotYet, WriteNotYet, Ended, Failed, Shut, Kept, Synced}
 use Rattle.socket_lines.specs.declared.line.Line.{Line}
-use Rattle.loop_rules.specs.Settings.{told_addr, addr_eq}
+use Rattle.peer_rules.specs.Addresses.{told_addr, addr_eq}
 use Rattle.loop_rules.specs.Rules.{is_front}
 use Rattle.socket_list.specs.Sockets.{line_of}
 use Rattle.watch_rules.specs.declared.phases.WatchPhase.{WatchPhase}

@@ -18,7 +18,7 @@ pub struct Bringing {
     pieces: Vec<Bytes>,
     /// Whether each poll brings one piece, and not the opening all of them.
     is_slow: bool,
-    /// Whether the socket ends behind its pieces.
+    /// Whether the socket ends after its pieces.
     is_lost: bool,
 }
 
@@ -43,7 +43,7 @@ fn bring_piece(memory: &mut MemoryStation, socket: SocketId, piece: Bytes) -> bo
     memory.bring(socket, piece).is_ok()
 }
 
-/// The socket ends behind what was brought on it.
+/// The socket ends after what was brought on it.
 fn lose(memory: &mut MemoryStation, socket: SocketId)
     ensures { memory.new.book.history ≡ memory.old.book.history }
 {
@@ -64,7 +64,7 @@ impl Bringing {
         })
     }
 
-    /// Brings the next piece on this socket, or behind the last one ends it, if it is to be lost. It
+    /// Brings the next piece on this socket, or after the last one ends it, if it is to be lost. It
     /// says whether there was room.
     fn bring_next(&mut self, memory: &mut MemoryStation, socket: SocketId) -> bool
         ensures { memory.new.book.history ≡ memory.old.book.history }

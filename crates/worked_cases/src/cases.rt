@@ -10,6 +10,7 @@ pub struct Fails {
     pub input: Vec<u32>,
     pub output: Vec<u32>,
     pub station: Option<u32>,
+    pub post: Option<u32>,
 }
 
 /// What a case wants of a run, as far as it says so.
@@ -33,6 +34,10 @@ pub struct Wants {
     pub gives: Option<usize>,
     /// Which bytes are given on sockets.
     pub given: Vec<Given>,
+    /// How many datagrams are sent.
+    pub sends: Option<usize>,
+    /// Which datagrams are sent.
+    pub sent: Vec<Posted>,
     /// Which sockets are open at the end, by their numbers.
     pub open: Vec<u32>,
     /// Which sockets aren't open at the end.
@@ -46,6 +51,21 @@ pub struct Given {
     pub bytes: Vec<u8>,
 }
 
+/// The datagram of this number goes to this port, and has these bytes.
+#[derive(Drop)]
+pub struct Posted {
+    pub number: u32,
+    pub port: u16,
+    pub bytes: Vec<u8>,
+}
+
+/// A datagram that comes, and before which poll: that of 0 comes before the first.
+#[derive(Drop)]
+pub struct Mail {
+    pub poll: u32,
+    pub bytes: Vec<u8>,
+}
+
 /// What a socket brings, and how.
 #[derive(Drop)]
 pub struct Socket {
@@ -54,7 +74,7 @@ pub struct Socket {
     pub size: usize,
     /// Whether each poll brings one piece, and not the opening all of them.
     pub is_slow: bool,
-    /// Whether it ends behind its bytes.
+    /// Whether it ends after its bytes.
     pub is_lost: bool,
 }
 
@@ -74,17 +94,19 @@ pub struct Run {
     pub files: Files,
     pub input: Vec<u8>,
     pub fails: Fails,
-    /// How many items the station has room for.
+    /// How many items the station has room for, and the post.
     pub room: u32,
-    /// How many bytes the station has room for.
+    /// How many bytes the station has room for, and the post.
     pub carries: u32,
     /// Those that come to the station.
     pub sockets: Vec<Socket>,
     /// Those that the program dials.
     pub dialled: Vec<Socket>,
+    /// The datagrams that come, in their order.
+    pub mails: Vec<Mail>,
 }
 
-/// What lines with a mark say behind a line of a case.
+/// What lines with a mark say after a line of a case.
 #[derive(Clone, Copy)]
 pub enum Part {
     /// Nothing: no line with a mark may follow.
@@ -100,6 +122,10 @@ pub enum Part {
     Dialled,
     /// What the last socket is given of which that is said.
     Given,
+    /// What the last datagram has that comes.
+    Mail,
+    /// What the last datagram has that is sent, of which that is said.
+    Sent,
     Writes,
     Among,
     Ends,
@@ -125,6 +151,7 @@ impl Fails {
             input: Vec::new(alloc),
             output: Vec::new(alloc),
             station: None,
+            post: None,
         }
     }
 }
@@ -142,6 +169,8 @@ impl Wants {
             keeps: None,
             gives: None,
             given: Vec::new(alloc),
+            sends: None,
+            sent: Vec::new(alloc),
             open: Vec::new(alloc),
             shut: Vec::new(alloc),
         }
@@ -151,17 +180,17 @@ impl Wants {
     pub fn is_nothing(&self) -> bool {
         let has_text = self.writes.is_some() || self.among.is_some() || self.ends.is_some();
         let has_end = self.lines.is_some() || self.status.is_some() || self.polls.is_some();
-        let has_counts = self.keeps.is_some() || self.gives.is_some();
-        let has_bytes = has_counts || !self.given.is_empty();
+        let has_counts = self.keeps.is_some() || self.gives.is_some() || self.sends.is_some();
+        let has_bytes = has_counts || !self.given.is_empty() || !self.sent.is_empty();
         let has_sockets = !self.open.is_empty() || !self.shut.is_empty();
         !has_text && !has_end && !has_bytes && !has_sockets
     }
 }
 
-/// How many items a station has room for, where a case doesn't say it.
+/// How many items a station or a post has room for, where a case doesn't say it.
 const USUAL_ROOM: u32 = 4000;
 
-/// How many bytes a station has room for, where a case doesn't say it.
+/// How many bytes a station or a post has room for, where a case doesn't say it.
 const USUALLY_CARRIED: u32 = 16_384;
 
 impl Run {
@@ -176,6 +205,7 @@ impl Run {
             carries: USUALLY_CARRIED,
             sockets: Vec::new(alloc),
             dialled: Vec::new(alloc),
+            mails: Vec::new(alloc),
         }
     }
 }

@@ -1,6 +1,6 @@
 //! How a run differs from what a case wants.
 
-use crate::cases::{Given, Wants};
+use crate::cases::{Given, Posted, Wants};
 use crate::playing::Ran;
 use hex::encode;
 use std::alloc::{AllocError, Global};
@@ -133,7 +133,7 @@ fn counts_otherwise(
 }
 
 /// The counts of a run beside those that are wanted.
-fn counts_of(wants: &Wants, ran: &Ran) -> [(&'static str, Option<usize>, usize); 5] {
+fn counts_of(wants: &Wants, ran: &Ran) -> [(&'static str, Option<usize>, usize); 6] {
     let lines = ran.text.iter().filter(|byte| **byte == b'\n').count();
     [
         ("lines", wants.lines, lines),
@@ -141,6 +141,7 @@ fn counts_of(wants: &Wants, ran: &Ran) -> [(&'static str, Option<usize>, usize);
         ("polls", wants.polls, ran.polls as usize),
         ("keeps", wants.keeps, ran.kept),
         ("gives", wants.gives, ran.given),
+        ("sends", wants.sends, ran.sent),
     ]
 }
 
@@ -200,18 +201,22 @@ fn digits_from(alloc: Global, bytes: &[u8], at: usize) -> Result<String, AllocEr
     encode(alloc, &rest[..rest.len().min(MOST_SHOWN)])
 }
 
-/// How the bytes that a socket was given differ from those that are wanted, if they do.
-fn bytes_differ(alloc: Global, wanted: &Given, came: &[u8]) -> Result<Option<String>, AllocError> {
-    let due = wanted.bytes.as_slice();
+/// How bytes differ from those that are wanted of this, if they do.
+fn bytes_differ(
+    alloc: Global,
+    what: &str,
+    number: u32,
+    due: &[u8],
+    came: &[u8],
+) -> Result<Option<String>, AllocError> {
     if due == came {
         return Ok(None);
     }
-    let socket = wanted.socket;
     let at = first_difference(due, came);
     let due = digits_from(alloc, due, at)?;
     let own = digits_from(alloc, came, at)?;
     let text = format!(in alloc;
-        "  socket {socket} from byte {at} on: wanted {due}, and {own} came\n"
+        "  {what} {number} from byte {at} on: wanted {due}, and {own} came\n"
     )?;
     Ok(Some(text))
 }
@@ -223,7 +228,10 @@ fn socket_given_otherwise(
     ran: &Ran,
 ) -> Result<Option<String>, AllocError> {
     match ran.given_on(alloc, wanted.socket)? {
-        Some(came) => bytes_differ(alloc, wanted, came.as_slice()),
+        Some(came) => {
+            let due = wanted.bytes.as_slice();
+            bytes_differ(alloc, "socket", wanted.socket, due, came.as_slice())
+        }
         None => {
             let socket = wanted.socket;
             let text = format!(in alloc; "  there is no socket {socket}\n")?;
@@ -242,6 +250,37 @@ fn given_otherwise(alloc: Global, wants: &Wants, ran: &Ran) -> Result<Option<Str
     Ok(None)
 }
 
+/// How a datagram was sent otherwise than it is wanted, if it was.
+fn datagram_sent_otherwise(
+    alloc: Global,
+    wanted: &Posted,
+    ran: &Ran,
+) -> Result<Option<String>, AllocError> {
+    let number = wanted.number;
+    let Some((port, came)) = ran.sent_at(number) else {
+        let text = format!(in alloc; "  there is no datagram {number}\n")?;
+        return Ok(Some(text));
+    };
+    let due = wanted.port;
+    if port != due {
+        let text = format!(in alloc;
+            "  datagram {number}: wanted to port {due}, and it went to {port}\n"
+        )?;
+        return Ok(Some(text));
+    }
+    bytes_differ(alloc, "datagram", number, wanted.bytes.as_slice(), came)
+}
+
+/// The first datagram that was sent otherwise than it is wanted, as a text, if there is one.
+fn sent_otherwise(alloc: Global, wants: &Wants, ran: &Ran) -> Result<Option<String>, AllocError> {
+    for wanted in &wants.sent {
+        if let Some(said) = datagram_sent_otherwise(alloc, wanted, ran)? {
+            return Ok(Some(said));
+        }
+    }
+    Ok(None)
+}
+
 /// The first thing in which a run differs from what the case wants, as a text, if there is one.
 pub fn differs(alloc: Global, wants: &Wants, ran: &Ran) -> Result<Option<String>, AllocError> {
     if let Some(said) = writes_otherwise(alloc, wants, ran.text.as_slice())? {
@@ -253,6 +292,9 @@ pub fn differs(alloc: Global, wants: &Wants, ran: &Ran) -> Result<Option<String>
         }
     }
     if let Some(said) = given_otherwise(alloc, wants, ran)? {
+        return Ok(Some(said));
+    }
+    if let Some(said) = sent_otherwise(alloc, wants, ran)? {
         return Ok(Some(said));
     }
     sockets_otherwise(alloc, wants, ran.open.as_slice())

@@ -20,6 +20,7 @@ mod lines;
 mod logs;
 mod openings;
 mod playing;
+mod posts;
 mod reading;
 mod saying;
 mod sockets;

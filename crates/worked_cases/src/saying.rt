@@ -1,7 +1,7 @@
 //! What the lines of a case say.
 
 use crate::book::Book;
-use crate::cases::{Case, Given, How, Part, Run, Socket, Wants};
+use crate::cases::{Case, Given, How, Mail, Part, Posted, Run, Socket, Wants};
 use crate::faults::Fault;
 use crate::lines::{Line, line_of, number};
 use crate::spelling::spelled;
@@ -63,6 +63,20 @@ fn want_given(alloc: Global, wanted: &mut Vec<Given>, text: &str) -> Result<Part
     Ok(Part::Given)
 }
 
+/// The datagram of the words `NUMBER PORT` is wanted from now on, of which no byte stands yet.
+fn want_sent(alloc: Global, wanted: &mut Vec<Posted>, words: &str) -> Result<Part, Fault> {
+    let line = line_of(words);
+    let place = number::<u32>(line.word)?;
+    let port = number::<u16>(line.rest)?;
+    refuse_again(wanted.as_slice().iter().any(|sent| sent.number == place))?;
+    wanted.push(Posted {
+        number: place,
+        port,
+        bytes: Vec::new(alloc),
+    })?;
+    Ok(Part::Sent)
+}
+
 /// These calls fail from now on.
 fn fail_calls(calls: &mut Vec<u32>, numbers: Vec<u32>) -> Result<(), Fault> {
     refuse_again(!calls.is_empty())?;
@@ -99,6 +113,22 @@ fn add_brought(sockets: &mut Vec<Socket>, bytes: &[u8]) -> Result<(), Fault> {
 fn add_given(wanted: &mut Vec<Given>, bytes: &[u8]) -> Result<(), Fault> {
     if let Some(given) = wanted.last_mut() {
         given.bytes.extend_from_slice(bytes)?;
+    }
+    Ok(())
+}
+
+/// The last of the datagrams has these bytes too.
+fn add_mail(mails: &mut Vec<Mail>, bytes: &[u8]) -> Result<(), Fault> {
+    if let Some(mail) = mails.last_mut() {
+        mail.bytes.extend_from_slice(bytes)?;
+    }
+    Ok(())
+}
+
+/// The last of the datagrams that are wanted is to have these bytes too.
+fn add_sent(wanted: &mut Vec<Posted>, bytes: &[u8]) -> Result<(), Fault> {
+    if let Some(sent) = wanted.last_mut() {
+        sent.bytes.extend_from_slice(bytes)?;
     }
     Ok(())
 }
@@ -158,7 +188,8 @@ impl Run {
             "input" => fail_calls(&mut self.fails.input, numbers)?,
             "output" => fail_calls(&mut self.fails.output, numbers)?,
             "station" => fail_one_call(&mut self.fails.station, numbers.as_slice())?,
-            _ => return Err(Fault::Wanted("files, input, output or station")),
+            "post" => fail_one_call(&mut self.fails.post, numbers.as_slice())?,
+            _ => return Err(Fault::Wanted("files, input, output, station or post")),
         }
         Ok(Part::Nothing)
     }
@@ -175,6 +206,14 @@ impl Run {
         let size = number::<usize>(size)?;
         self.dialled.push(Socket::new(book.alloc, size))?;
         Ok(Part::Dialled)
+    }
+
+    /// A datagram comes, before the poll of this number, counted from 0.
+    fn say_mail(&mut self, book: &Book, poll: &str) -> Result<Part, Fault> {
+        let poll = number::<u32>(poll)?;
+        let bytes = Vec::new(book.alloc);
+        self.mails.push(Mail { poll, bytes })?;
+        Ok(Part::Mail)
     }
 
     /// How the socket of this part brings its bytes, if the part is that of one.
@@ -200,6 +239,7 @@ impl Run {
             "socket" => self.say_socket(book, line.rest)?,
             "sockets" => self.say_sockets(book, line.rest)?,
             "dialled" => self.say_dialled(book, line.rest)?,
+            "mail" => self.say_mail(book, line.rest)?,
             "slow" => self.say_how(part, How::Slow)?,
             "lost" => self.say_how(part, How::Lost)?,
             _ => return Ok(None),
@@ -250,6 +290,8 @@ impl Wants {
             "keeps" => want_count(&mut self.keeps, line.rest),
             "gives" => want_count(&mut self.gives, line.rest),
             "given" => want_given(book.alloc, &mut self.given, line.rest),
+            "sends" => want_count(&mut self.sends, line.rest),
+            "sent" => want_sent(book.alloc, &mut self.sent, line.rest),
             "open" => want_numbers(&mut self.open, book, line.rest),
             "shut" => want_numbers(&mut self.shut, book, line.rest),
             _ => Err(Fault::Wanted("a word of the format")),
@@ -278,6 +320,8 @@ impl Case {
             Part::Socket => add_brought(&mut self.run.sockets, bytes.as_slice())?,
             Part::Dialled => add_brought(&mut self.run.dialled, bytes.as_slice())?,
             Part::Given => add_given(&mut self.wants.given, bytes.as_slice())?,
+            Part::Mail => add_mail(&mut self.run.mails, bytes.as_slice())?,
+            Part::Sent => add_sent(&mut self.wants.sent, bytes.as_slice())?,
             Part::Writes => add_wanted(&mut self.wants.writes, bytes.as_slice())?,
             Part::Among => add_wanted(&mut self.wants.among, bytes.as_slice())?,
             Part::Ends => add_wanted(&mut self.wants.ends, bytes.as_slice())?,

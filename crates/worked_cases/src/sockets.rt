@@ -43,7 +43,7 @@ impl CaseStation {
         Ok(())
     }
 
-    /// The next socket that is dialled brings this, behind those that were said so before.
+    /// The next socket that is dialled brings this, after those that were said so before.
     pub fn expect(&mut self, alloc: Global, asked: &Socket) -> Result<(), AllocError>
         ensures { self.new.memory ≡ self.old.memory }
     {

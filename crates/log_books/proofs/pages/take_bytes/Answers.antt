@@ -10,7 +10,7 @@ batches-init c = record {
   few = let few = c.requires.few in omega (arith, few);
   within = omega arith;
   feeding = c.requires.feeding;
-  room = omega arith;
+  room = c.requires.places;
   session = refl;
   game = refl;
   others = λ i ne. (refl, refl);

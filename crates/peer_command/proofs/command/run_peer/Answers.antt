@@ -1,5 +1,6 @@
-use Rattle.peer_command.specs.Words.{peering_said}
-use Rattle.peer_command.proofs.OverSockets.{a_seat_works, no_seat, seat_links}
+use Rattle.seat_files.specs.Words.{peering_said}
+use Rattle.seat_files.proofs.Worked.{seat_links}
+use Rattle.peer_command.proofs.OverSockets.{a_seat_works, no_seat}
 use Rattle.peer_command.proofs.command.run_peer.Goals as goal
 
 pub returns-in-Err : goal.returns-in-Err

@@ -6,7 +6,7 @@ use Rattle.datagram_loop.proofs.looping.PostLoop.make.Goals as goal
 pub invariant_of-self : goal.invariant_of-self
 invariant_of-self g c =
     let b = c.self.inside in
-    let l : LoopState = record { peer = b.peer; roster = b.roster; partners = b.partners.items; kept = b.kept; synced = b.synced; phase = b.phase } in
+    let l : LoopState = record { peer = b.peer; roster = b.roster; partners = b.partners.items; kept = b.kept; synced = b.synced; phase = b.phase; drops = b.drops } in
     fit_grown l b.writer c.make_all.new.peer c.make_all.ensures.adds.more c.make_all.ensures.adds.state c.self.invariant
 
 pub returns : goal.returns

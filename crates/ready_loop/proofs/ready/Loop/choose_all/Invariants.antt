@@ -1,6 +1,6 @@
 use Rattle.std.proofs.Common.{◌-◌, length}
 use Rattle.definitions.specs.Logs.{chosen}
-use Rattle.ready_loop.specs.Choices.{chooser}
+use Rattle.own_moves.specs.Choices.{chooser}
 use Rattle.ready_loop.proofs.Choosing.{Choosing}
 use Rattle.ready_loop.proofs.ready.Loop.choose_all.Given as goal
 

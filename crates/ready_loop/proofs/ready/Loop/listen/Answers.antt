@@ -1,4 +1,4 @@
-use Rattle.loop_rules.specs.declared.phases.Phase.TheVariants.{Logged, Running, PollFault, KeepFault}
+use Rattle.peer_rules.specs.declared.phases.Phase.TheVariants.{Logged, Running, PollFault, KeepFault}
 use Rattle.std.proofs.Common.{◌≡◌}
 use Rattle.ready_loop.proofs.Fits.{fit_from}
 use Rattle.ready_loop.proofs.ready.Loop.listen.Goals as goal

@@ -1,7 +1,7 @@
 use Rattle.std.proofs.Common.{◌≡◌, ◌+◌, ◌-◌, true, false, refl, arith}
 use Rattle.ready_loop.specs.declared.settling.Settled.TheVariants as S
 use Rattle.ready_loop.specs.declared.polling.Round.TheVariants as R
-use Rattle.ready_loop.specs.declared.polling.Ended.TheVariants as E
+use Rattle.loop_ends.specs.declared.ends.Ended.TheVariants as E
 use Rattle.ready_loop.proofs.Runs.{poll_licensed, rounds_fault, rounds_on, runs_first, runs_on, run_stops, run_stopped, run_ends}
 use Rattle.ready_loop.proofs.ready.Loop.play.Goals as goal
 

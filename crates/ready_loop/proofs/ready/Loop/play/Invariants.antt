@@ -1,4 +1,4 @@
-use Rattle.ready_loop.specs.Choices.{chooser}
+use Rattle.own_moves.specs.Choices.{chooser}
 use Rattle.ready_loop.proofs.Runs.{Running}
 use Rattle.ready_loop.proofs.ready.Loop.play.Given as goal
 

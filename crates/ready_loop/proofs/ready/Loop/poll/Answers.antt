@@ -1,5 +1,5 @@
 use Rattle.std.proofs.Common.{◌≡◌, sym, subst}
-use Rattle.loop_rules.specs.declared.phases.Phase.TheVariants.{Running, PollFault, KeepFault}
+use Rattle.peer_rules.specs.declared.phases.Phase.TheVariants.{Running, PollFault, KeepFault}
 use Rattle.socket_list.specs.Opening.{AreNewTo}
 use Rattle.ready_loop.proofs.Fits.{fit_from}
 use Rattle.ready_loop.proofs.Polled.{licensed_here, poll_shut, poll_new, polled_done, polled_failed, polled_fits}

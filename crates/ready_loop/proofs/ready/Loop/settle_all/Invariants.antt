@@ -1,5 +1,5 @@
 use Rattle.ready_loop.specs.Going.{undialled}
-use Rattle.ready_loop.specs.Choices.{chooser}
+use Rattle.own_moves.specs.Choices.{chooser}
 use Rattle.ready_loop.proofs.Passing.{Settling}
 use Rattle.ready_loop.proofs.ready.Loop.settle_all.Given as goal
 

@@ -1,6 +1,5 @@
 use Rattle.std.proofs.Common.{List, ap, sym, subst}
 use Rattle.std.proofs.Math.Logic.{∥∥₁_map}
-use Rattle.std.specs.Prelude.{is_some, option_map}
 use Rattle.socket_station.specs.Items.{Item}
 use Rattle.station_mio.specs.Numbers.{AreUnused}
 use Rattle.station_mio.specs.Telling.{Tells}
@@ -14,8 +13,8 @@ use Rattle.station_mio.proofs.station.MioStationStation.listen.Goals as goal
 pub invariant_of-self : goal.invariant_of-self
 invariant_of-self g c =
     let old = c.args.self.now in
-    let log = option_map (λ log. is_some log.folder) old.log in
+    let log = old.log.file in
     record {
       unused = subst (λ (x : List Item). AreUnused c.listen.new.self.next x) (sym c.listen-2.ensures) (unused-listened old.notes c.did_of-did.result c.args.addr old.sockets.next c.listen.new.self.next old.unused (ap (λ (n : Net). n.next) c.listen.ensures.same));
-      told = ∥∥₁_map old.told (λ t. subst (λ (x : List Item). Tells log old.begun c.listen.new.self.asks x) (sym c.listen-2.ensures) (tells_still log old.begun old.sockets.asks c.listen.new.self.asks old.notes (listen_item c.did_of-did.result c.args.addr) (quiet_listens c.args.addr c.listen.result old.sockets c.listen.new.self c.listen.ensures) (still_listen c.did_of-did.result c.args.addr) t));
+      told = ∥∥₁_map old.told (λ t. subst (λ (x : List Item). Tells log old.log.begun c.listen.new.self.asks x) (sym c.listen-2.ensures) (tells_still log old.log.begun old.sockets.asks c.listen.new.self.asks old.notes (listen_item c.did_of-did.result c.args.addr) (quiet_listens c.args.addr c.listen.result old.sockets c.listen.new.self c.listen.ensures) (still_listen c.did_of-did.result c.args.addr) t));
     }

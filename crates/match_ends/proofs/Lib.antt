@@ -1,0 +1,2 @@
+pub mod Unsents
+pub mod Ended

@@ -1,0 +1,3 @@
+pub mod Mails
+pub mod Posts
+pub mod Telling

@@ -1,0 +1,4 @@
+pub mod Words
+pub mod Seats
+pub mod Unplayed
+pub mod SeatLaw
