@@ -83,7 +83,7 @@ def main():
             busy.bind(("127.0.0.1", 0))
             used = put("used", roster("127.0.0.1 %d" % busy.getsockname()[1]))
             slip("a port of datagrams in use", peer("c", roster=used, command="post"), 9, "something else hears there")
-        slip("another machine's address", peer("d", roster=put("far", roster("203.0.113.1 47310")), command="post"), 9, "no address of this machine")
+        slip("another machine's address", peer("d", roster=put("far", roster("203.0.113.1 17310")), command="post"), 9, "no address of this machine")
         log = read("log")
         slip("an empty older log", peer("e", put("empty", b"")), 7, "empty is empty: the match is begun anew", "convict you")
         slip("a torn older log", peer("f", put("torn", log[:-5])), 7, "torn has a torn end")
